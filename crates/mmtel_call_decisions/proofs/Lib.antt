@@ -1,2 +1,1 @@
-mod Barrings
 mod Counting

@@ -1,8 +1,8 @@
 -- What is decided of a call at a target and after an attempt (TS 24.604 §4.5.2.6, TS 24.611 §4.5.2, TS 24.615 §4.5.5): what is known of the call and how its target stands
 -- is put together here, and mmtel_precedence decides, with no message in it. And what follows of it: to whom an attempt goes, how long it may ring, and which final is
 -- handed on.
-use Rattle.std.specs.Prelude.{ℕ, ◌==◌, Bool, false, Option, Some, None, is_none}
-use Rattle.std.specs.Option.{option_map, option_map_or, option_or}
+use Rattle.std.specs.Prelude.{ℕ, ◌+◌, ◌==◌, Bool, false, Option, Some, None}
+use Rattle.std.specs.Option.{option_map, option_or}
 use Rattle.mmtel_scan.specs.Chain.{◌>>=◌}
 use Rattle.mmtel_answers.specs.Attempts.{diverted_aim, first_aim}
 use Rattle.mmtel_answers.specs.Said.{Said}
@@ -11,9 +11,10 @@ use Rattle.mmtel_lex.specs.Reading.{uri_of}
 use Rattle.mmtel_lex.specs.declared.values.Uri.{Uri}
 use Rattle.mmtel_parties.specs.Routing.{next_hop}
 use Rattle.mmtel_precedence.specs.Calls.{End, Reach, Standing, is_registered_at, sheet_at}
-use Rattle.mmtel_precedence.specs.Services.{AccountState, DueDiversion, bars_outgoing}
+use Rattle.mmtel_precedence.specs.Services.{AccountState, DueDiversion}
 use Rattle.mmtel_precedence.specs.Targets.{party_of}
 use Rattle.mmtel_precedence.specs.Turns.{AfterEnd, Turn, turn_at, turn_on}
+use Rattle.mmtel_precedence.specs.Verdicts.{refusal_before_diversion}
 use Rattle.mmtel_rules.specs.Abroad.{is_abroad}
 use Rattle.mmtel_rules.specs.Circumstances.{Circumstances}
 use Rattle.mmtel_rules.specs.Identities.{has_identity, identity_holds}
@@ -93,7 +94,7 @@ reach_at site now o cause target service peer = record {
   at = now.at;
   served = option_map (account_by now (told_at o cause)) service;
   is_unknown = is_unknown site.home (account_for site o cause target) target;
-  has_no_peer = is_none peer;
+  peer = peer;
 }
 
 -- ---- what is decided
@@ -113,12 +114,10 @@ its_sheet service = option_map sheet_of service
 abbrev pub decided_after : Opening → (at : ℕ) → (diverted : Bool) → Option Service → End → AfterEnd
 decided_after o at diverted service how = turn_on (of_caller o at diverted) (its_sheet service) how
 
--- the outgoing barring of the account that diverts refuses the new target
-abbrev pub bars_target : Site → Opening → (at : ℕ) → DueDiversion → Sheet → Bool
-bars_target site o at due sheet = bars_outgoing (of_target site o at (new_target site.home due.forward.target)) sheet
-
-abbrev pub is_barred : Site → Opening → (at : ℕ) → Option Service → DueDiversion → Bool
-is_barred site o at service due = option_map_or (bars_target site o at due) (its_sheet service) false
+-- what refuses a diversion that is due: so many came with the call or were made, and the configured bound leaves so many
+abbrev pub refusal_of_diversion : Site → Opening → (at count left : ℕ) → Option Service → DueDiversion → Option Cause
+refusal_of_diversion site o at count left service due =
+    refusal_before_diversion (of_target site o at (new_target site.home due.forward.target)) (its_sheet service) count 0 (count + left) due
 
 -- to where a 3xx redirects, where that is a sip or tel URI (RFC 3261 §21.3)
 abbrev pub redirect_of : Said → Option Uri

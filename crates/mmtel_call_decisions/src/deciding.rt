@@ -1,32 +1,34 @@
 //! What is decided of a call at a target and after an attempt.
-ghost use Rattle.std.specs.Prelude.{◌≡◌, false, IfOk};
-ghost use Rattle.std.specs.Option.{option_copied, option_map_or};
-ghost use Rattle.mmtel_precedence.specs.Told.{told_account, told_due, told_reach, told_turn};
+ghost use Rattle.std.specs.Prelude.{◌≡◌, ◌+◌, false, IfOk};
+ghost use Rattle.std.specs.Option.{option_copied};
+ghost use Rattle.mmtel_precedence.specs.Told.{told_account, told_after, told_due, told_end, told_reach, told_turn};
 ghost use Rattle.mmtel_precedence.specs.Calls.{sheet_at};
-ghost use Rattle.mmtel_precedence.specs.Services.{bars_outgoing};
+ghost use Rattle.mmtel_precedence.specs.Verdicts.{refusal_before_diversion};
 ghost use Rattle.mmtel_rules.specs.Circumstances.{known};
-ghost use Rattle.mmtel_lex.specs.Reading.{uri_of};
-ghost use Rattle.mmtel_trust.specs.Asserted.{or_no_uri, uri_in};
 ghost use Rattle.mmtel_trust.specs.Mask.{redirects};
-ghost use Rattle.mmtel_call_decisions.specs.Decisions.{account_by, account_for, aim_at, circumstances, decided_at, is_barred, its_sheet, of_target};
-ghost use Rattle.mmtel_call_decisions.specs.Decisions.{peer_for, reach_at, redirect_of, served_at, service_at, target_of, told_at};
+ghost use Rattle.mmtel_call_decisions.specs.Decisions.{account_by, account_for, aim_at, circumstances, decided_after, decided_at, its_sheet, of_target};
+ghost use Rattle.mmtel_call_decisions.specs.Decisions.{peer_for, reach_at, redirect_of, refusal_of_diversion, served_at, service_at, target_of, told_at};
 ghost use Rattle.mmtel_call_decisions.specs.Site.{standing};
 
+use crate::diversions::Diversions;
 use crate::openings::{Opening, Service};
 use crate::settings::{Present, Setting};
+use crate::showing::its_sheet;
 use crate::uris::uri_copied;
 use mmtel_answers::{Aim, Hearing, diverted_aim, first_aim};
-use mmtel_barring::outgoing;
-use mmtel_lex::{LexFault, Uri, UriFault, read_name_addr, read_uri};
+use mmtel_lex::Uri;
 use mmtel_message::Start;
 use mmtel_parties::next_hop;
-use mmtel_precedence::{Onward, Reached, ServedAccount, Turn, party_of, turn_at};
-use mmtel_rules::laws::barred_where_no_rule_allows;
+use mmtel_precedence::{
+    AfterEnding, AttemptEnd, Onward, Reached, ServedAccount, Turn, party_of,
+    refusal_before_diversion, turn_at, turn_on,
+};
 use mmtel_rules::{Facts, Identities2, abroad};
 use mmtel_scan::NoMemory;
 use mmtel_sheet_values::{SharedSheet, Sheet};
 use mmtel_targets::{RegistrationState, Target, diverted_target, is_registered};
-use mmtel_types::{Account, Moment, Peer};
+use mmtel_trust::uri_in;
+use mmtel_types::{Account, Cause, Moment, Peer};
 use std::alloc::Global;
 
 impl Opening {
@@ -161,7 +163,7 @@ impl Opening {
         Reached {
             served,
             is_unknown: target.is_unknown(setting.home, account),
-            has_no_peer: peer.is_none(),
+            peer,
         }
     }
 
@@ -183,38 +185,48 @@ impl Opening {
         turn_at(&facts, &reached)
     }
 
-    /// Whether the outgoing barring of the account that diverts refuses the new target.
-    fn bars_target(&self, at: Moment, party: &Identities2, is_abroad: bool, sheet: &Sheet) -> bool
-        ensures { result ≡ bars_outgoing (circumstances party.now self.now at false is_abroad) sheet.now }
+    /// What is done with the call after an attempt that ended so, where it was diverted before or not: by the record under which the attempt was offered, which it keeps, and not
+    /// by the one in force at its end (TS 24.604 §4.5.2.6).
+    pub fn decide_after<'a>(
+        &self,
+        at: Moment,
+        diverted: bool,
+        service: Option<&'a Service>,
+        how: &AttemptEnd<'a>,
+    ) -> AfterEnding<'a>
+        ensures exact { told_after result ≡ decided_after self.now at diverted (option_copied service.entry) (told_end how.entry.now) }
     {
-        barred_where_no_rule_allows();
-        outgoing(sheet, &self.facts(party, at, false, is_abroad)).is_some()
+        let facts = self.facts(&self.identities, at, diverted, false);
+        turn_on(&facts, its_sheet(service), how)
     }
 
-    /// The same, where an account is served.
-    fn is_barred(
+    /// What refuses a diversion to this target that is due by the account which is served; None where it is made.
+    fn refusal_to(
         &self,
         setting: &Setting<'_>,
         at: Moment,
+        diversions: &Diversions,
         service: Option<&Service>,
+        due: &Onward<'_>,
         target: Target,
-    ) -> bool
-        ensures { result ≡ option_map_or (bars_outgoing (of_target setting.now self.now at target.uri)) (its_sheet (option_copied service.entry)) false }
+    ) -> Option<Cause>
+        ensures { result ≡ refusal_before_diversion (of_target setting.now self.now at target.uri) (its_sheet (option_copied service.entry))
+            diversions.now.count 0 (diversions.now.count + diversions.now.left) (told_due due.entry.now) }
     {
         let Target { uri, of_number: _ } = target;
         let is_abroad = abroad(&uri, setting.country);
         let party = party_of(uri);
-        match service {
-            None => {
-                drop(party);
-                false
-            }
-            Some(service) => {
-                let barred = self.bars_target(at, &party, is_abroad, service.sheet.sheet());
-                drop(party);
-                barred
-            }
-        }
+        let facts = self.facts(&party, at, false, is_abroad);
+        let refusal = refusal_before_diversion(
+            its_sheet(service),
+            &facts,
+            diversions.count(),
+            0,
+            diversions.bound(),
+            due,
+        );
+        drop(party);
+        refusal
     }
 
     /// The account that is served at a target, with its record as it stands, and the peer that leads there. The cause is that of the diversion to it; the first target has none.
@@ -238,7 +250,7 @@ impl Opening {
         Ok((service, peer))
     }
 
-    /// The target of a diversion that is due, and whether outgoing barring refuses it.
+    /// The target of a diversion that is due, and what refuses the diversion; None where it is made.
     ///
     /// # Errors
     ///
@@ -248,16 +260,18 @@ impl Opening {
         alloc: Global,
         setting: &Setting<'_>,
         at: Moment,
+        diversions: &Diversions,
         service: Option<&Service>,
         due: &Onward<'_>,
-    ) -> Result<(Target, bool), NoMemory>
+    ) -> Result<(Target, Option<Cause>), NoMemory>
         ensures target { IfOk result (λ r. r.0 ≡ target_of setting.now (told_due due.entry.now)) }
-        ensures barred { IfOk result (λ r. r.1 ≡ is_barred setting.now self.now at (option_copied service.entry) (told_due due.entry.now)) }
+        ensures refusal { IfOk result (λ r. r.1
+            ≡ refusal_of_diversion setting.now self.now at diversions.now.count diversions.now.left (option_copied service.entry) (told_due due.entry.now)) }
     {
         let asked = diverted_target(alloc, setting.home, uri_copied(alloc, due.target)?)?;
-        let barred = self.is_barred(setting, at, service, asked);
+        let refusal = self.refusal_to(setting, at, diversions, service, due, asked);
         let target = diverted_target(alloc, setting.home, uri_copied(alloc, due.target)?)?;
-        Ok((target, barred))
+        Ok((target, refusal))
     }
 
     /// To whom an attempt goes: to the first target as it was asked for, or to that of a diversion by this cause.
@@ -292,33 +306,6 @@ pub fn sheet_at(
     match present.sheets.shared(account)? {
         Some(sheet) => Ok(sheet),
         None => SharedSheet::of(alloc, Sheet::empty()),
-    }
-}
-
-/// The URI that the bytes spell, where it is a sip or tel URI.
-fn uri_of(alloc: Global, bytes: &[u8]) -> Result<Option<Uri>, NoMemory>
-    ensures { IfOk result (λ u. u ≡ or_no_uri (uri_of bytes.now)) }
-{
-    match read_uri(alloc, bytes) {
-        Ok(uri) => Ok(Some(uri)),
-        Err(UriFault::Malformed) => Ok(None),
-        Err(UriFault::Scheme) => Ok(None),
-        Err(UriFault::NoMemory) => Err(NoMemory),
-    }
-}
-
-/// The URI of a name-addr value, where it is a sip or tel URI.
-fn uri_in(alloc: Global, value: &[u8]) -> Result<Option<Uri>, NoMemory>
-    ensures { IfOk result (λ u. u ≡ uri_in value.now) }
-{
-    match read_name_addr(alloc, value) {
-        Ok(name) => {
-            let uri = uri_of(alloc, name.uri.bytes());
-            drop(name);
-            uri
-        }
-        Err(LexFault::Malformed) => Ok(None),
-        Err(LexFault::NoMemory) => Err(NoMemory),
     }
 }
 

@@ -1,10 +1,12 @@
 //! How a call was diverted.
-ghost use Rattle.std.specs.Prelude.{◌≡◌, ◌+◌, ◌<◌, ◌≤◌, ◌-◌, length, IfOk, OnErr, OnOk};
-ghost use Rattle.mmtel_history.specs.HistoryInfo.{appended};
+ghost use Rattle.std.specs.Prelude.{◌≡◌, ◌+◌, ◌-◌, ◌<◌, ◌≤◌, length, IfOk, OnErr, OnOk};
+ghost use Rattle.mmtel_precedence.specs.Told.{told_due};
+ghost use Rattle.mmtel_call_decisions.specs.Diverted.{diverted_to};
 ghost use Rattle.mmtel_call_decisions.specs.Opening.{undiverted};
 ghost use Rattle.mmtel_call_decisions.specs.Showing.{told_list};
 
 use mmtel_history::History;
+use mmtel_precedence::Onward;
 use mmtel_scan::{NoMemory, Text};
 use std::alloc::Global;
 use std::marker::Model;
@@ -53,18 +55,18 @@ impl Diversions {
         }
     }
 
-    /// How many diversions the bound leaves.
-    pub fn left(&self) -> u16
-        ensures { result ≡ self.now.left }
-    {
-        self.left
-    }
-
     /// How many diversions the call came with and were made.
     pub fn count(&self) -> u16
         ensures { result ≡ self.now.count }
     {
         self.count
+    }
+
+    /// The bound that the configuration sets, or as many as the call came with where that is more.
+    pub fn bound(&self) -> u16
+        ensures { result ≡ self.now.count + self.now.left }
+    {
+        self.count + self.left
     }
 
     /// The call's History-Info.
@@ -86,7 +88,7 @@ impl Diversions {
             .told_to_caller(alloc, self.hides_diverting, self.hides_target)
     }
 
-    /// Notes one more diversion (RFC 7044 §7): the first target of the call, the new target, the cause, and from whom what is hidden.
+    /// Notes one more diversion (RFC 7044 §7), from this URI of the first target of the call to that of the new one: its cause, and what of it is told to whom.
     ///
     /// # Errors
     ///
@@ -96,27 +98,18 @@ impl Diversions {
         alloc: Global,
         from: &Text,
         target: &Text,
-        cause: u16,
-        hides_last: bool,
-        hides_diverting: bool,
-        hides_target: bool,
+        due: &Onward<'_>,
     ) -> Result<(), NoMemory>
         requires { 0 < self.old.left }
-        ensures noted { OnOk result (self.new
-            ≡ record {
-              left = self.old.left - 1;
-              count = self.old.count + 1;
-              history = appended self.old.history from.now target.now cause hides_last;
-              hides_diverting = hides_diverting;
-              hides_target = hides_target;
-            }) }
+        ensures noted { OnOk result (self.new ≡ diverted_to from.now target.now (self.old.left - 1) (told_due due.entry.now) self.old) }
         ensures refused { OnErr result (self.new ≡ self.old) }
     {
-        self.history.append(alloc, from, target, cause, hides_last)?;
+        self.history
+            .append(alloc, from, target, due.cause, !due.reveal_to_target)?;
         self.left -= 1;
         self.count += 1;
-        self.hides_diverting = hides_diverting;
-        self.hides_target = hides_target;
+        self.hides_diverting = !due.reveal_served_to_caller;
+        self.hides_target = !due.reveal_to_caller;
         Ok(())
     }
 }

@@ -1,15 +1,11 @@
 //! How an attempt ends: its times, and the final that is handed on.
 ghost use Rattle.std.specs.Prelude.{◌≡◌, ◌≤◌, IfSome};
 ghost use Rattle.std.specs.Option.{option_copied};
-ghost use Rattle.mmtel_precedence.specs.Attempts.{end_by_final, end_by_time};
-ghost use Rattle.mmtel_precedence.specs.Told.{told_end};
 ghost use Rattle.mmtel_sheet_values.specs.NoReply.{no_reply_time};
 ghost use Rattle.mmtel_call_decisions.specs.Decisions.{handed_on, is_status, its_sheet, time_of};
 
 use crate::openings::Service;
 use crate::showing::its_sheet;
-use mmtel_lex::Uri;
-use mmtel_precedence::{AttemptEnd, AttemptEvent, end_by};
 use mmtel_sheet_values::Sheet;
 use mmtel_types::Cause;
 
@@ -38,27 +34,6 @@ pub fn time_of(service: Option<&Service>) -> Option<u64>
     match its_sheet(service) {
         None => None,
         Some(sheet) => time_in(sheet),
-    }
-}
-
-/// How a final from 200 ends an attempt, with the target to which it redirects, where it does.
-pub fn end_of<'a>(code: u16, target: Option<&'a Uri>, rang: bool) -> AttemptEnd<'a>
-    requires { 200 ≤ code }
-    ensures exact { told_end result ≡ end_by_final code (option_copied target.entry) rang }
-{
-    match end_by(AttemptEvent::Response { code, target }, rang) {
-        Some(end) => end,
-        None => unreachable!(),
-    }
-}
-
-/// How the longest time ends an attempt.
-pub fn end_of_time(rang: bool) -> AttemptEnd<'static>
-    ensures exact { told_end result ≡ end_by_time rang }
-{
-    match end_by(AttemptEvent::LongestTime, rang) {
-        Some(end) => end,
-        None => unreachable!(),
     }
 }
 

@@ -2,8 +2,7 @@
 ghost use Rattle.std.specs.Prelude.{◌≡◌, ◌++◌, OnOk, map, option_to_list};
 ghost use Rattle.mmtel_call_decisions.specs.Rows.{cause_by, last_row, past_answer, past_row, rows_by, with_answer};
 
-use mmtel_charging::{Kind, Meter, Row};
-use mmtel_decisions::file_some;
+use mmtel_charging::{Kind, Meter, Row, file_some};
 use mmtel_desk::file;
 use mmtel_scan::{List, NoMemory};
 use mmtel_types::{Cause, Moment};

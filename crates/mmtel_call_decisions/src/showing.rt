@@ -11,7 +11,6 @@ use crate::diversions::Diversions;
 use crate::openings::{Opening, Service};
 use crate::settings::Setting;
 use mmtel_answers::{Hearing, status_of};
-use mmtel_decisions::restricted_in;
 use mmtel_history::History;
 use mmtel_identity::{callee_restricted, present_to};
 use mmtel_message::{Line, Msg};
@@ -56,18 +55,16 @@ impl Opening {
     {
         let from_trusted = message.trusted;
         let mask_all = self.masks_all();
-        let callee = callee_restricted(&wants(&message.message), its_sheet(service));
-        let restricted = restricted_in(side, self.restricted, callee);
         match side {
             Side::Caller => Facing {
                 from_trusted,
-                restricted,
+                restricted: self.restricted,
                 present: present_to(its_sheet(service), Side::Callee),
                 mask_all,
             },
             Side::Callee => Facing {
                 from_trusted,
-                restricted,
+                restricted: callee_restricted(&wants(&message.message), its_sheet(service)),
                 present: present_to(self.origin_sheet(), Side::Caller),
                 mask_all,
             },

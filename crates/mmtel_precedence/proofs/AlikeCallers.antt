@@ -1,6 +1,6 @@
 -- Callers that answer alike: the outcome sees the answers alone.
 use Rattle.std.proofs.Common.{◌≡◌, ℕ, zero, suc, ◌+◌, ◌-◌, Bool, List, [], ◌∷◌, ◌++◌, refl, ap, ◌∙◌}
-use Rattle.std.specs.Prelude.{Option, Some, None, not, option_and_then, slice_get, if◌then◌else◌}
+use Rattle.std.specs.Prelude.{Option, Some, None, not, option_and_then, slice_get, if◌then◌else◌, is_none}
 use Rattle.std.specs.Option.{option_map, option_map_or}
 use Rattle.mmtel_types.specs.declared.causes.Cause.{Cause}
 use Rattle.mmtel_types.specs.declared.causes.Cause.TheVariants as causes
@@ -83,7 +83,7 @@ account_says-alike first bars asks asks2 c (Some account) h = services-alike fir
 
 said-alike : FirstIsSame → BarsSame → (asks asks2 : Who → Bool) (call : Call) (k : ℕ) (reach : Reach) → AlikeAt asks asks2 reach.served → said_on_arrival (asking call asks) k reach ≡ said_on_arrival (asking call asks2) k reach
 said-alike first bars asks asks2 call k reach h =
-    ap (λ says. first_said (says ++ refuses_if reach.is_unknown causes.NoAccount ∷ refuses_if reach.has_no_peer causes.NoRoute ∷ [])) (account_says-alike first bars asks asks2 (of_caller call k reach.at) reach.served h)
+    ap (λ says. first_said (says ++ refuses_if reach.is_unknown causes.NoAccount ∷ refuses_if (is_none reach.peer) causes.NoRoute ∷ [])) (account_says-alike first bars asks asks2 (of_caller call k reach.at) reach.served h)
 
 due_at-alike : FirstIsSame → (asks asks2 : Who → Bool) (c : Circumstances) (when : When) (served : Option AccountState) → AlikeAt asks asks2 served → due_at (asked c asks) when served ≡ due_at (asked c asks2) when served
 due_at-alike first asks asks2 c when None h = refl

@@ -1,6 +1,6 @@
 -- The bound on the diversions of a call.
 use Rattle.std.proofs.Common.{◌≡◌, ◌↔◌, ℕ, zero, suc, ◌+◌, ◌-◌, ◌≤◌, ◌<◌, ◌==◌, Bool, true, false, List, [], ◌∷◌, ◌++◌, refl, ap, sym, subst, ◌∙◌, arith}
-use Rattle.std.specs.Prelude.{Option, Some, None, max, is_some, option_and_then, if◌then◌else◌, cond}
+use Rattle.std.specs.Prelude.{Option, Some, None, max, is_some, option_and_then, if◌then◌else◌, cond, is_none}
 use Rattle.std.specs.List.{AllByRecursion, count_by}
 use Rattle.std.specs.Option.{option_map_or}
 use Rattle.std.proofs.lemmas.Bool.Decides.{nat_tests}
@@ -118,7 +118,7 @@ plain-account c None later h = h
 plain-account c (Some account) later h = plain-services c account later h
 
 plain-arrival : (call : Call) (k : ℕ) (reach : Reach) → IsPlain (said_on_arrival call k reach)
-plain-arrival call k reach = plain-first_said _ (plain-account (of_caller call k reach.at) reach.served _ (plain-refuses_if reach.is_unknown causes.NoAccount (λ busy e. cc), (plain-refuses_if reach.has_no_peer causes.NoRoute (λ busy e. cc), tt)))
+plain-arrival call k reach = plain-first_said _ (plain-account (of_caller call k reach.at) reach.served _ (plain-refuses_if reach.is_unknown causes.NoAccount (λ busy e. cc), (plain-refuses_if (is_none reach.peer) causes.NoRoute (λ busy e. cc), tt)))
 
 abbrev IsPlainNext : Next → Type 0
 IsPlainNext (Rests result) = (busy : Bool) → result ≡ Final (causes.TooManyDiversions busy) → ⊥

@@ -1,6 +1,6 @@
 -- Later endings: moves commute with them.
 use Rattle.std.proofs.Common.{◌≡◌, ℕ, zero, suc, ◌+◌, ◌≤◌, Bool, true, false, List, [], ◌∷◌, ◌++◌, refl, ap, sym, subst, ◌∙◌, append_assoc, arith}
-use Rattle.std.specs.Prelude.{Option, Some, None}
+use Rattle.std.specs.Prelude.{Option, Some, None, is_none}
 use Rattle.std.proofs.lemmas.List.{append-nil}
 use Rattle.mmtel_types.specs.declared.causes.Cause.{Cause}
 use Rattle.mmtel_lex.specs.declared.values.Uri.{Uri}
@@ -33,7 +33,7 @@ later-offer false false account waiting kept uri by later = refl
 
 later-reached : (call : Call) (reach : Reach) (account : AccountState) (decision : Decision) (kept : Kept) (uri : Uri) (by : Option DueDiversion) (later : List Ended) →
     reached call reach account decision (with_later kept later) uri by ≡ with_later (reached call reach account decision kept uri by) later
-later-reached call reach account (Offers waiting) kept uri by later = later-offer reach.is_unknown reach.has_no_peer account waiting kept uri by later
+later-reached call reach account (Offers waiting) kept uri by later = later-offer reach.is_unknown (is_none reach.peer) account waiting kept uri by later
 later-reached call reach account (Forwards forward why) kept uri by later = later-divert_where call (with_target kept uri by NotOffered) account reach.at (due_by (own_bound account.sheet) forward None why) later
 later-reached call reach account (Ends why) kept uri by later = refl
 
@@ -138,7 +138,7 @@ more-offer false true account waiting kept uri by = (_, refl)
 more-offer false false account waiting kept uri by = (_, refl)
 
 more-reached : (call : Call) (reach : Reach) (account : AccountState) (decision : Decision) (kept : Kept) (uri : Uri) (by : Option DueDiversion) → OneMore kept.targets (reached call reach account decision kept uri by)
-more-reached call reach account (Offers waiting) kept uri by = more-offer reach.is_unknown reach.has_no_peer account waiting kept uri by
+more-reached call reach account (Offers waiting) kept uri by = more-offer reach.is_unknown (is_none reach.peer) account waiting kept uri by
 more-reached call reach account (Forwards forward why) kept uri by = (_, targets-divert_where call (with_target kept uri by NotOffered) account reach.at (due_by (own_bound account.sheet) forward None why))
 more-reached call reach account (Ends why) kept uri by = (_, refl)
 

@@ -1,6 +1,6 @@
 -- Barring comes before diversion, and anonymous communication rejection before both.
 use Rattle.std.proofs.Common.{◌≡◌, ℕ, zero, suc, true, false, List, [], ◌∷◌, ◌++◌, ap, ◌∙◌}
-use Rattle.std.specs.Prelude.{Option, Some}
+use Rattle.std.specs.Prelude.{Option, Some, is_none}
 use Rattle.mmtel_types.specs.declared.causes.Cause.{Cause}
 use Rattle.mmtel_types.specs.declared.causes.Cause.TheVariants as causes
 use Rattle.mmtel_lex.specs.declared.values.Uri.{Uri}
@@ -31,8 +31,8 @@ first_said-refused (Diverts due ∷ says) later why e = absurd cc
 
 said-refused : (call : Call) (k : ℕ) (reach : Reach) (account : AccountState) (why : Cause) → reach.served ≡ Some account → first_said (services_on_arrival (of_caller call k reach.at) account) ≡ Refuses why → said_on_arrival call k reach ≡ Refuses why
 said-refused call k reach account why e h =
-    ap (λ served. first_said (account_says (of_caller call k reach.at) served ++ refuses_if reach.is_unknown causes.NoAccount ∷ refuses_if reach.has_no_peer causes.NoRoute ∷ [])) e
-    ∙ first_said-refused (services_on_arrival (of_caller call k reach.at) account) (refuses_if reach.is_unknown causes.NoAccount ∷ refuses_if reach.has_no_peer causes.NoRoute ∷ []) why h
+    ap (λ served. first_said (account_says (of_caller call k reach.at) served ++ refuses_if reach.is_unknown causes.NoAccount ∷ refuses_if (is_none reach.peer) causes.NoRoute ∷ [])) e
+    ∙ first_said-refused (services_on_arrival (of_caller call k reach.at) account) (refuses_if reach.is_unknown causes.NoAccount ∷ refuses_if (is_none reach.peer) causes.NoRoute ∷ []) why h
 
 -- a target that refuses is the last
 outcome_from-refused : (call : Call) (left k : ℕ) (uri : Uri) (by : Option DueDiversion) (endings : List Ended) (why : Cause) →

@@ -1,6 +1,6 @@
 -- Moves come to the outcome: by the diversions that are left below the bound.
 use Rattle.std.proofs.Common.{◌≡◌, ℕ, zero, suc, ◌+◌, ◌-◌, ◌*◌, ◌≤◌, ◌<◌, ◌==◌, Bool, true, false, List, [], ◌∷◌, ◌++◌, refl, ap, sym, ◌∙◌, append_assoc, arith}
-use Rattle.std.specs.Prelude.{Option, Some, None, unwrap_or, min, not, nat_le, nat_lt, if◌then◌else◌}
+use Rattle.std.specs.Prelude.{Option, Some, None, unwrap_or, min, not, nat_le, nat_lt, if◌then◌else◌, is_none}
 use Rattle.std.specs.List.{AllByRecursion}
 use Rattle.std.specs.Option.{option_map, option_map_or}
 use Rattle.std.proofs.lemmas.Bool.Decides.{nat_tests}
@@ -189,12 +189,12 @@ bounded due bound = record { forward = due.forward; cause = due.cause; bound = b
 -- a target, by what the services said
 settles-said : (call : Call) (k least : ℕ) (onward : Onward) → GoesOn call k least onward →
     (n : ℕ) (says : Says) (reach : Reach) (uri : Uri) (by : Option DueDiversion) (targets : List Target) (phase : Phase) (endings : List Ended) → IsOwn (bound_at reach.served) says → least ≤ n →
-    (let said = then_said says (said_of_any reach.is_unknown reach.has_no_peer) in
+    (let said = then_said says (said_of_any reach.is_unknown (is_none reach.peer)) in
     Settles (suc n) call (reached call reach (unwrap_or reach.served nobody) (decision_by says (unwrap_or reach.served nobody).live) (kept_at k targets phase endings) uri by) targets
     (from_next (target_by said reach.served uri by) (onward (target_by said reach.served uri by)) (next_at said call k reach endings)))
 settles-said call k least onward goes n Nothing reach uri by targets phase endings own enough =
-    ap (λ waiting. outcome_so_far (moves (suc n) call (offer_unless reach.is_unknown reach.has_no_peer (unwrap_or reach.served nobody) waiting (kept_at k targets phase endings) uri by))) (sym (is_waiting-account reach.served))
-    ∙ settles-unrefused call k least onward goes n reach.is_unknown reach.has_no_peer reach uri by targets phase endings enough
+    ap (λ waiting. outcome_so_far (moves (suc n) call (offer_unless reach.is_unknown (is_none reach.peer) (unwrap_or reach.served nobody) waiting (kept_at k targets phase endings) uri by))) (sym (is_waiting-account reach.served))
+    ∙ settles-unrefused call k least onward goes n reach.is_unknown (is_none reach.peer) reach uri by targets phase endings enough
 settles-said call k least onward goes n (Refuses why) reach uri by targets phase endings own enough =
     settles-over (suc n) call k targets (record { uri = uri; by = by; offer = NotOffered }) (Final why) endings
 settles-said call k least onward goes n (Diverts due) reach uri by targets phase endings own enough =
@@ -211,7 +211,7 @@ settles-reaching call k least onward goes n uri by targets endings enough =
     ∙ settles-said call k least onward goes n (first_said (services_on_arrival (of_caller call k (reach_of call k uri by).at) (unwrap_or (reach_of call k uri by).served nobody))) (reach_of call k uri by) uri by targets (Reaching uri by) endings
     (own-services (of_caller call k (reach_of call k uri by).at) (unwrap_or (reach_of call k uri by).served nobody)) enough
     ∙ ap (λ said. behind targets (from_next (target_by said (reach_of call k uri by).served uri by) (onward (target_by said (reach_of call k uri by).served uri by)) (next_at said call k (reach_of call k uri by) endings)))
-    (sym (first_said-account (of_caller call k (reach_of call k uri by).at) (reach_of call k uri by).served (refuses_if (reach_of call k uri by).is_unknown causes.NoAccount ∷ refuses_if (reach_of call k uri by).has_no_peer causes.NoRoute ∷ [])))
+    (sym (first_said-account (of_caller call k (reach_of call k uri by).at) (reach_of call k uri by).served (refuses_if (reach_of call k uri by).is_unknown causes.NoAccount ∷ refuses_if (is_none (reach_of call k uri by).peer) causes.NoRoute ∷ [])))
 
 -- the moves from the target after k diversions come to the outcome from there
 abbrev pub SettlesFrom : Call → ℕ → Type 0

@@ -1,9 +1,10 @@
 -- Turns are moves.
 use Rattle.std.proofs.Common.{◌≡◌, ℕ, zero, suc, Bool, true, false, List, [], ◌∷◌, refl, ap, sym, ◌∙◌}
-use Rattle.std.specs.Prelude.{Option, Some, None, option_and_then, unwrap_or}
+use Rattle.std.specs.Prelude.{Option, Some, None, is_none, option_and_then, unwrap_or}
 use Rattle.std.specs.Option.{option_map}
 use Rattle.mmtel_types.specs.declared.causes.Cause.{Cause}
 use Rattle.mmtel_types.specs.declared.causes.Cause.TheVariants as causes
+use Rattle.mmtel_types.specs.declared.numbers.Peer.{Peer}
 use Rattle.mmtel_lex.specs.declared.values.Uri.{Uri}
 use Rattle.mmtel_rules.specs.Circumstances.{Circumstances}
 use Rattle.mmtel_rules.specs.declared.values.When.{When}
@@ -20,15 +21,15 @@ use Rattle.mmtel_precedence.proofs.Settling.{moves_give_outcome}
 
 -- ---- at a target
 
-offered : (call : Call) (account : AccountState) (now : ℕ) (kept : Kept) (uri : Uri) (by : Option DueDiversion) (unknown no_peer waiting : Bool) →
-    offer_unless unknown no_peer account waiting kept uri by ≡ kept_at_turn call account now kept uri by (offer_turn unknown no_peer waiting)
-offered call account now kept uri by true no_peer waiting = refl
-offered call account now kept uri by false true waiting = refl
-offered call account now kept uri by false false waiting = refl
+offered : (call : Call) (account : AccountState) (now : ℕ) (kept : Kept) (uri : Uri) (by : Option DueDiversion) (unknown : Bool) (peer : Option Peer) (waiting : Bool) →
+    offer_unless unknown (is_none peer) account waiting kept uri by ≡ kept_at_turn call account now kept uri by (offer_turn unknown peer waiting)
+offered call account now kept uri by true peer waiting = refl
+offered call account now kept uri by false None waiting = refl
+offered call account now kept uri by false (Some peer) waiting = refl
 
 said : (call : Call) (reach : Reach) (account : AccountState) (kept : Kept) (uri : Uri) (by : Option DueDiversion) (says : Says) (live : ℕ) →
-    reached call reach account (decision_by says live) kept uri by ≡ kept_at_turn call account reach.at kept uri by (turn_by (decision_by says live) (own_bound account.sheet) reach.is_unknown reach.has_no_peer)
-said call reach account kept uri by Nothing live = offered call account reach.at kept uri by reach.is_unknown reach.has_no_peer _
+    reached call reach account (decision_by says live) kept uri by ≡ kept_at_turn call account reach.at kept uri by (turn_by (decision_by says live) (own_bound account.sheet) reach.is_unknown reach.peer)
+said call reach account kept uri by Nothing live = offered call account reach.at kept uri by reach.is_unknown reach.peer _
 said call reach account kept uri by (Refuses cause) live = refl
 said call reach account kept uri by (Diverts due) live = refl
 
@@ -37,9 +38,9 @@ turns_are_moves call reach kept uri by = said call reach (account_at reach) kept
 
 -- of an account that is served
 pub turn_of_account : (c : Circumstances) (reach : Reach) (account : AccountState) → reach.served ≡ Some account →
-    turn_by (decision_by (first_said (services_on_arrival c account)) account.live) (own_bound account.sheet) reach.is_unknown reach.has_no_peer ≡ turn_at c reach
+    turn_by (decision_by (first_said (services_on_arrival c account)) account.live) (own_bound account.sheet) reach.is_unknown reach.peer ≡ turn_at c reach
 turn_of_account c reach account served =
-    ap (λ (one : Option AccountState). let of = unwrap_or one nobody in turn_by (decision_by (first_said (services_on_arrival c of)) of.live) (own_bound of.sheet) reach.is_unknown reach.has_no_peer) (sym served)
+    ap (λ (one : Option AccountState). let of = unwrap_or one nobody in turn_by (decision_by (first_said (services_on_arrival c of)) of.live) (own_bound of.sheet) reach.is_unknown reach.peer) (sym served)
 
 -- ---- after an attempt
 
@@ -79,7 +80,7 @@ endings_are_moves call reach now (Other code) kept = refl
 
 -- the rules of an account that is served: a target of it, so that the law on ends speaks of it
 abbrev served_by : AccountState → Reach
-served_by account = record { at = 0; served = Some account; is_unknown = false; has_no_peer = false }
+served_by account = record { at = 0; served = Some account; is_unknown = false; peer = None }
 
 endings_turn : (call : Call) (account : AccountState) (endings : List Ended) (kept : Kept) → turn_on_endings call account endings kept ≡ on_endings call account endings kept
 endings_turn call account [] kept = refl

@@ -1,24 +1,25 @@
 -- How an attempt that was offered ended, by what came of it (RFC 3261 §9, §15, §17.1.1 and §21, TS 24.604 §4.5.2.6).
-use Rattle.std.specs.Prelude.{ℕ, ◌==◌, ◌&&◌, ◌||◌, not, nat_le, nat_lt, Bool, true, false, if◌then◌else◌, Option, Some, None}
-use Rattle.std.specs.Option.{option_copied}
+use Rattle.std.specs.Prelude.{ℕ, ◌==◌, ◌&&◌, ◌||◌, not, nat_le, Bool, true, false, if◌then◌else◌, Option, Some, None}
 use Rattle.mmtel_lex.specs.declared.values.Uri.{Uri}
+pub use Rattle.mmtel_sip_rules.specs.Statuses.{is_provisional, is_redirection, is_success}
 use Rattle.mmtel_precedence.specs.Calls.{End, Answer, Cancel, UserBusy, NotReachable, NoReply, Deflection, Other}
-use Rattle.mmtel_precedence.specs.declared.attempts.AttemptEvent.{AttemptEvent}
-use Rattle.mmtel_precedence.specs.declared.attempts.AttemptEvent.TheVariants as events
+
+-- what came of an attempt that was offered
+pub data AttemptEvent : Type 0 where
+  -- a response with this status, whose first Contact is this target, where it can be read
+  Response : (code : ℕ) → (target : Option Uri) → AttemptEvent
+  -- no response at all, until the INVITE was given up (RFC 3261 §17.1.1.2, Timer B)
+  Silence : AttemptEvent
+  -- the no-reply time of the record passed, which begins with the first response that rings
+  NoReplyTime : AttemptEvent
+  -- the longest time that an attempt may take passed, which begins with the offer
+  LongestTime : AttemptEvent
+  -- the caller gave up, by CANCEL or BYE (RFC 3261 §9 and §15)
+  CallerGaveUp : AttemptEvent
 
 -- the target rings (RFC 3261 §21.1.2 to §21.1.5)
 abbrev pub rings : ℕ → Bool
 rings code = nat_le 180 code && nat_le code 183
-
--- a provisional response, which ends nothing; a 2xx; a 3xx
-abbrev pub is_provisional : ℕ → Bool
-is_provisional code = nat_lt code 200
-
-abbrev pub is_success : ℕ → Bool
-is_success code = nat_le 200 code && nat_lt code 300
-
-abbrev pub is_redirection : ℕ → Bool
-is_redirection code = nat_le 300 code && nat_lt code 400
 
 -- user determined user busy (TS 24.615 §4.5.5)
 abbrev pub is_user_busy : ℕ → Bool
@@ -52,8 +53,8 @@ end_by_time false = NotReachable 408
 
 -- the end, if what came is one
 abbrev pub end_by : AttemptEvent → (rang : Bool) → Option End
-end_by (events.Response code target) rang = end_by_response code (option_copied target) rang
-end_by events.Silence rang = Some (NotReachable 408)
-end_by events.NoReplyTime rang = Some NoReply
-end_by events.LongestTime rang = Some (end_by_time rang)
-end_by events.CallerGaveUp rang = Some Cancel
+end_by (Response code target) rang = end_by_response code target rang
+end_by Silence rang = Some (NotReachable 408)
+end_by NoReplyTime rang = Some NoReply
+end_by LongestTime rang = Some (end_by_time rang)
+end_by CallerGaveUp rang = Some Cancel

@@ -3,6 +3,7 @@ use Rattle.std.specs.Prelude.{ℕ, zero, suc, Bool, List, [], ◌∷◌, Option,
 use Rattle.std.specs.Option.{option_map}
 use Rattle.mmtel_types.specs.declared.causes.Cause.{Cause}
 use Rattle.mmtel_types.specs.declared.numbers.Account.{Account}
+use Rattle.mmtel_types.specs.declared.numbers.Peer.{Peer}
 use Rattle.mmtel_types.specs.declared.privacy.PrivacySet.{PrivacySet}
 use Rattle.mmtel_lex.specs.declared.values.Uri.{Uri}
 use Rattle.mmtel_sheet_values.specs.Sheets.{empty_sheet}
@@ -61,11 +62,11 @@ pub record Call : Type 0 where
   -- the diversions that its History-Info told when it came in, and the bound
   pub received : ℕ
   pub bound : ℕ
-  -- the home domain, the digits of the home country where they are known, the accounts by their identities, and whether a peer leads to a target
+  -- the home domain, the digits of the home country where they are known, the accounts by their identities, and the peer that leads to a target, if one does
   pub home : List ℕ
   pub country : Option (List ℕ)
   pub account_of : Uri → Option Account
-  pub leads : Uri → Bool
+  pub peer_of : Uri → Option Peer
   -- its first target
   pub first : Uri
   -- how things stood when it opened, which is when it reached its first target; and when it reached the target of its next diversion after so many others
@@ -107,8 +108,8 @@ pub record Reach : Type 0 where
   pub served : Option AccountState
   -- it is of the home domain and no account's, and no telephone number that a diversion brought there
   pub is_unknown : Bool
-  -- no peer leads to it
-  pub has_no_peer : Bool
+  -- the peer that leads to it, if one does
+  pub peer : Option Peer
 
 -- ---- what is said of it
 

@@ -1,5 +1,5 @@
 -- A call as the server decides it, one move at a time, from what it keeps: never from the list of endings that were and will be.
-use Rattle.std.specs.Prelude.{◌≡◌, ℕ, zero, suc, ◌+◌, ◌*◌, ◌-◌, ◌≤◌, Bool, true, if◌then◌else◌, List, [], ◌∷◌, ◌++◌, Option, Some, None, unwrap_or}
+use Rattle.std.specs.Prelude.{◌≡◌, ℕ, zero, suc, ◌+◌, ◌*◌, ◌-◌, ◌≤◌, Bool, true, if◌then◌else◌, List, [], ◌∷◌, ◌++◌, Option, Some, None, is_none, unwrap_or}
 use Rattle.std.specs.Option.{option_map}
 use Rattle.mmtel_types.specs.declared.causes.Cause.{Cause}
 use Rattle.mmtel_types.specs.declared.causes.Cause.TheVariants as causes
@@ -7,8 +7,8 @@ use Rattle.mmtel_lex.specs.declared.values.Uri.{Uri}
 use Rattle.mmtel_sheet_values.specs.declared.values.Forward.{Forward}
 use Rattle.mmtel_sheet_values.specs.Sheets.{empty_sheet}
 use Rattle.mmtel_precedence.specs.declared.endings.Ending.TheVariants as ending
-use Rattle.mmtel_precedence.specs.Services.{AccountState, DueDiversion, bound_of, own_bound}
-use Rattle.mmtel_precedence.specs.Verdicts.{Decision, Offers, Forwards, Ends, verdict_of, go_on_of}
+use Rattle.mmtel_precedence.specs.Services.{AccountState, DueDiversion, own_bound}
+use Rattle.mmtel_precedence.specs.Verdicts.{Decision, Offers, Forwards, Ends, refusal_before_diversion, verdict_of}
 use Rattle.mmtel_precedence.specs.Calls.{End, Answer, Cancel, UserBusy, NotReachable, NoReply, Deflection, Other, Ended, Reach, Call, Offer, NotOffered, Offered, Target}
 use Rattle.mmtel_precedence.specs.Calls.{Result, Pending, Answered, Final, Outcome}
 use Rattle.mmtel_precedence.specs.Opening.{refusal_at_opening}
@@ -53,8 +53,8 @@ gone_on (Some refusal) kept target due = at_phase kept (Over (Final refusal))
 -- a diversion that is due, by this account, at this moment
 abbrev pub divert : Call → Kept → AccountState → (now : ℕ) → DueDiversion → Kept
 divert call kept account now due =
-    gone_on (go_on_of (of_target call now (new_target call.home due.forward.target)) account.sheet call.received kept.done (bound_of call.bound due.bound) due.cause) kept
-    (new_target call.home due.forward.target) due
+    gone_on (refusal_before_diversion (of_target call now (new_target call.home due.forward.target)) (Some account.sheet) call.received kept.done call.bound due)
+    kept (new_target call.home due.forward.target) due
 
 -- the diversion of a decision: by the rule's forward, or else to where the device deflects
 abbrev pub due_by : (bound : Option ℕ) → Option Forward → Option Uri → (cause : ℕ) → Option DueDiversion
@@ -74,8 +74,9 @@ offer_unless unknown no_peer account waiting kept uri by =
 
 -- the verdict at a target that the call reached
 abbrev pub reached : Call → Reach → AccountState → Decision → Kept → Uri → Option DueDiversion → Kept
-reached call reach account (Offers waiting) kept uri by = offer_unless reach.is_unknown reach.has_no_peer account waiting kept uri by
-reached call reach account (Forwards forward why) kept uri by = divert_where call (with_target kept uri by NotOffered) account reach.at (due_by (own_bound account.sheet) forward None why)
+reached call reach account (Offers waiting) kept uri by = offer_unless reach.is_unknown (is_none reach.peer) account waiting kept uri by
+reached call reach account (Forwards forward why) kept uri by =
+    divert_where call (with_target kept uri by NotOffered) account reach.at (due_by (own_bound account.sheet) forward None why)
 reached call reach account (Ends why) kept uri by = at_phase (with_target kept uri by NotOffered) (Over (Final why))
 
 -- the verdict on an attempt that ended
@@ -88,11 +89,15 @@ ended_by call account now deflected (Ends why) kept = at_phase kept (Over (Final
 abbrev pub on_end : Call → AccountState → (now : ℕ) → End → Kept → Kept
 on_end call account now Answer kept = at_phase kept (Over Answered)
 on_end call account now Cancel kept = at_phase kept (Over (Final causes.Cancelled))
-on_end call account now (UserBusy code) kept = ended_by call account now None (verdict_of (of_caller call kept.done now) account (ending.UserBusy code)) kept
-on_end call account now (NotReachable code) kept = ended_by call account now None (verdict_of (of_caller call kept.done now) account (ending.NotReachable code)) kept
+on_end call account now (UserBusy code) kept =
+    ended_by call account now None (verdict_of (of_caller call kept.done now) account (ending.UserBusy code)) kept
+on_end call account now (NotReachable code) kept =
+    ended_by call account now None (verdict_of (of_caller call kept.done now) account (ending.NotReachable code)) kept
 on_end call account now NoReply kept = ended_by call account now None (verdict_of (of_caller call kept.done now) account ending.NoReply) kept
-on_end call account now (Deflection target rang) kept = ended_by call account now (Some target) (verdict_of (of_caller call kept.done now) account (ending.Deflected rang)) kept
-on_end call account now (Other code) kept = ended_by call account now None (verdict_of (of_caller call kept.done now) account (ending.Other code)) kept
+on_end call account now (Deflection target rang) kept =
+    ended_by call account now (Some target) (verdict_of (of_caller call kept.done now) account (ending.Deflected rang)) kept
+on_end call account now (Other code) kept =
+    ended_by call account now None (verdict_of (of_caller call kept.done now) account (ending.Other code)) kept
 
 -- while it rings the call waits for the next ending
 abbrev pub on_endings : Call → AccountState → List Ended → Kept → Kept

@@ -2,11 +2,11 @@
 -- 24.604 §4.5.2.6, TS 24.611 §4.5.2, TS 24.615 §4.5.5).
 --
 -- It is told from how its attempts ended, one after the other. The server never has that list: it decides one move at a time.
-use Rattle.std.specs.Prelude.{ℕ, zero, suc, ◌+◌, ◌-◌, ◌==◌, if◌then◌else◌, List, Option, Some, None}
+use Rattle.std.specs.Prelude.{ℕ, zero, suc, ◌+◌, ◌-◌, if◌then◌else◌, List, Option, Some, None}
 use Rattle.std.specs.Option.{option_map_or}
-use Rattle.mmtel_types.specs.declared.causes.Cause.TheVariants as causes
 use Rattle.mmtel_lex.specs.declared.values.Uri.{Uri}
 use Rattle.mmtel_precedence.specs.Services.{DueDiversion, is_reached}
+use Rattle.mmtel_precedence.specs.Verdicts.{too_many}
 use Rattle.mmtel_precedence.specs.Calls.{Call, Ended, Final, Outcome, refused_at_once, last_reached, then_reached}
 use Rattle.mmtel_precedence.specs.Opening.{refusal_at_opening}
 use Rattle.mmtel_targets.specs.Targets.{new_target}
@@ -19,13 +19,13 @@ unfoldable pub outcome_from : Call → (left : ℕ) → (k : ℕ) → Uri → Op
 outcome_from call zero k uri by endings =
     elim (next_after call k uri by endings) [
       | Rests result ↦ last_reached (target_at call k uri by) result
-      | IsDue due later ↦ last_reached (target_at call k uri by) (Final (causes.TooManyDiversions (due.cause == 486)))
+      | IsDue due later ↦ last_reached (target_at call k uri by) (Final (too_many due.cause))
     ]
 outcome_from call (suc left) k uri by endings =
     elim (next_after call k uri by endings) [
       | Rests result ↦ last_reached (target_at call k uri by) result
       | IsDue due later ↦
-          if is_reached due.bound (call.received + k) then last_reached (target_at call k uri by) (Final (causes.TooManyDiversions (due.cause == 486)))
+          if is_reached due.bound (call.received + k) then last_reached (target_at call k uri by) (Final (too_many due.cause))
           else then_reached (target_at call k uri by) (outcome_from call left (k + 1) (new_target call.home due.forward.target) (Some due) later)
     ]
 

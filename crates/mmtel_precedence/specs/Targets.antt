@@ -1,6 +1,6 @@
 -- What comes of a call at one target: what the services of the account that is served there say when it is reached, and of the ending of its attempt (TS 24.604 §4.5.2.6,
 -- TS 24.611 §4.5.2, TS 24.615 §4.5.5).
-use Rattle.std.specs.Prelude.{ℕ, ◌+◌, Bool, true, false, not, nat_lt, if◌then◌else◌, List, [], ◌∷◌, ◌++◌, Option, Some, None, option_and_then}
+use Rattle.std.specs.Prelude.{ℕ, ◌+◌, Bool, true, false, nat_lt, if◌then◌else◌, List, [], ◌∷◌, ◌++◌, Option, Some, None, is_none, option_and_then}
 use Rattle.std.specs.Option.{option_map, option_map_or, option_or}
 use Rattle.mmtel_types.specs.declared.causes.Cause.{Cause}
 use Rattle.mmtel_types.specs.declared.causes.Cause.TheVariants as causes
@@ -17,7 +17,8 @@ use Rattle.mmtel_rules.specs.declared.values.When.{When}
 use Rattle.mmtel_rules.specs.declared.values.When.TheVariants as event
 use Rattle.mmtel_rules.specs.declared.values.Identities2.{Identities2}
 use Rattle.mmtel_diversion.specs.Diversion.{deflection_of}
-use Rattle.mmtel_precedence.specs.Services.{AccountState, DueDiversion, Says, Nothing, Refuses, Diverts, refuses_if, first_said, due_on, own_bound, bars_outgoing, services_on_arrival}
+use Rattle.mmtel_precedence.specs.Services.{AccountState, DueDiversion, Says, Nothing, Refuses, Diverts, refuses_if, first_said, due_on, own_bound, bars_outgoing}
+use Rattle.mmtel_precedence.specs.Services.{services_on_arrival}
 use Rattle.mmtel_precedence.specs.Calls.{End, Answer, Cancel, UserBusy, NotReachable, NoReply, Deflection, Other, Ended, Standing, Reach, Call}
 use Rattle.mmtel_precedence.specs.Calls.{standing_after, caller_hides, account_in, Offer, NotOffered, Offered, Target, Result, Pending, Answered, Final}
 
@@ -53,7 +54,7 @@ reach_in standing call uri by = record {
   at = standing.at;
   served = option_map (account_in standing (told_at call by)) (served_at call by uri);
   is_unknown = is_nobodys call by uri;
-  has_no_peer = not (call.leads uri);
+  peer = call.peer_of uri;
 }
 
 -- the target that is reached after k diversions, the last of which led to it, by how things stood then
@@ -81,7 +82,7 @@ of_caller call k now = record {
 abbrev pub said_on_arrival : Call → (k : ℕ) → Reach → Says
 said_on_arrival call k reach =
     first_said (option_map_or (services_on_arrival (of_caller call k reach.at)) reach.served [] ++ refuses_if reach.is_unknown causes.NoAccount
-    ∷ refuses_if reach.has_no_peer causes.NoRoute ∷ [])
+    ∷ refuses_if (is_none reach.peer) causes.NoRoute ∷ [])
 
 -- the user has another call already
 abbrev pub is_waiting : Option AccountState → Bool
@@ -141,7 +142,8 @@ deflected_to target bound cause = record {
 
 -- the deflection, where the account that is served allows it
 abbrev pub deflection_at : Option AccountState → Uri → (rang : Bool) → Option DueDiversion
-deflection_at served target rang = option_and_then (λ (account : AccountState). option_map (deflected_to target (own_bound account.sheet)) (deflection_of account.sheet rang)) served
+deflection_at served target rang =
+    option_and_then (λ (account : AccountState). option_map (deflected_to target (own_bound account.sheet)) (deflection_of account.sheet rang)) served
 
 -- ---- what is next
 

@@ -6,6 +6,7 @@ use Rattle.std.specs.Prelude.{◌≡◌, ◌≤◌, ℕ, zero, suc, Bool, if◌t
 use Rattle.std.specs.Option.{option_map}
 use Rattle.mmtel_types.specs.declared.causes.Cause.{Cause}
 use Rattle.mmtel_types.specs.declared.causes.Cause.TheVariants as causes
+use Rattle.mmtel_types.specs.declared.numbers.Peer.{Peer}
 use Rattle.mmtel_lex.specs.declared.values.Uri.{Uri}
 use Rattle.mmtel_sheet_values.specs.declared.values.Sheet.{Sheet}
 use Rattle.mmtel_rules.specs.Circumstances.{Circumstances}
@@ -23,26 +24,30 @@ use Rattle.mmtel_precedence.specs.Moves.{outcome_so_far}
 -- ---- at a target
 
 pub data Turn : Type 0 where
-  -- the call is offered to it, as waiting or not
-  TurnOffer : (waiting : Bool) → Turn
+  -- the call is offered to it by this peer, as waiting or not
+  TurnOffer : (peer : Peer) → (waiting : Bool) → Turn
   -- a diversion is due
   TurnDivert : (due : DueDiversion) → Turn
   -- the call is refused
   TurnRefuse : (cause : Cause) → Turn
 
 -- where no service of an account said anything: a target that is nobody's, or to which no peer leads, is refused, whoever is served
-abbrev pub offer_turn : (unknown no_peer waiting : Bool) → Turn
-offer_turn unknown no_peer waiting = if unknown then TurnRefuse causes.NoAccount else if no_peer then TurnRefuse causes.NoRoute else TurnOffer waiting
+abbrev pub offer_by : Option Peer → (waiting : Bool) → Turn
+offer_by None waiting = TurnRefuse causes.NoRoute
+offer_by (Some peer) waiting = TurnOffer peer waiting
+
+abbrev pub offer_turn : (unknown : Bool) → Option Peer → (waiting : Bool) → Turn
+offer_turn unknown peer waiting = if unknown then TurnRefuse causes.NoAccount else offer_by peer waiting
 
 -- by what the services of the account decided; a diversion without a forward is that of a device, and no device was asked yet
-abbrev pub turn_by : Decision → (bound : Option ℕ) → (unknown no_peer : Bool) → Turn
-turn_by (Offers waiting) bound unknown no_peer = offer_turn unknown no_peer waiting
-turn_by (Forwards None cause) bound unknown no_peer = TurnRefuse (causes.Relayed 480)
-turn_by (Forwards (Some forward) cause) bound unknown no_peer = TurnDivert (record { forward = forward; cause = cause; bound = bound })
-turn_by (Ends cause) bound unknown no_peer = TurnRefuse cause
+abbrev pub turn_by : Decision → (bound : Option ℕ) → (unknown : Bool) → Option Peer → Turn
+turn_by (Offers waiting) bound unknown peer = offer_turn unknown peer waiting
+turn_by (Forwards None cause) bound unknown peer = TurnRefuse (causes.Relayed 480)
+turn_by (Forwards (Some forward) cause) bound unknown peer = TurnDivert (record { forward = forward; cause = cause; bound = bound })
+turn_by (Ends cause) bound unknown peer = TurnRefuse cause
 
 abbrev pub turn_at : Circumstances → Reach → Turn
-turn_at c reach = turn_by (verdict_of c (account_at reach) ending.Arrived) (own_bound (account_at reach).sheet) reach.is_unknown reach.has_no_peer
+turn_at c reach = turn_by (verdict_of c (account_at reach) ending.Arrived) (own_bound (account_at reach).sheet) reach.is_unknown reach.peer
 
 -- ---- after an attempt
 
@@ -75,7 +80,7 @@ turn_on c sheet (Other code) = EndRefuse (causes.Relayed code)
 
 -- what is kept of the call after its turn at a target
 abbrev pub kept_at_turn : Call → AccountState → (now : ℕ) → Kept → Uri → Option DueDiversion → Turn → Kept
-kept_at_turn call account now kept uri by (TurnOffer waiting) = at_phase (with_target kept uri by (Offered waiting)) (Ringing account)
+kept_at_turn call account now kept uri by (TurnOffer peer waiting) = at_phase (with_target kept uri by (Offered waiting)) (Ringing account)
 kept_at_turn call account now kept uri by (TurnDivert due) = divert call (with_target kept uri by NotOffered) account now due
 kept_at_turn call account now kept uri by (TurnRefuse cause) = at_phase (with_target kept uri by NotOffered) (Over (Final cause))
 

@@ -1,6 +1,7 @@
 -- One decision: what the services of an account say of a call that reaches it, or of an attempt that ended (TS 24.604 §4.5.2.6, TS 24.611 §4.5.2, TS 24.615 §4.5.5); and
 -- what stands before each diversion.
 use Rattle.std.specs.Prelude.{ℕ, ◌==◌, Bool, nat_lt, if◌then◌else◌, Option, Some, None}
+use Rattle.std.specs.Option.{option_map}
 use Rattle.mmtel_types.specs.declared.causes.Cause.{Cause}
 use Rattle.mmtel_types.specs.declared.causes.Cause.TheVariants as causes
 use Rattle.mmtel_sheet_values.specs.declared.values.Forward.{Forward}
@@ -8,12 +9,15 @@ use Rattle.mmtel_sheet_values.specs.declared.values.Sheet.{Sheet}
 use Rattle.mmtel_rules.specs.Circumstances.{Circumstances}
 use Rattle.mmtel_rules.specs.declared.values.When.TheVariants as event
 use Rattle.mmtel_diversion.specs.Bound.{is_within}
-use Rattle.mmtel_diversion.specs.Diversion.{deflection_of}
+use Rattle.mmtel_diversion.specs.Diversion.{Chosen, deflection_of, diversion_of}
+use Rattle.mmtel_precedence.specs.declared.attempts.Failure.{Failure}
+use Rattle.mmtel_precedence.specs.declared.attempts.Failure.TheVariants as failures
 use Rattle.mmtel_precedence.specs.declared.endings.Ending.{Ending}
 use Rattle.mmtel_precedence.specs.declared.endings.Ending.TheVariants.{Arrived, UserBusy, NotReachable, NoReply, Deflected, Other}
 use Rattle.mmtel_precedence.specs.declared.verdicts.Verdict.{Verdict}
 use Rattle.mmtel_precedence.specs.declared.verdicts.Verdict.TheVariants as verdicts
-use Rattle.mmtel_precedence.specs.Services.{AccountState, DueDiversion, Says, Nothing, Refuses, Diverts, first_said, due_on, bars_outgoing, services_on_arrival}
+use Rattle.mmtel_precedence.specs.Services.{AccountState, DueDiversion, Says, Nothing, Refuses, Diverts, bars_outgoing, bound_of, due_of, due_on, first_said, own_bound}
+use Rattle.mmtel_precedence.specs.Services.{services_on_arrival}
 
 -- what is done with the call
 pub data Decision : Type 0 where
@@ -56,9 +60,40 @@ verdict_of c account NoReply = forwards_or (due_on c event.NoAnswer account.shee
 verdict_of c account (Deflected alerted) = deflects_or (deflection_of account.sheet alerted)
 verdict_of c account (Other code) = Ends (causes.Relayed code)
 
--- what refuses a diversion, if anything does: first the outgoing barring of the account that diverts, where the new target is the other party; then the bound, as busy
--- where the diversion is for a busy user (RFC 4458 §2)
+-- ---- before a diversion
+
+-- a diversion for which there are too many refuses the call, as busy where it is for a busy user (RFC 4458 §2)
+abbrev pub too_many : (cause : ℕ) → Cause
+too_many cause = causes.TooManyDiversions (cause == 486)
+
+-- what the bound refuses
+abbrev pub refusal_at_bound : (received done bound cause : ℕ) → Option Cause
+refusal_at_bound received done bound cause = if is_within received done bound then None else Some (too_many cause)
+
+-- what refuses a diversion, if anything does: first the outgoing barring of the account that diverts, where the new target is the other party; then the bound
 abbrev pub go_on_of : Circumstances → Sheet → (received done bound cause : ℕ) → Option Cause
-go_on_of c sheet received done bound cause =
-    if bars_outgoing c sheet then Some causes.OutgoingBarred
-    else if is_within received done bound then None else Some (causes.TooManyDiversions (cause == 486))
+go_on_of c sheet received done bound cause = if bars_outgoing c sheet then Some causes.OutgoingBarred else refusal_at_bound received done bound cause
+
+-- the same of one that is due, by the record of the account that diverts, if one is served: its bound is the lesser of the configured one and that of the account
+abbrev pub refusal_before_diversion : Circumstances → Option Sheet → (received done configured : ℕ) → DueDiversion → Option Cause
+refusal_before_diversion c None received done configured due = refusal_at_bound received done (bound_of configured due.bound) due.cause
+refusal_before_diversion c (Some sheet) received done configured due = go_on_of c sheet received done (bound_of configured due.bound) due.cause
+
+-- ---- what private calls cite
+
+-- the diversion that the rules ask for after an attempt that failed so
+abbrev pub diversion_after : Circumstances → Sheet → Failure → Option Chosen
+diversion_after c sheet (failures.UserBusy code) = diversion_of c event.Busy sheet
+diversion_after c sheet (failures.NotReachable code) = diversion_of c event.NotReachable sheet
+diversion_after c sheet failures.NoReply = diversion_of c event.NoAnswer sheet
+diversion_after c sheet (failures.Other code) = None
+
+-- the cause by which the call is refused, where they ask for none
+abbrev pub cause_of : Failure → Cause
+cause_of (failures.UserBusy code) = causes.Relayed code
+cause_of (failures.NotReachable code) = causes.Unreachable code
+cause_of failures.NoReply = causes.NoReply
+cause_of (failures.Other code) = causes.Relayed code
+
+abbrev pub verdict_after : Circumstances → Sheet → Failure → Decision
+verdict_after c sheet failure = forwards_or (option_map (due_of (own_bound sheet)) (diversion_after c sheet failure)) (cause_of failure)

@@ -13,8 +13,8 @@ mod reaches;
 mod turns;
 mod verdicts;
 
-pub use attempts::{AttemptEnd, AttemptEvent, end_by, rings};
-pub use deciding::{go_on, verdict};
+pub use attempts::{AttemptEnd, AttemptTimeout, Failure, end_by_final, end_by_timeout, rings};
+pub use deciding::{go_on, refusal_before_diversion, verdict};
 pub use endings::{CallFacts, Ending};
 pub use mmtel_targets::Served;
 pub use openings::refused_at_opening;

@@ -5,6 +5,7 @@ ghost use Rattle.mmtel_precedence.specs.Targets.{party_of};
 use mmtel_lex::Uri;
 use mmtel_rules::Identities2;
 use mmtel_sheet_values::Sheet;
+use mmtel_types::Peer;
 
 /// The account that is served at a target, as it stands when the call reaches it.
 #[derive(Clone, Copy)]
@@ -24,8 +25,8 @@ pub struct Reached<'a> {
     pub served: Option<ServedAccount<'a>>,
     /// It is of the home domain and no account's, as `is_unknown` of a target says.
     pub is_unknown: bool,
-    /// No peer leads to it.
-    pub has_no_peer: bool,
+    /// The peer that leads to it, if one does.
+    pub peer: Option<Peer>,
 }
 
 /// The URI as the only identity of a party, as which the outgoing barring of an account is asked of a new target. It takes no memory.

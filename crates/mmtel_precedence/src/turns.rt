@@ -3,21 +3,20 @@ ghost use Rattle.std.specs.Prelude.{◌≡◌, option_and_then};
 ghost use Rattle.std.specs.Option.{option_copied};
 ghost use Rattle.mmtel_types.specs.declared.causes.Cause.TheVariants.{Relayed};
 ghost use Rattle.mmtel_rules.specs.Circumstances.{known};
-ghost use Rattle.mmtel_precedence.specs.Services.{DueDiversion, due_on, first_said, own_bound, services_on_arrival};
+ghost use Rattle.mmtel_precedence.specs.Services.{first_said, own_bound, services_on_arrival};
 ghost use Rattle.mmtel_precedence.specs.Targets.{deflected_to};
-ghost use Rattle.mmtel_precedence.specs.Told.{told_account, told_after, told_due, told_end, told_reach, told_turn};
+ghost use Rattle.mmtel_precedence.specs.Told.{told_account, told_after, told_arrival, told_due, told_end, told_failure, told_reach, told_turn};
 ghost use Rattle.mmtel_precedence.specs.Turns.{deflection_by, divert_or_refuse, offer_turn, turn_at, turn_by, turn_on};
-ghost use Rattle.mmtel_precedence.specs.Verdicts.{decision_by, shown};
+ghost use Rattle.mmtel_precedence.specs.Verdicts.{decision_by};
 
-use crate::attempts::AttemptEnd;
-use crate::deciding::arrived;
+use crate::attempts::{AttemptEnd, Failure};
+use crate::deciding::{Arrival, arrived, asked_after};
 use crate::reaches::{Reached, ServedAccount};
-use crate::verdicts::Verdict;
-use mmtel_diversion::{choose, deflect};
+use mmtel_diversion::deflect;
 use mmtel_lex::Uri;
-use mmtel_rules::{Facts, When};
+use mmtel_rules::Facts;
 use mmtel_sheet_values::{Forward, Sheet};
-use mmtel_types::Cause;
+use mmtel_types::{Cause, Peer};
 
 /// A diversion that is due: where the call goes, who is told what of it, and why. It is made unless `go_on` refuses it.
 #[derive(Clone, Copy)]
@@ -52,6 +51,8 @@ impl<'a> Onward<'a> {
 pub enum Turn<'a> {
     /// It is offered to the target.
     Offer {
+        /// The peer that leads there.
+        peer: Peer,
         /// The user has another call already, so this one waits (communication waiting).
         waiting: bool,
     },
@@ -64,8 +65,6 @@ pub enum Turn<'a> {
 /// What is done with a call after an attempt that ended.
 #[derive(Clone, Copy)]
 pub enum AfterEnding<'a> {
-    /// It is answered.
-    Answered,
     /// A diversion is due.
     Divert(Onward<'a>),
     /// It is refused.
@@ -113,39 +112,44 @@ fn by_device(target: &Uri, cause: u16, bound: Option<u8>) -> Onward<'_>
 }
 
 /// A target that no service refused: it may still be nobody's, or out of reach.
-fn offer_unless(is_unknown: bool, has_no_peer: bool, waiting: bool) -> Turn<'static>
-    ensures { told_turn result ≡ offer_turn is_unknown has_no_peer waiting }
+fn offer_unless(is_unknown: bool, peer: Option<Peer>, waiting: bool) -> Turn<'static>
+    ensures { told_turn result ≡ offer_turn is_unknown peer waiting }
 {
     if is_unknown {
         return Turn::Refuse(Cause::NoAccount);
     }
-    if has_no_peer {
-        return Turn::Refuse(Cause::NoRoute);
+    match peer {
+        None => Turn::Refuse(Cause::NoRoute),
+        Some(peer) => Turn::Offer { peer, waiting },
     }
-    Turn::Offer { waiting }
 }
 
 /// The turn at a target where the services of its account, which has this record, decided so.
-fn turn_by<'a>(verdict: Verdict<'a>, sheet: &Sheet, is_unknown: bool, has_no_peer: bool) -> Turn<'a>
-    ensures { told_turn result ≡ turn_by (shown verdict.entry) (own_bound sheet.now) is_unknown has_no_peer }
+fn turn_by<'a>(
+    decided: Arrival<'a>,
+    sheet: &Sheet,
+    is_unknown: bool,
+    peer: Option<Peer>,
+) -> Turn<'a>
+    ensures { told_turn result ≡ turn_by (told_arrival decided.entry) (own_bound sheet.now) is_unknown peer }
 {
-    match verdict {
-        Verdict::Offer { waiting } => offer_unless(is_unknown, has_no_peer, waiting),
-        Verdict::Divert {
-            forward: Some(forward),
-            cause,
-        } => Turn::Divert(by_rule(forward, cause, own_bound(sheet))),
-        Verdict::Divert { forward: None, .. } => Turn::Refuse(Cause::Relayed(480)),
-        Verdict::Refuse(cause) => Turn::Refuse(cause),
+    match decided {
+        Arrival::Offer { waiting } => offer_unless(is_unknown, peer, waiting),
+        Arrival::Divert(diversion) => Turn::Divert(by_rule(
+            diversion.forward,
+            diversion.cause,
+            own_bound(sheet),
+        )),
+        Arrival::Refuse(cause) => Turn::Refuse(cause),
     }
 }
 
 /// The turn at a target of this account.
-fn turn_of<'a>(f: &Facts, a: &ServedAccount<'a>, is_unknown: bool, has_no_peer: bool) -> Turn<'a>
-    ensures { let facts = f.entry.now in let account = told_account a.entry.now in
-        told_turn result ≡ turn_by (decision_by (first_said (services_on_arrival (known facts) account)) account.live) (own_bound account.sheet) is_unknown has_no_peer }
+fn turn_of<'a>(f: &Facts, a: &ServedAccount<'a>, is_unknown: bool, peer: Option<Peer>) -> Turn<'a>
+    ensures { let facts = f.entry.now in let account = told_account a.entry.now in told_turn result
+        ≡ turn_by (decision_by (first_said (services_on_arrival (known facts) account)) account.live) (own_bound account.sheet) is_unknown peer }
 {
-    turn_by(arrived(f, a), a.sheet, is_unknown, has_no_peer)
+    turn_by(arrived(f, a), a.sheet, is_unknown, peer)
 }
 
 /// What is done with a call at a target that it reached: what the services of the account decide that is served there, as `verdict` says;
@@ -155,20 +159,20 @@ pub fn turn_at<'a>(f: &Facts, r: &Reached<'a>) -> Turn<'a>
     ensures exact { let facts = f.entry.now in told_turn result ≡ turn_at (known facts) (told_reach facts.now r.entry.now) }
 {
     match &r.served {
-        None => offer_unless(r.is_unknown, r.has_no_peer, false),
-        Some(account) => turn_of(f, account, r.is_unknown, r.has_no_peer),
+        None => offer_unless(r.is_unknown, r.peer, false),
+        Some(account) => turn_of(f, account, r.is_unknown, r.peer),
     }
 }
 
-/// The diversion that the rules of the record ask for at this moment, else the refusal for this cause.
-fn rule_or<'a>(f: &Facts, s: Option<&'a Sheet>, when: When, cause: Cause) -> AfterEnding<'a>
-    ensures { let facts = f.entry.now in told_after result ≡ divert_or_refuse (option_and_then (due_on (known facts) when) (option_copied s.entry)) cause }
+/// What is done after an attempt that failed so: what the rules of the record ask for, else the call is refused.
+fn on_failure<'a>(f: &Facts, s: Option<&'a Sheet>, failure: Failure) -> AfterEnding<'a>
+    ensures { let facts = f.entry.now in told_after result ≡ turn_on (known facts) (option_copied s.entry) (told_failure failure) }
 {
     let Some(sheet) = s else {
-        return AfterEnding::Refuse(cause);
+        return AfterEnding::Refuse(failure.cause());
     };
-    match choose(sheet, f, when) {
-        None => AfterEnding::Refuse(cause),
+    match asked_after(f, sheet, failure) {
+        None => AfterEnding::Refuse(failure.cause()),
         Some(diversion) => {
             let bound = own_bound(sheet);
             AfterEnding::Divert(by_rule(diversion.forward, diversion.cause, bound))
@@ -177,7 +181,7 @@ fn rule_or<'a>(f: &Facts, s: Option<&'a Sheet>, when: When, cause: Cause) -> Aft
 }
 
 /// The deflection to this target, where the record allows it, else the refusal by a 480.
-fn deflection_or<'a>(s: Option<&'a Sheet>, target: &'a Uri, rang: bool) -> AfterEnding<'a>
+fn on_deflection<'a>(s: Option<&'a Sheet>, target: &'a Uri, rang: bool) -> AfterEnding<'a>
     ensures { told_after result ≡ divert_or_refuse (option_and_then (deflection_by target.now rang) (option_copied s.entry)) (Relayed 480) }
 {
     let Some(sheet) = s else {
@@ -189,20 +193,13 @@ fn deflection_or<'a>(s: Option<&'a Sheet>, target: &'a Uri, rang: bool) -> After
     }
 }
 
-/// What is done with a call after an attempt that ended: it is answered, or refused since its caller gave up; else the rules for that ending come first, and then its cause.
-/// The sheet is the record under which it was offered, None where the target is of no account; the facts name the caller as the other party. It takes no memory.
+/// What is done with a call after an attempt that ended so: the rules for that ending come first, and then its cause. The sheet is the record under which it was offered, None
+/// where the target is of no account; the facts name the caller as the other party. It takes no memory.
 pub fn turn_on<'a>(f: &Facts, s: Option<&'a Sheet>, e: &AttemptEnd<'a>) -> AfterEnding<'a>
     ensures exact { let facts = f.entry.now in told_after result ≡ turn_on (known facts) (option_copied s.entry) (told_end e.entry.now) }
 {
     match *e {
-        AttemptEnd::Answered => AfterEnding::Answered,
-        AttemptEnd::Cancelled => AfterEnding::Refuse(Cause::Cancelled),
-        AttemptEnd::UserBusy(code) => rule_or(f, s, When::Busy, Cause::Relayed(code)),
-        AttemptEnd::NotReachable(code) => {
-            rule_or(f, s, When::NotReachable, Cause::Unreachable(code))
-        }
-        AttemptEnd::NoReply => rule_or(f, s, When::NoAnswer, Cause::NoReply),
-        AttemptEnd::Deflected { target, rang } => deflection_or(s, target, rang),
-        AttemptEnd::Other(code) => AfterEnding::Refuse(Cause::Relayed(code)),
+        AttemptEnd::Failed(failure) => on_failure(f, s, failure),
+        AttemptEnd::Deflected { target, rang } => on_deflection(s, target, rang),
     }
 }

@@ -7,15 +7,15 @@ use Rattle.std.proofs.lemmas.List.Sums.{get_or-le-sum_by, sum_by-append, sum_by-
 use Rattle.std.proofs.lemmas.Option.{get_or_from_slice_get, none-some, slice_get_within}
 use Rattle.std.specs.Prelude.{◌==◌, ◌-◌, count_by, flat_map, if◌then◌else◌, min, option_to_list, remove, slice_get, sum_by}
 use Rattle.std.specs.List.{AllByRecursion}
-use Rattle.mmtel_call.specs.Closing.{Step}
 use Rattle.mmtel_call.specs.Opening.{opened}
 use Rattle.mmtel_call.specs.Table.{step}
 use Rattle.mmtel_call.specs.declared.signals.Signal as calls
-use Rattle.mmtel_call_decisions.specs.Busy.{Counts, calls_of, live_of, one_of}
+use Rattle.mmtel_call_decisions.specs.Busy.{Counts, calls_of, live_of}
 use Rattle.mmtel_call_decisions.specs.Site.{Site, calls_among, is_account}
 use Rattle.mmtel_call_decisions.specs.declared.openings.Arrival.{Arrival}
 use Rattle.mmtel_desk.specs.Marks.{Ascend}
 use Rattle.mmtel_desk.specs.declared.desks.Desk.{Desk}
+use Rattle.mmtel_desk.proofs.Marking.{below_at}
 use Rattle.mmtel_precedence.specs.Calls.{Standing}
 use Rattle.mmtel_sheet_values.specs.View.{InForce, end_in, sheet_in}
 use Rattle.mmtel_types.specs.declared.numbers.Account.{Account}
@@ -98,11 +98,6 @@ all_below : (number low high : ℕ) (es : List Entry) → high < number → Asce
 all_below number low high [] l a = tt
 all_below number low high (x ∷ es) l a = let g = least (number_of x) high es a.1 in (lower_not number x (omega (arith, l, g)), all_below number (number_of x) high es l a.1)
 
-above_at : (low high : ℕ) (es : List Entry) (k : ℕ) (e : Entry) → Ascend number_of low es high → slice_get es k ≡ Some e → low < number_of e
-above_at low high [] k e a is = absurd (none-some e is)
-above_at low high (x ∷ es) zero e a is = let same : number_of x ≡ number_of e = ap number_of (let h : x ≡ e = cc in h) in let h = a.0 in omega (arith, h, same)
-above_at low high (x ∷ es) (suc k) e a is = let h = a.0 in let g = above_at (number_of x) high es k e a.1 is in omega (arith, h, g)
-
 -- ---- as the step of a call sees them
 
 own_counted : (n number low high : ℕ) (es : List Entry) (k : ℕ) (e : Entry) → Ascend number_of low es high → slice_get es k ≡ Some e → number ≡ number_of e
@@ -117,7 +112,7 @@ own_counted n number low high (x ∷ es) zero e a is same =
     let all = sum_by-cons (keeps_busy n) x es in
     subst (λ (z : Entry). count_by (is_account n) (busy_beside number (x ∷ es)) + often (served_of z) n ≡ sum_by (keeps_busy n) (x ∷ es)) h (omega (arith, whole, own, rest, all))
 own_counted n number low high (x ∷ es) (suc k) e a is same =
-    let above = above_at (number_of x) high es k e a.1 is in
+    let above = below_at number_of (number_of x) high es k e a.1 is in
     let whole = flat_cons n (beside number) x es in
     let other = beside_other n number x (lower_not number x (omega (arith, above, same))) in
     let rest = own_counted n number (number_of x) high es k e a.1 is same in

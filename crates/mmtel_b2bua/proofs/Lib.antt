@@ -4,3 +4,4 @@ mod Finding
 mod Keeping
 mod Marking
 mod Opened
+mod Meanings

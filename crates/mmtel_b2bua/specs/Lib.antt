@@ -7,3 +7,4 @@ pub mod Histories
 -- What private functions alone cite: the table as it is kept.
 pub mod Kept
 pub mod Marks
+pub mod Meanings

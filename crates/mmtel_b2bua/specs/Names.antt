@@ -2,14 +2,13 @@
 -- an account has.
 use Rattle.std.specs.Prelude.{ℕ, ◌==◌, ◌&&◌, Bool, if◌then◌else◌, Option, Some, None, List, flat_map, is_some, position, slice_get}
 use Rattle.std.specs.Option.{option_map}
-use Rattle.std.specs.Str.{bytes_eq}
 use Rattle.mmtel_call_decisions.specs.Site.{calls_among}
 use Rattle.mmtel_call.specs.declared.calls.Pair.{Pair}
 use Rattle.mmtel_call.specs.declared.calls.Phase.TheVariants.{Lent, Offered, Over, Stood}
 use Rattle.mmtel_call.specs.declared.calls.Phase.{Phase}
 use Rattle.mmtel_call.specs.declared.calls.Trial.{Trial}
 use Rattle.mmtel_call.specs.Closing.{account_in}
-use Rattle.mmtel_leg.specs.declared.dialogues.Dialogue.{Dialogue}
+pub use Rattle.mmtel_leg.specs.Names.{has_name}
 use Rattle.mmtel_leg.specs.declared.legs.Released.{Released}
 use Rattle.mmtel_leg.specs.declared.legs.Released.TheVariants as released
 use Rattle.mmtel_transaction.specs.declared.words.TKey.{TKey}
@@ -39,11 +38,7 @@ side_of side_in (Some e) = option_map (sided e) (side_in e)
 abbrev pub first_side : (side_in : Entry → Option Side) → List Entry → Option (CallNo × Side)
 first_side side_in es = side_of side_in (entry_at (position (has_side side_in) es) es)
 
--- ---- dialogs
-
--- by Call-ID, the server's tag and the other side's
-abbrev pub has_name : (call_id local remote : List ℕ) → Dialogue → Bool
-has_name call_id local remote d = bytes_eq d.call_id call_id && (bytes_eq d.local_tag local && bytes_eq d.remote_tag remote)
+-- ---- dialogs, by Call-ID, the server's tag and the other side's
 
 abbrev pub side_by : (caller callee : Bool) → Option Side
 side_by caller callee = if caller then Some Caller else if callee then Some Callee else None

@@ -2,7 +2,7 @@
 ghost use Rattle.std.specs.Prelude.{◌≡◌, Some, position};
 ghost use Rattle.std.specs.Option.{option_map};
 ghost use Rattle.mmtel_b2bua.specs.Lending.{entry_of};
-ghost use Rattle.mmtel_b2bua.specs.Names.{first_side, has_name, has_side, is_key, named_left, named_offered, named_stood, party, party_left, party_of, party_offered};
+ghost use Rattle.mmtel_b2bua.specs.Names.{first_side, has_side, is_key, named_left, named_offered, named_stood, party, party_left, party_of, party_offered};
 ghost use Rattle.mmtel_b2bua.specs.Names.{party_stood, side_asking, side_by, side_named, side_that_asked, sided};
 
 use crate::busy::account_of;
@@ -10,93 +10,74 @@ use crate::call_table::CallTable;
 use crate::entries::{Entry, InviteKey};
 use mmtel_call::{Pair, Phase, Trial, TriedLeg};
 use mmtel_desk::{Mark, told};
-use mmtel_leg::{Dialogue, Released};
+use mmtel_leg::{DialogName, Released};
 use mmtel_transaction::TKey;
 use mmtel_types::{Account, CallNo, Peer, Side};
 
-/// The name of a dialog as a request gives it: its Call-ID, the server's tag, and the other side's (RFC 3261 §12).
-#[derive(Clone, Copy)]
-pub struct DialogName<'a> {
-    pub call_id: &'a [u8],
-    pub local: &'a [u8],
-    pub remote: &'a [u8],
+/// The side of a call that is offered whose dialog has this name.
+fn side_offered(name: DialogName<'_>, x: &Trial) -> Option<Side>
+    ensures { result ≡ named_offered name.entry.call_id.now name.entry.local.now name.entry.remote.now x.now }
+{
+    if name.is_of(x.caller.dialogue()) {
+        return Some(Side::Caller);
+    }
+    match &x.callee.leg {
+        TriedLeg::Asked(_) => None,
+        TriedLeg::Early(leg) => {
+            if name.is_of(leg.dialogue()) {
+                Some(Side::Callee)
+            } else {
+                None
+            }
+        }
+    }
 }
 
-impl<'a> DialogName<'a> {
-    /// Whether the dialog has this name.
-    fn is_of(&self, dialogue: &Dialogue) -> bool
-        ensures { result ≡ has_name self.now.call_id.now self.now.local.now self.now.remote.now dialogue.now }
-    {
-        dialogue.call_id.bytes() == self.call_id
-            && dialogue.local_tag.bytes() == self.local
-            && dialogue.remote_tag.bytes() == self.remote
+/// That of an answered call.
+fn side_stood(name: DialogName<'_>, x: &Pair) -> Option<Side>
+    ensures { result ≡ named_stood name.entry.call_id.now name.entry.local.now name.entry.remote.now x.now }
+{
+    if name.is_of(x.caller.dialogue()) {
+        return Some(Side::Caller);
     }
+    if name.is_of(x.callee.dialogue()) {
+        return Some(Side::Callee);
+    }
+    None
+}
 
-    /// The side of a call that is offered whose dialog has this name.
-    fn side_offered(&self, x: &Trial) -> Option<Side>
-        ensures { result ≡ named_offered self.now.call_id.now self.now.local.now self.now.remote.now x.now }
-    {
-        if self.is_of(x.caller.dialogue()) {
-            return Some(Side::Caller);
+/// That of the leg that is left, where the other is away.
+fn side_left(name: DialogName<'_>, left: &Released) -> Option<Side>
+    ensures { result ≡ named_left name.entry.call_id.now name.entry.local.now name.entry.remote.now left.now }
+{
+    match left {
+        Released::Caller(leg) => {
+            if name.is_of(leg.dialogue()) {
+                Some(Side::Caller)
+            } else {
+                None
+            }
         }
-        match &x.callee.leg {
-            TriedLeg::Asked(_) => None,
-            TriedLeg::Early(leg) => {
-                if self.is_of(leg.dialogue()) {
-                    Some(Side::Callee)
-                } else {
-                    None
-                }
+        Released::Callee(leg) => {
+            if name.is_of(leg.dialogue()) {
+                Some(Side::Callee)
+            } else {
+                None
             }
         }
     }
+}
 
-    /// That of an answered call.
-    fn side_stood(&self, x: &Pair) -> Option<Side>
-        ensures { result ≡ named_stood self.now.call_id.now self.now.local.now self.now.remote.now x.now }
-    {
-        if self.is_of(x.caller.dialogue()) {
-            return Some(Side::Caller);
-        }
-        if self.is_of(x.callee.dialogue()) {
-            return Some(Side::Callee);
-        }
-        None
-    }
-
-    /// That of the leg that is left, where the other is away.
-    fn side_left(&self, left: &Released) -> Option<Side>
-        ensures { result ≡ named_left self.now.call_id.now self.now.local.now self.now.remote.now left.now }
-    {
-        match left {
-            Released::Caller(leg) => {
-                if self.is_of(leg.dialogue()) {
-                    Some(Side::Caller)
-                } else {
-                    None
-                }
-            }
-            Released::Callee(leg) => {
-                if self.is_of(leg.dialogue()) {
-                    Some(Side::Callee)
-                } else {
-                    None
-                }
-            }
-        }
-    }
-
-    /// The side of a call whose dialog has this name.
-    #[tactic(auto, unfolding(crate::specs::Names::side_named))]
-    fn side_in(&self, entry: &Entry) -> Option<Side>
-        ensures { result ≡ side_named self.now.call_id.now self.now.local.now self.now.remote.now entry.now }
-    {
-        match &entry.call.phase {
-            Phase::Offered(x) => self.side_offered(x),
-            Phase::Stood(x, _) => self.side_stood(x),
-            Phase::Lent(loan) => self.side_left(&loan.left),
-            Phase::Over(_) => None,
-        }
+/// The side of a call whose dialog has this name.
+#[tactic(auto, unfolding(crate::specs::Names::side_named))]
+fn side_in(name: DialogName<'_>, entry: &Entry) -> Option<Side>
+    ensures { result ≡ side_named name.entry.call_id.now name.entry.local.now name.entry.remote.now entry.now }
+{
+    match &entry.call.phase {
+        Phase::Offered(x) => side_offered(name, x),
+        Phase::Stood(x, _) => side_stood(name, x),
+        Phase::Lent(loan) => side_left(name, &loan.left),
+        Phase::Over(_) => None,
     }
 }
 
@@ -106,7 +87,7 @@ fn named_in(entries: &[Box<Entry>], name: DialogName<'_>) -> Option<usize>
 {
     entries
         .iter()
-        .position(|entry| name.side_in(entry).is_some())
+        .position(|entry| side_in(name, entry).is_some())
 }
 
 /// The place of the call whose dialog has this name.
@@ -126,7 +107,7 @@ pub fn find(table: &CallTable, name: DialogName<'_>) -> Option<(CallNo, Side)>
         None => None,
         Some(at) => match table.get(at) {
             None => None,
-            Some(entry) => entry.sided(name.side_in(entry)),
+            Some(entry) => entry.sided(side_in(name, entry)),
         },
     }
 }

@@ -24,7 +24,8 @@ pub fn account_of(service: Option<&Service>) -> Option<Account>
 
 /// One call more keeps this account busy, where there is one.
 pub fn add(busy: &mut Busy, account: Option<Account>) -> Result<(), NoMemory>
-    ensures more { OnOk result ((number : ℕ) → calls_of busy.new number ≡ calls_of busy.old number + often account number) }
+    ensures more { OnOk result ((number : ℕ) → calls_of busy.new number
+        ≡ calls_of busy.old number + often account number) }
     ensures same { OnErr result (busy.new ≡ busy.old) }
 {
     match account {
@@ -59,7 +60,8 @@ pub fn count_again(
     entry: &Entry,
     heard: Result<bool, NoMemory>,
 ) -> Result<bool, NoMemory>
-    ensures counted { (number : ℕ) → calls_of busy.new number ≡ calls_of busy.old number + (if is_gone result then 0 else keeps_busy number entry.now) }
+    ensures counted { (number : ℕ) → calls_of busy.new number
+        ≡ calls_of busy.old number + (if is_gone result then 0 else keeps_busy number entry.now) }
     ensures heard { IfOk result (λ settled. heard ≡ Ok settled) }
 {
     if is_gone(&heard) {
@@ -100,7 +102,8 @@ impl Entry {
 
     /// The call keeps its accounts busy from now on.
     pub fn add_to(&self, busy: &mut Busy) -> Result<(), NoMemory>
-        ensures more { OnOk result ((number : ℕ) → calls_of busy.new number ≡ calls_of busy.old number + keeps_busy number self.now) }
+        ensures more { OnOk result ((number : ℕ) → calls_of busy.new number
+            ≡ calls_of busy.old number + keeps_busy number self.now) }
         ensures same { OnErr result ((number : ℕ) → calls_of busy.new number ≡ calls_of busy.old number) }
     {
         let origin = self.origin();

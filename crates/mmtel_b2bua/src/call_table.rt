@@ -17,15 +17,14 @@ ghost use Rattle.mmtel_b2bua.specs.Tables.{busy_with, most_calls, moved_at, no_c
 use crate::busy::{add, count_again, is_gone, take};
 use crate::entries::{Entry, InviteKey};
 use crate::marks::put_call;
+use crate::steps::Step;
 use mmtel_call::{Call, NotTalking, Signal as CallSignal};
 use mmtel_call_decisions::{Arrival, Busy, Present, Setting};
 use mmtel_call_laws::calls_go_on;
-use mmtel_charging::Row;
-use mmtel_decisions::drop_first;
+use mmtel_charging::{Row, drop_first};
 use mmtel_desk::{Desk, Index, Mark};
 use mmtel_leg::Released;
 use mmtel_scan::{List, NoMemory};
-use mmtel_sheet_values::SheetView;
 use mmtel_types::{Account, CallNo, Moment, Side};
 use std::alloc::Global;
 use std::marker::Model;
@@ -286,16 +285,17 @@ impl CallTable {
     /// Want of memory alone, also for its number: 2^64 - 1 are opened in all.
     pub fn open(
         &mut self,
-        alloc: Global,
-        setting: &Setting<'_>,
-        sheets: &SheetView,
-        at: Moment,
+        step: &Step<'_>,
         arrival: Arrival,
         desk: &mut Desk,
     ) -> Result<Call, NoMemory>
         requires { arrival.number.0 ≡ next_number self.old.opened }
-        ensures call { IfOk result (λ call. call ≡ (open_of setting.now at sheets.now (busy_with arrival self.old.entries) arrival desk.old).call) }
-        ensures desk { OnOk result (desk.new ≡ (open_of setting.now at sheets.now (busy_with arrival self.old.entries) arrival desk.old).desk) }
+        ensures call { IfOk result (λ call. call
+            ≡ (open_of step.now.setting.now step.now.at step.now.sheets.now
+            (busy_with arrival self.old.entries) arrival desk.old).call) }
+        ensures desk { OnOk result (desk.new
+            ≡ (open_of step.now.setting.now step.now.at step.now.sheets.now
+            (busy_with arrival self.old.entries) arrival desk.old).desk) }
         ensures number { IfOk result (λ call. call.opening.number ≡ arrival.number) }
         ensures same { self.new ≡ self.old }
     {
@@ -308,11 +308,11 @@ impl CallTable {
         match add(&mut self.busy, origin) {
             Ok(()) => {
                 let present = Present {
-                    at,
-                    sheets,
+                    at: step.at,
+                    sheets: step.sheets,
                     busy: &self.busy,
                 };
-                let call = Call::open(alloc, setting, &present, arrival, desk);
+                let call = Call::open(step.alloc, step.setting, &present, arrival, desk);
                 take(&mut self.busy, origin);
                 call
             }
@@ -330,10 +330,7 @@ impl CallTable {
     /// Want of memory alone; the call has left then.
     pub fn hear_at(
         &mut self,
-        alloc: Global,
-        setting: &Setting<'_>,
-        sheets: &SheetView,
-        at: Moment,
+        step: &Step<'_>,
         place: usize,
         signal: CallSignal,
         invite: Option<InviteKey>,
@@ -342,10 +339,12 @@ impl CallTable {
         requires { place < length self.old.entries }
         ensures table { OnOk result (self.new ≡ record self.old {
           entries =
-              (moved_at setting.now at sheets.now signal (option_to_list invite) place (slice_get self.old.entries place) self.old.entries desk.old).entries;
+              (moved_at step.now.setting.now step.now.at step.now.sheets.now signal (option_to_list invite) place
+              (slice_get self.old.entries place) self.old.entries desk.old).entries;
         }) }
         ensures desk { OnOk result (desk.new
-            ≡ (moved_at setting.now at sheets.now signal (option_to_list invite) place (slice_get self.old.entries place) self.old.entries desk.old).desk) }
+            ≡ (moved_at step.now.setting.now step.now.at step.now.sheets.now signal (option_to_list invite) place
+            (slice_get self.old.entries place) self.old.entries desk.old).desk) }
     {
         let entry = &mut *self.entries[place];
         let before = entry.is_live();
@@ -354,16 +353,16 @@ impl CallTable {
         put_call(&mut self.index, entry, number, false);
         take(&mut self.busy, entry.served());
         let present = Present {
-            at,
-            sheets,
+            at: step.at,
+            sheets: step.sheets,
             busy: &self.busy,
         };
-        let heard = entry.hear(alloc, setting, &present, signal, invite, desk);
+        let heard = entry.hear(step.alloc, step.setting, &present, signal, invite, desk);
         let counted = count_again(&mut self.busy, entry, heard);
         take(&mut self.busy, origin);
         let gone = is_gone(&counted);
         put_call(&mut self.index, entry, number, !gone);
-        let after = keep_at(&mut self.entries, place, gone, at);
+        let after = keep_at(&mut self.entries, place, gone, step.at);
         self.alive = recounted(self.alive, before, after);
         match counted {
             Ok(_) => Ok(()),
@@ -387,7 +386,8 @@ impl CallTable {
         requires place { place < length self.old.entries }
         requires away { is_away (slice_get self.old.entries place) ≡ true }
         ensures table { OnOk result (self.new ≡ record self.old { entries = (ended_at setting.now at place (slice_get self.old.entries place) self.old.entries desk.old).entries }) }
-        ensures desk { OnOk result (desk.new ≡ (ended_at setting.now at place (slice_get self.old.entries place) self.old.entries desk.old).desk) }
+        ensures desk { OnOk result (desk.new ≡ (ended_at setting.now at place
+            (slice_get self.old.entries place) self.old.entries desk.old).desk) }
     {
         let entry = &mut *self.entries[place];
         let before = entry.is_live();

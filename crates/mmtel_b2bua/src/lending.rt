@@ -21,7 +21,8 @@ use std::alloc::Global;
 #[tactic(auto, unfolding(crate::specs::Lending::released))]
 pub fn release(table: &mut CallTable, number: CallNo, side: Side) -> Result<Released, NotTalking>
     ensures table { table.new ≡ record table.old { entries = released number.0 side table.old.entries } }
-    ensures leg { MatchResult result (λ leg. leg_out number.0 side table.old.entries ≡ Some leg) (λ refused. leg_out number.0 side table.old.entries ≡ None) }
+    ensures leg { MatchResult result (λ leg. leg_out number.0 side table.old.entries ≡ Some leg)
+        (λ refused. leg_out number.0 side table.old.entries ≡ None) }
 {
     match table.place_of(number) {
         None => Err(NotTalking),

@@ -9,6 +9,7 @@ mod lending;
 mod marks;
 mod moves;
 mod signals;
+mod steps;
 mod tables;
 
 pub use entries::{Entry, InviteKey};

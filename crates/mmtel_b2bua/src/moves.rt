@@ -1,19 +1,21 @@
 //! A signal moves the calls: the one that it is of takes its step, or one is opened.
-ghost use Rattle.std.specs.Prelude.{◌≡◌, ◌<◌, ◌++◌, ◌∷◌, [], ℕ, IfOk, OnOk, Some, length, option_to_list, position, slice_get};
+ghost use Rattle.std.specs.Prelude.{◌≡◌, ◌<◌, ◌++◌, ◌∷◌, [], ℕ, IfOk, OnOk, Some, length, option_to_list, position};
 ghost use Rattle.std.specs.Option.{option_copied};
 ghost use Rattle.mmtel_desk.specs.Invites.{invite_answered, invite_silent};
 ghost use Rattle.mmtel_call.specs.Settled.{is_settled};
 ghost use Rattle.mmtel_call.specs.Table.{step};
 ghost use Rattle.mmtel_call_decisions.specs.Site.{standing};
 ghost use Rattle.mmtel_types.specs.declared.sides.Side.TheVariants.{Caller};
-ghost use Rattle.mmtel_b2bua.specs.Entries.{heard_by, is_numbered, kept, sent_it};
+ghost use Rattle.mmtel_b2bua.specs.Entries.{heard_by, kept, sent_it};
 ghost use Rattle.mmtel_b2bua.specs.Kept.{number_of};
-ghost use Rattle.mmtel_b2bua.specs.Tables.{arrived, entry_after, heard, invites_by, moved_in, opened_after, taken};
+ghost use Rattle.mmtel_b2bua.specs.Meanings.{invites_of, meaning_of, place_of};
+ghost use Rattle.mmtel_b2bua.specs.Tables.{arrived, entry_after, invites_by, moved_in, opened_after, taken};
 ghost use Rattle.mmtel_scan.specs.Numbers.{next_number};
 
 use crate::call_table::CallTable;
 use crate::entries::{Entry, InviteKey};
 use crate::signals::Signal;
+use crate::steps::Step;
 use mmtel_answers::Hearing;
 use mmtel_call::{Call, Signal as CallSignal};
 use mmtel_call_decisions::{Arrival, Present, Setting};
@@ -21,7 +23,6 @@ use mmtel_call_laws::alike_calls_go_on_alike;
 use mmtel_desk::{Desk, Mark, file, invite_answered, invite_silent, told};
 use mmtel_message::is_method;
 use mmtel_scan::{List, NoMemory, Text};
-use mmtel_sheet_values::SheetView;
 use mmtel_transaction::TKey;
 use mmtel_types::{CallNo, Moment, Side};
 use std::alloc::Global;
@@ -47,9 +48,12 @@ impl Entry {
         invite: Option<InviteKey>,
         desk: &mut Desk,
     ) -> Result<bool, NoMemory>
-        ensures entry { OnOk result (self.new ≡ entry_after (option_to_list invite) (step setting.now (standing present.now) signal self.old.call desk.old) self.old) }
-        ensures desk { OnOk result (desk.new ≡ (step setting.now (standing present.now) signal self.old.call desk.old).desk) }
-        ensures settled { IfOk result (λ settled. settled ≡ is_settled (step setting.now (standing present.now) signal self.old.call desk.old).call) }
+        ensures entry { OnOk result (self.new ≡ entry_after (option_to_list invite)
+            (step setting.now (standing present.now) signal self.old.call desk.old) self.old) }
+        ensures desk { OnOk result (desk.new ≡ (step setting.now
+            (standing present.now) signal self.old.call desk.old).desk) }
+        ensures settled { IfOk result (λ settled. settled ≡ is_settled
+            (step setting.now (standing present.now) signal self.old.call desk.old).call) }
         ensures number { OnOk result (number_of self.new ≡ number_of self.old) }
     {
         alike_calls_go_on_alike();
@@ -62,10 +66,7 @@ impl Entry {
 /// The call at a place takes its step, if there is one.
 fn hear(
     table: &mut CallTable,
-    alloc: Global,
-    setting: &Setting<'_>,
-    sheets: &SheetView,
-    at: Moment,
+    step: &Step<'_>,
     place: Option<usize>,
     signal: CallSignal,
     invite: Option<InviteKey>,
@@ -74,63 +75,44 @@ fn hear(
     requires { (n : ℕ) → place ≡ Some n → n < length table.old.entries }
     ensures table { OnOk result (table.new ≡ record table.old {
       entries =
-          (moved_in setting.now at sheets.now signal (option_to_list invite) place table.old.entries desk.old).entries;
+          (moved_in step.now.setting.now step.now.at step.now.sheets.now signal
+          (option_to_list invite) place table.old.entries
+          desk.old).entries;
     }) }
-    ensures desk { OnOk result (desk.new ≡ (moved_in setting.now at sheets.now signal (option_to_list invite) place table.old.entries desk.old).desk) }
+    ensures desk { OnOk result (desk.new
+        ≡ (moved_in step.now.setting.now step.now.at step.now.sheets.now signal
+        (option_to_list invite) place table.old.entries
+        desk.old).desk) }
 {
     match place {
         None => {
             drop(signal);
             Ok(())
         }
-        Some(place) => { table.hear_at(alloc, setting, sheets, at, place, signal, invite, desk) }
+        Some(place) => table.hear_at(step, place, signal, invite, desk),
     }
-}
-
-/// The call of this number takes its step, if there is one.
-fn hear_numbered(
-    table: &mut CallTable,
-    alloc: Global,
-    setting: &Setting<'_>,
-    sheets: &SheetView,
-    at: Moment,
-    number: CallNo,
-    signal: CallSignal,
-    invite: Option<InviteKey>,
-    desk: &mut Desk,
-) -> Result<(), NoMemory>
-    ensures table { OnOk result (table.new ≡ record table.old {
-      entries =
-          (heard setting.now at sheets.now (is_numbered number.0) signal (option_to_list invite) table.old.entries desk.old).entries;
-    }) }
-    ensures desk { OnOk result (desk.new ≡ (heard setting.now at sheets.now (is_numbered number.0) signal (option_to_list invite) table.old.entries desk.old).desk) }
-{
-    let place = table.place_of(number);
-    hear(
-        table, alloc, setting, sheets, at, place, signal, invite, desk,
-    )
 }
 
 /// An INVITE opens a call.
 fn open(
     table: &mut CallTable,
-    alloc: Global,
-    setting: &Setting<'_>,
-    sheets: &SheetView,
-    at: Moment,
+    step: &Step<'_>,
     arrival: Arrival,
     desk: &mut Desk,
 ) -> Result<(), NoMemory>
     requires { arrival.number.0 ≡ next_number table.old.opened }
     ensures table { OnOk result (table.new ≡ record table.old {
-      entries = (arrived setting.now at sheets.now arrival table.old.entries desk.old).entries;
-      opened = next_number table.old.opened;
+      entries =
+          (arrived step.now.setting.now step.now.at step.now.sheets.now arrival table.old.entries desk.old).entries;
+      opened =
+          next_number table.old.opened;
     }) }
-    ensures desk { OnOk result (desk.new ≡ (arrived setting.now at sheets.now arrival table.old.entries desk.old).desk) }
+    ensures desk { OnOk result (desk.new
+        ≡ (arrived step.now.setting.now step.now.at step.now.sheets.now arrival table.old.entries desk.old).desk) }
 {
     let key = arrival.key;
-    let call = table.open(alloc, setting, sheets, at, arrival, desk)?;
-    keep_call(table, alloc, call, key, at)
+    let call = table.open(step, arrival, desk)?;
+    keep_call(table, step.alloc, call, key, step.at)
 }
 
 /// The INVITE of the caller that this server transaction heard, as the first of its call.
@@ -242,22 +224,51 @@ fn place_answered(
     Ok(place)
 }
 
-/// The calls once they heard a signal; one that is opened has the next number.
-#[tactic(auto, unfolding(crate::specs::Tables::taken))]
-pub fn take(
-    table: &mut CallTable,
-    alloc: Global,
-    setting: &Setting<'_>,
-    sheets: &SheetView,
-    at: Moment,
-    signal: Signal,
-    desk: &mut Desk,
-) -> Result<(), NoMemory>
-    ensures table { OnOk result (table.new ≡ record table.old {
-      entries = (taken setting.now at sheets.now (next_number table.old.opened) signal table.old.entries desk.old).entries;
-      opened = opened_after signal table.old.opened;
-    }) }
-    ensures desk { OnOk result (desk.new ≡ (taken setting.now at sheets.now (next_number table.old.opened) signal table.old.entries desk.old).desk) }
+/// The place of the call that a signal is of.
+fn place_of(table: &CallTable, alloc: Global, signal: &Signal) -> Result<Option<usize>, NoMemory>
+    ensures { IfOk result (λ place. place ≡ place_of signal.now table.now.entries) }
+{
+    match signal {
+        Signal::Arrived { .. } => Ok(None),
+        Signal::Request { call, .. } => Ok(table.place_of(*call)),
+        Signal::Ack { call, .. } => Ok(table.place_of(*call)),
+        Signal::Cancel { call, .. } => Ok(table.place_of(*call)),
+        Signal::Answer { response, .. } => place_answered(table, alloc, response),
+        Signal::Silent { branch, method } => {
+            Ok(place_sent(table, invite_silent(branch.bytes(), method.bytes())))
+        }
+        Signal::Due { call, .. } => Ok(table.place_of(*call)),
+        Signal::Over { key } => Ok(place_heard(table, *key)),
+    }
+}
+
+/// The INVITE that the call of a signal has more, if it is one.
+fn invite_of(signal: &Signal) -> Option<InviteKey>
+    ensures { option_to_list result ≡ invites_of signal.now }
+{
+    match signal {
+        Signal::Request {
+            side,
+            key,
+            request,
+            ..
+        } => invite_by(*side, *key, request),
+        _ => None,
+    }
+}
+
+/// What a signal is for the calls.
+#[derive(Drop)]
+pub enum Meaning {
+    /// It opens one.
+    Opens(Arrival),
+    /// One of them hears it.
+    Hears(CallSignal),
+}
+
+/// What a signal is for the calls, where the next that is opened has this number.
+fn meaning_of(number: CallNo, signal: Signal) -> Meaning
+    ensures { result ≡ meaning_of number.0 signal }
 {
     match signal {
         Signal::Arrived {
@@ -266,70 +277,67 @@ pub fn take(
             served,
             registration,
             identities,
-        } => {
-            let arrival = Arrival {
-                number: table.next_number(),
-                key,
-                invite,
-                served,
-                registration,
-                identities,
-            };
-            open(table, alloc, setting, sheets, at, arrival, desk)
-        }
+        } => Meaning::Opens(Arrival {
+            number,
+            key,
+            invite,
+            served,
+            registration,
+            identities,
+        }),
         Signal::Request {
-            call,
+            call: _,
             side,
             key,
             request,
-        } => {
-            let invite = invite_by(side, key, &request);
-            let signal = CallSignal::Request { side, key, request };
-            hear_numbered(
-                table, alloc, setting, sheets, at, call, signal, invite, desk,
-            )
-        }
-        Signal::Ack { call, side, ack } => {
-            let signal = CallSignal::Ack { side, ack };
-            hear_numbered(table, alloc, setting, sheets, at, call, signal, None, desk)
-        }
+        } => Meaning::Hears(CallSignal::Request { side, key, request }),
+        Signal::Ack { call: _, side, ack } => Meaning::Hears(CallSignal::Ack { side, ack }),
         Signal::Cancel {
-            call,
+            call: _,
             key,
             cancel,
             invite,
-        } => {
-            let signal = CallSignal::Cancel {
-                key,
-                cancel,
-                invite,
-            };
-            hear_numbered(table, alloc, setting, sheets, at, call, signal, None, desk)
+        } => Meaning::Hears(CallSignal::Cancel {
+            key,
+            cancel,
+            invite,
+        }),
+        Signal::Answer { key, response } => Meaning::Hears(CallSignal::Answer { key, response }),
+        Signal::Silent { branch, method } => Meaning::Hears(CallSignal::Silent { branch, method }),
+        Signal::Due { call: _, what } => Meaning::Hears(CallSignal::Due { what }),
+        Signal::Over { key } => Meaning::Hears(CallSignal::Ended { key }),
+    }
+}
+
+/// The calls once they heard a signal; one that is opened has the next number.
+#[tactic(auto, using(crate::proofs::Meanings::taken_by_meaning, crate::proofs::Meanings::place_within, crate::proofs::Meanings::opens, crate::proofs::Meanings::hears))]
+pub fn take(
+    table: &mut CallTable,
+    step: &Step<'_>,
+    signal: Signal,
+    desk: &mut Desk,
+) -> Result<(), NoMemory>
+    ensures table { OnOk result (table.new ≡ record table.old {
+      entries =
+          (taken step.now.setting.now step.now.at step.now.sheets.now (next_number table.old.opened) signal
+          table.old.entries desk.old).entries;
+      opened =
+          opened_after signal table.old.opened;
+    }) }
+    ensures desk { OnOk result (desk.new
+        ≡ (taken step.now.setting.now step.now.at step.now.sheets.now (next_number table.old.opened) signal
+        table.old.entries desk.old).desk) }
+{
+    let place = match place_of(table, step.alloc, &signal) {
+        Ok(place) => place,
+        Err(error) => {
+            drop(signal);
+            return Err(error);
         }
-        Signal::Answer { key, response } => {
-            let place = match place_answered(table, alloc, &response) {
-                Ok(place) => place,
-                Err(error) => {
-                    drop(response);
-                    return Err(error);
-                }
-            };
-            let signal = CallSignal::Answer { key, response };
-            hear(table, alloc, setting, sheets, at, place, signal, None, desk)
-        }
-        Signal::Silent { branch, method } => {
-            let place = place_sent(table, invite_silent(branch.bytes(), method.bytes()));
-            let signal = CallSignal::Silent { branch, method };
-            hear(table, alloc, setting, sheets, at, place, signal, None, desk)
-        }
-        Signal::Due { call, what } => {
-            let signal = CallSignal::Due { what };
-            hear_numbered(table, alloc, setting, sheets, at, call, signal, None, desk)
-        }
-        Signal::Over { key } => {
-            let place = place_heard(table, key);
-            let signal = CallSignal::Ended { key };
-            hear(table, alloc, setting, sheets, at, place, signal, None, desk)
-        }
+    };
+    let invite = invite_of(&signal);
+    match meaning_of(table.next_number(), signal) {
+        Meaning::Opens(arrival) => open(table, step, arrival, desk),
+        Meaning::Hears(signal) => hear(table, step, place, signal, invite, desk),
     }
 }

@@ -1,11 +1,11 @@
 //! The table of calls.
-ghost use Rattle.std.specs.Prelude.{◌≡◌, ◌≤◌, ◌∷◌, ◌++◌, [], ℕ, true, false, length, List, IfErr, IfOk, IsErr, None, OnErr, OnOk, Some, Err, MatchResult};
+ghost use Rattle.std.specs.Prelude.{◌≡◌, ◌≤◌, ◌∷◌, ◌++◌, true, false, length, List, IfErr, IfOk, IsErr, None, OnOk, Some, Err, MatchResult};
 ghost use Rattle.std.specs.Prelude.{count_by, is_some, nat_le, position};
 ghost use Rattle.std.specs.Option.{option_copied};
 ghost use Rattle.mmtel_b2bua.specs.Entries.{heard_by as had_answer_by, is_live, sent_it};
-ghost use Rattle.mmtel_b2bua.specs.Histories.{CallsView, Deed, Drops, Finishes, Heard, Hears, Releases, Restores, Stands, after_finishing, after_hearing, brought_forth};
-ghost use Rattle.mmtel_b2bua.specs.Histories.{finished_by, hears_after, heard_by, site_of, table_after};
-ghost use Rattle.mmtel_b2bua.specs.Lending.{ended, entry_of, is_away, leg_out, takes_back};
+ghost use Rattle.mmtel_b2bua.specs.Histories.{CallsView, Deed, Drops, Finishes, Hears, Releases, Restores, Stands};
+ghost use Rattle.mmtel_b2bua.specs.Histories.{finished_by, hears_after, site_of, table_after};
+ghost use Rattle.mmtel_b2bua.specs.Lending.{entry_of, is_away, leg_out, takes_back};
 ghost use Rattle.mmtel_b2bua.specs.Names.{first_side, live, party, side_asking, side_named};
 ghost use Rattle.mmtel_b2bua.specs.Tables.{is_full, most_calls, no_calls, opened_after, taken, with_moved};
 ghost use Rattle.mmtel_desk.specs.Desks.{fresh};
@@ -14,16 +14,16 @@ ghost use Rattle.mmtel_scan.specs.Numbers.{next_number};
 ghost use Rattle.mmtel_trust.specs.Peers.{Peers};
 ghost use Rattle.mmtel_trust.specs.declared.accounts.AccountIdentity.{AccountIdentity};
 
-use crate::asked::{self, DialogName};
 use crate::call_table::CallTable;
-use crate::lending;
 use crate::moves::{place_heard, place_sent, take};
 use crate::signals::{CallFault, Signal};
+use crate::steps::Step;
+use crate::{asked, lending};
 use mmtel_call::NotTalking;
 use mmtel_call_decisions::Setting;
 use mmtel_charging::Row;
 use mmtel_desk::Desk;
-use mmtel_leg::Released;
+use mmtel_leg::{DialogName, Released};
 use mmtel_scan::{NoMemory, Text};
 use mmtel_sheet_values::SheetView;
 use mmtel_transaction::{Emits, TKey, Tokens};
@@ -93,6 +93,81 @@ fn setting_of<'a>(
     }
 }
 
+/// Keeps the rows that a step closed, and gives what goes out.
+fn settle(table: &mut CallTable, alloc: Global, desk: Desk) -> Result<Emits, NoMemory>
+    ensures kept { OnOk result (table.new ≡ record table.old { rows = table.old.rows ++ desk.rows }) }
+    ensures emits { IfOk result (λ out. out ≡ desk.out) }
+{
+    let Desk { tokens, out, rows } = desk;
+    drop(tokens);
+    match table.keep_rows(alloc, rows) {
+        Ok(()) => Ok(out),
+        Err(error) => {
+            drop(out);
+            Err(error)
+        }
+    }
+}
+
+/// The calls hear a signal, and keep the rows that it closed; these tokens are drawn from.
+fn hear(
+    table: &mut CallTable,
+    step: &Step<'_>,
+    signal: Signal,
+    tokens: &mut Tokens,
+) -> Result<Emits, NoMemory>
+    ensures done { OnOk result (table.new
+        ≡ with_moved (taken step.now.setting.now step.now.at step.now.sheets.now
+        (next_number table.old.opened) signal table.old.entries
+        (fresh tokens.old)) (opened_after signal table.old.opened) table.old) }
+    ensures emits { IfOk result (λ out. out
+        ≡ (taken step.now.setting.now step.now.at step.now.sheets.now
+        (next_number table.old.opened) signal table.old.entries
+        (fresh tokens.old)).desk.out) }
+    ensures tokens { OnOk result (tokens.new
+        ≡ (taken step.now.setting.now step.now.at step.now.sheets.now
+        (next_number table.old.opened) signal table.old.entries
+        (fresh tokens.old)).desk.tokens) }
+{
+    let mut desk = Desk::new(mem::replace(tokens, Tokens::new(Text::new())));
+    let heard = take(table, step, signal, &mut desk);
+    mem::swap(tokens, &mut desk.tokens);
+    match heard {
+        Ok(()) => settle(table, step.alloc, desk),
+        Err(error) => {
+            drop(desk);
+            Err(error)
+        }
+    }
+}
+
+/// The call of this number, whose leg is away, ends, and its rows are kept; these tokens are drawn from.
+fn finish(
+    table: &mut CallTable,
+    alloc: Global,
+    setting: &Setting<'_>,
+    at: Moment,
+    call: CallNo,
+    tokens: &mut Tokens,
+) -> Result<Emits, NoMemory>
+    requires { is_away (entry_of call.0 table.old.entries) ≡ true }
+    ensures done { OnOk result (table.new
+        ≡ with_moved (finished_by setting.now call.0 at tokens.old table.old) table.old.opened table.old) }
+    ensures emits { IfOk result (λ out. out ≡ (finished_by setting.now call.0 at tokens.old table.old).desk.out) }
+    ensures tokens { OnOk result (tokens.new ≡ (finished_by setting.now call.0 at tokens.old table.old).desk.tokens) }
+{
+    let mut desk = Desk::new(mem::replace(tokens, Tokens::new(Text::new())));
+    let finished = lending::finish(table, alloc, setting, at, call, &mut desk);
+    mem::swap(tokens, &mut desk.tokens);
+    match finished {
+        Ok(()) => settle(table, alloc, desk),
+        Err(error) => {
+            drop(desk);
+            Err(error)
+        }
+    }
+}
+
 impl Calls {
     /// No calls yet, for the home domain, the server's address, the bound on the diversions of a call (TS 24.604 §4.5.2.6), and the digits of the home country, where they
     /// are known.
@@ -120,85 +195,6 @@ impl Calls {
         })
     }
 
-    /// The calls hear a signal.
-    fn hear(
-        &mut self,
-        alloc: Global,
-        signal: Signal,
-        sheets: &SheetView,
-        peers: &PeerTable,
-        accounts: &Accounts,
-        now: Moment,
-        desk: &mut Desk,
-    ) -> Result<(), NoMemory>
-        ensures done { OnOk result (self.new
-            ≡ record self.old {
-              table = record self.old.table {
-                entries =
-                    (taken (site_of self.old peers.now accounts.now) now sheets.now (next_number self.old.table.opened) signal self.old.table.entries desk.old).entries;
-                opened =
-                    opened_after signal self.old.table.opened;
-              };
-            }) }
-        ensures desk { OnOk result (desk.new
-            ≡ (taken (site_of self.old peers.now accounts.now) now sheets.now (next_number self.old.table.opened) signal self.old.table.entries desk.old).desk) }
-    {
-        let setting = setting_of(
-            self.sip,
-            &self.home,
-            self.bound,
-            &self.country,
-            peers,
-            accounts,
-        );
-        take(&mut self.table, alloc, &setting, sheets, now, signal, desk)
-    }
-
-    /// Keeps the rows that a step closed, and gives what goes out.
-    fn settle(&mut self, alloc: Global, desk: Desk) -> Result<Emits, NoMemory>
-        ensures kept { OnOk result (self.new ≡ record self.old { table = record self.old.table { rows = self.old.table.rows ++ desk.rows } }) }
-        ensures emits { IfOk result (λ out. out ≡ desk.out) }
-    {
-        let Desk { tokens, out, rows } = desk;
-        drop(tokens);
-        match self.table.keep_rows(alloc, rows) {
-            Ok(()) => Ok(out),
-            Err(error) => {
-                drop(out);
-                Err(error)
-            }
-        }
-    }
-
-    /// The calls hear a signal, and keep the rows that it closed; these tokens are drawn from.
-    fn hear_with(
-        &mut self,
-        alloc: Global,
-        signal: Signal,
-        sheets: &SheetView,
-        peers: &PeerTable,
-        accounts: &Accounts,
-        tokens: &mut Tokens,
-        now: Moment,
-    ) -> Result<Emits, NoMemory>
-        ensures done { OnOk result (self.new ≡ after_hearing peers.now accounts.now (record { at = now; view = sheets.now; tokens = tokens.old; signal = signal }) self.old) }
-        ensures emits { IfOk result (λ out. out
-            ≡ (brought_forth peers.now accounts.now (record { at = now; view = sheets.now; tokens = tokens.old; signal = signal }) self.old).out) }
-        ensures tokens { OnOk result (tokens.new
-            ≡ (brought_forth peers.now accounts.now (record { at = now; view = sheets.now; tokens = tokens.old; signal = signal }) self.old).tokens) }
-    {
-        let mut desk = Desk::new(mem::replace(tokens, Tokens::new(Text::new())));
-        let heard = self.hear(alloc, signal, sheets, peers, accounts, now, &mut desk);
-        mem::swap(tokens, &mut desk.tokens);
-        match heard {
-            Ok(()) => self.settle(alloc, desk),
-            Err(error) => {
-                drop(desk);
-                Err(error)
-            }
-        }
-    }
-
     /// The calls hear a signal: the call that it is of takes its step by the step table of a call, or one is opened (RFC 3261 §12 to §15, TS 24.604 §4.5.2.6).
     ///
     /// # Errors
@@ -216,17 +212,23 @@ impl Calls {
         now: Moment,
     ) -> Result<Emits, CallFault>
         ensures done { OnOk result ((deeds : List Deed) → Stands peers.now accounts.now self.old deeds →
-            Stands peers.now accounts.now self.new (Hears (record { at = now; view = sheets.now; tokens = tokens.old; signal = signal }) ∷ deeds)) }
+            Stands peers.now accounts.now self.new (Hears
+            (record { at = now; view = sheets.now; tokens = tokens.old; signal = signal }) ∷ deeds)) }
         ensures emits { IfOk result (λ out. (deeds : List Deed) → Stands peers.now accounts.now self.old deeds →
-            out ≡ (hears_after (site_of self.old peers.now accounts.now) deeds (record { at = now; view = sheets.now; tokens = tokens.old; signal = signal })).desk.out) }
+            out ≡ (hears_after (site_of self.old peers.now accounts.now) deeds
+            (record { at = now; view = sheets.now; tokens = tokens.old; signal = signal })).desk.out) }
         ensures tokens { OnOk result ((deeds : List Deed) → Stands peers.now accounts.now self.old deeds →
             tokens.new ≡
-            (hears_after (site_of self.old peers.now accounts.now) deeds (record { at = now; view = sheets.now; tokens = tokens.old; signal = signal })).desk.tokens) }
-        ensures site { OnOk result ((peers : Peers) (accounts : List AccountIdentity) → site_of self.new peers accounts ≡ site_of self.old peers accounts) }
+            (hears_after (site_of self.old peers.now accounts.now) deeds
+            (record { at = now; view = sheets.now; tokens = tokens.old; signal = signal })).desk.tokens) }
+        ensures site { OnOk result ((peers : Peers) (accounts : List AccountIdentity) →
+            site_of self.new peers accounts ≡ site_of self.old peers accounts) }
         ensures full { self.old.has_failed ≡ false → is_full signal self.old.table.entries ≡ true →
             (result ≡ Err (CallFault.Full signal)) × ((self.new ≡ self.old) × (tokens.new ≡ tokens.old)) }
-        ensures fails { self.old.has_failed ≡ false → is_full signal self.old.table.entries ≡ false → IfErr result (λ e. (e ≡ CallFault.NoMemory) × (self.new.has_failed ≡ true)) }
-        ensures stuck { self.old.has_failed ≡ true → (result ≡ Err CallFault.NoMemory) × ((self.new ≡ self.old) × (tokens.new ≡ tokens.old)) }
+        ensures fails { self.old.has_failed ≡ false → is_full signal self.old.table.entries ≡ false →
+            IfErr result (λ e. (e ≡ CallFault.NoMemory) × (self.new.has_failed ≡ true)) }
+        ensures stuck { self.old.has_failed ≡ true → (result ≡ Err CallFault.NoMemory) ×
+            ((self.new ≡ self.old) × (tokens.new ≡ tokens.old)) }
     {
         if self.has_failed {
             drop(signal);
@@ -235,7 +237,21 @@ impl Calls {
         if is_full(&signal, &self.table) {
             return Err(CallFault::Full(signal));
         }
-        match self.hear_with(alloc, signal, sheets, peers, accounts, tokens, now) {
+        let setting = setting_of(
+            self.sip,
+            &self.home,
+            self.bound,
+            &self.country,
+            peers,
+            accounts,
+        );
+        let step = Step {
+            alloc,
+            setting: &setting,
+            sheets,
+            at: now,
+        };
+        match hear(&mut self.table, &step, signal, tokens) {
             Ok(out) => Ok(out),
             Err(_) => {
                 self.has_failed = true;
@@ -246,7 +262,8 @@ impl Calls {
 
     /// How many calls the account has: once for each that it makes, and once for each that is offered to it or that it answered.
     pub fn live(&self, account: Account) -> u32
-        ensures { (peers : Peers) (accounts : List AccountIdentity) (deeds : List Deed) → Stands peers accounts self.now deeds →
+        ensures { (peers : Peers) (accounts : List AccountIdentity) (deeds : List Deed) →
+            Stands peers accounts self.now deeds →
             result ≡ live account.0 (table_after (site_of self.now peers accounts) deeds).entries }
     {
         self.table.live(account)
@@ -261,8 +278,10 @@ impl Calls {
 
     /// The call and the side whose dialog has this Call-ID, this tag of the server and this tag of the other side (RFC 3261 §12.2.2).
     pub fn find(&self, call_id: &[u8], local: &[u8], remote: &[u8]) -> Option<(CallNo, Side)>
-        ensures { (peers : Peers) (accounts : List AccountIdentity) (deeds : List Deed) → Stands peers accounts self.now deeds →
-            result ≡ first_side (side_named call_id.now local.now remote.now) (table_after (site_of self.now peers accounts) deeds).entries }
+        ensures { (peers : Peers) (accounts : List AccountIdentity) (deeds : List Deed) →
+            Stands peers accounts self.now deeds →
+            result ≡ first_side (side_named call_id.now local.now remote.now)
+            (table_after (site_of self.now peers accounts) deeds).entries }
     {
         let name = DialogName {
             call_id,
@@ -274,7 +293,8 @@ impl Calls {
 
     /// The call that lives and the side whose INVITE opened this server transaction (RFC 3261 §9.2).
     pub fn asked_by(&self, invite: TKey) -> Option<(CallNo, Side)>
-        ensures { (peers : Peers) (accounts : List AccountIdentity) (deeds : List Deed) → Stands peers accounts self.now deeds →
+        ensures { (peers : Peers) (accounts : List AccountIdentity) (deeds : List Deed) →
+            Stands peers accounts self.now deeds →
             result ≡ first_side (side_asking invite) (table_after (site_of self.now peers accounts) deeds).entries }
     {
         asked::asked_by(&self.table, invite)
@@ -296,7 +316,8 @@ impl Calls {
 
     /// The peer of a side's leg, and the account that is served there; None exactly where the call does not live or that side has no leg.
     pub fn party(&self, call: CallNo, side: Side) -> Option<(Peer, Option<Account>)>
-        ensures { (peers : Peers) (accounts : List AccountIdentity) (deeds : List Deed) → Stands peers accounts self.now deeds →
+        ensures { (peers : Peers) (accounts : List AccountIdentity) (deeds : List Deed) →
+            Stands peers accounts self.now deeds →
             result ≡ party call.0 side (table_after (site_of self.now peers accounts) deeds).entries }
     {
         asked::party(&self.table, call, side)
@@ -304,7 +325,8 @@ impl Calls {
 
     /// The rows of calls that are over and that were not handed over, in the order in which they were closed.
     pub fn rows_waiting(&self) -> &[Row]
-        ensures rows { (peers : Peers) (accounts : List AccountIdentity) (deeds : List Deed) → Stands peers accounts self.now deeds →
+        ensures rows { (peers : Peers) (accounts : List AccountIdentity) (deeds : List Deed) →
+            Stands peers accounts self.now deeds →
             result.now ≡ (table_after (site_of self.now peers accounts) deeds).rows }
         ensures kept { result.now ≡ self.now.table.rows }
     {
@@ -314,9 +336,11 @@ impl Calls {
     /// So many of the rows that wait were handed over.
     pub fn drop_rows(&mut self, count: usize)
         requires { count ≤ length self.old.table.rows }
-        ensures done { (peers : Peers) (accounts : List AccountIdentity) (deeds : List Deed) → Stands peers accounts self.old deeds →
+        ensures done { (peers : Peers) (accounts : List AccountIdentity) (deeds : List Deed) →
+            Stands peers accounts self.old deeds →
             Stands peers accounts self.new (Drops count ∷ deeds) }
-        ensures site { (peers : Peers) (accounts : List AccountIdentity) → site_of self.new peers accounts ≡ site_of self.old peers accounts }
+        ensures site { (peers : Peers) (accounts : List AccountIdentity) →
+            site_of self.new peers accounts ≡ site_of self.old peers accounts }
     {
         self.table.drop_rows(count);
     }
@@ -328,10 +352,13 @@ impl Calls {
     /// `NotTalking` exactly where the call does not talk, or a leg of it is away.
     #[tactic(auto, using(crate::proofs::Away::without_meter))]
     pub fn release(&mut self, call: CallNo, side: Side) -> Result<Released, NotTalking>
-        ensures done { (peers : Peers) (accounts : List AccountIdentity) (deeds : List Deed) → Stands peers accounts self.old deeds →
+        ensures done { (peers : Peers) (accounts : List AccountIdentity) (deeds : List Deed) →
+            Stands peers accounts self.old deeds →
             Stands peers accounts self.new (Releases call.0 side ∷ deeds) }
-        ensures site { (peers : Peers) (accounts : List AccountIdentity) → site_of self.new peers accounts ≡ site_of self.old peers accounts }
-        ensures leg { MatchResult result (λ leg. leg_out call.0 side self.old.table.entries ≡ Some leg) (λ refused. leg_out call.0 side self.old.table.entries ≡ None) }
+        ensures site { (peers : Peers) (accounts : List AccountIdentity) →
+            site_of self.new peers accounts ≡ site_of self.old peers accounts }
+        ensures leg { MatchResult result (λ leg. leg_out call.0 side self.old.table.entries ≡ Some leg)
+            (λ refused. leg_out call.0 side self.old.table.entries ≡ None) }
         ensures away { IfOk result (λ leg. is_away (entry_of call.0 self.new.table.entries) ≡ true) }
         ensures fits { IfOk result (λ leg. takes_back leg (entry_of call.0 self.new.table.entries) ≡ true) }
         ensures meter { IfOk result (λ leg. (released_leg leg).meter ≡ None) }
@@ -343,46 +370,13 @@ impl Calls {
     pub fn restore(&mut self, call: CallNo, away: Released)
         requires fits { takes_back away (entry_of call.0 self.old.table.entries) ≡ true }
         requires meter { (released_leg away).meter ≡ None }
-        ensures site { (peers : Peers) (accounts : List AccountIdentity) → site_of self.new peers accounts ≡ site_of self.old peers accounts }
-        ensures done { (peers : Peers) (accounts : List AccountIdentity) (deeds : List Deed) → Stands peers accounts self.old deeds →
+        ensures site { (peers : Peers) (accounts : List AccountIdentity) →
+            site_of self.new peers accounts ≡ site_of self.old peers accounts }
+        ensures done { (peers : Peers) (accounts : List AccountIdentity) (deeds : List Deed) →
+            Stands peers accounts self.old deeds →
             Stands peers accounts self.new (Restores call.0 away ∷ deeds) }
     {
         lending::restore(&mut self.table, call, away);
-    }
-
-    /// The call of this number, whose leg is away, ends, and its rows are kept.
-    fn finish_with(
-        &mut self,
-        alloc: Global,
-        call: CallNo,
-        peers: &PeerTable,
-        accounts: &Accounts,
-        tokens: &mut Tokens,
-        now: Moment,
-    ) -> Result<Emits, NoMemory>
-        requires { is_away (entry_of call.0 self.old.table.entries) ≡ true }
-        ensures done { OnOk result (self.new ≡ after_finishing peers.now accounts.now call.0 now tokens.old self.old) }
-        ensures emits { IfOk result (λ out. out ≡ (finished_by (site_of self.old peers.now accounts.now) call.0 now tokens.old self.old.table).desk.out) }
-        ensures tokens { OnOk result (tokens.new ≡ (finished_by (site_of self.old peers.now accounts.now) call.0 now tokens.old self.old.table).desk.tokens) }
-    {
-        let setting = setting_of(
-            self.sip,
-            &self.home,
-            self.bound,
-            &self.country,
-            peers,
-            accounts,
-        );
-        let mut desk = Desk::new(mem::replace(tokens, Tokens::new(Text::new())));
-        let finished = lending::finish(&mut self.table, alloc, &setting, now, call, &mut desk);
-        mem::swap(tokens, &mut desk.tokens);
-        match finished {
-            Ok(()) => self.settle(alloc, desk),
-            Err(error) => {
-                drop(desk);
-                Err(error)
-            }
-        }
     }
 
     /// Ends a call whose leg is away: BYE to the leg that is left, and its rows are closed; the tokens have drawn what that took.
@@ -404,17 +398,29 @@ impl Calls {
         ensures done { OnOk result ((deeds : List Deed) → Stands peers.now accounts.now self.old deeds →
             Stands peers.now accounts.now self.new (Finishes call.0 now tokens.old ∷ deeds)) }
         ensures emits { IfOk result (λ out. (deeds : List Deed) → Stands peers.now accounts.now self.old deeds →
-            out ≡ (finished_by (site_of self.old peers.now accounts.now) call.0 now tokens.old (table_after (site_of self.old peers.now accounts.now) deeds)).desk.out) }
+            out ≡ (finished_by (site_of self.old peers.now accounts.now) call.0 now tokens.old
+            (table_after (site_of self.old peers.now accounts.now) deeds)).desk.out) }
         ensures tokens { OnOk result ((deeds : List Deed) → Stands peers.now accounts.now self.old deeds →
-            tokens.new ≡ (finished_by (site_of self.old peers.now accounts.now) call.0 now tokens.old (table_after (site_of self.old peers.now accounts.now) deeds)).desk.tokens) }
-        ensures site { OnOk result ((peers : Peers) (accounts : List AccountIdentity) → site_of self.new peers accounts ≡ site_of self.old peers accounts) }
+            tokens.new ≡ (finished_by (site_of self.old peers.now accounts.now) call.0 now tokens.old
+            (table_after (site_of self.old peers.now accounts.now) deeds)).desk.tokens) }
+        ensures site { OnOk result ((peers : Peers) (accounts : List AccountIdentity) →
+            site_of self.new peers accounts ≡ site_of self.old peers accounts) }
         ensures fails { IfErr result (λ e. (self.old.has_failed ≡ false → self.new.has_failed ≡ true)) }
-        ensures stuck { self.old.has_failed ≡ true → IsErr result × ((self.new ≡ self.old) × (tokens.new ≡ tokens.old)) }
+        ensures stuck { self.old.has_failed ≡ true → IsErr result ×
+            ((self.new ≡ self.old) × (tokens.new ≡ tokens.old)) }
     {
         if self.has_failed {
             return Err(NoMemory);
         }
-        let finished = self.finish_with(alloc, call, peers, accounts, tokens, now);
+        let setting = setting_of(
+            self.sip,
+            &self.home,
+            self.bound,
+            &self.country,
+            peers,
+            accounts,
+        );
+        let finished = finish(&mut self.table, alloc, &setting, now, call, tokens);
         if finished.is_err() {
             self.has_failed = true;
         }

@@ -6,17 +6,17 @@ use Rattle.mmtel_desk.specs.Sending.{final_acked}
 use Rattle.mmtel_leg.specs.Legs.{Leg}
 use Rattle.mmtel_precedence.specs.Attempts.{end_by_final, rings}
 use Rattle.mmtel_precedence.specs.Calls.{End, NotReachable, Standing}
-use Rattle.mmtel_precedence.specs.Services.{DueDiversion, is_reached}
+use Rattle.mmtel_precedence.specs.Services.{DueDiversion}
 use Rattle.mmtel_precedence.specs.Turns.{AfterEnd, EndAnswered, EndDivert, EndRefuse, Turn, TurnDivert, TurnOffer, TurnRefuse}
+use Rattle.mmtel_precedence.specs.Verdicts.{too_many}
 use Rattle.mmtel_targets.specs.declared.targets.Target.{Target}
 use Rattle.mmtel_transaction.specs.declared.words.TKey.{TKey}
 use Rattle.mmtel_types.specs.declared.causes.Cause.{Cause}
-use Rattle.mmtel_types.specs.declared.numbers.Peer.{Peer}
-use Rattle.mmtel_call_decisions.specs.Decisions.{decided_after, decided_at, handed_on, is_barred, is_status, its_sheet, peer_for, redirect_of, service_at, target_of, time_of}
+use Rattle.mmtel_call_decisions.specs.Decisions.{decided_after, decided_at, handed_on, is_status, its_sheet, peer_for, redirect_of, service_at, target_of, time_of}
 use Rattle.mmtel_call_decisions.specs.Site.{Site}
 use Rattle.mmtel_call.specs.Calls.{Attempt, Call, Offered, Phase, Service, Trial}
 use Rattle.mmtel_call.specs.Closing.{Step, onward, over, with_past}
-use Rattle.mmtel_call.specs.Diverting.{at_target, divert, diverted, goes_on, is_diverted, made, offer_where, on_end, on_turn, passed_by, refused, told_of, too_many, unless_barred, unless_reached}
+use Rattle.mmtel_call.specs.Diverting.{at_target, divert, diverted, goes_on, is_diverted, made, made_unless, on_end, on_turn, passed_by, refusal_by, refused, told_of}
 use Rattle.mmtel_call.specs.Ringing.{answered, armed_in, callee_after, cancelled_attempt, early_said, failed, having_met, left, noted, on_response, proceeding, ringing, silenced, timed_out, tried}
 use Rattle.mmtel_call.specs.Sending.{relayed_to_caller}
 
@@ -26,10 +26,6 @@ use Rattle.mmtel_call.specs.Sending.{relayed_to_caller}
 abbrev refused_if : Bool → Site → (at : ℕ) → Leg → Option Service → Said → Cause → Call → Desk → Step
 refused_if same site at caller service m cause c desk =
     if same then over at cause caller.meter None c (relayed_to_caller site c service m desk) else refused site at caller cause c desk
-
--- a bound that is reached refuses it
-abbrev stopped_if : Bool → DueDiversion → (going : Call → Desk → Step) → Site → (at : ℕ) → Leg → Call → Desk → Step
-stopped_if reached due going site at caller c desk = if reached then refused site at caller (too_many due) c desk else going c desk
 
 -- a response, by its kind
 abbrev on_response_if : (trying provisional success : Bool) → Site → Standing → Trial → TKey → Said → ℕ → Call → Desk → Step
@@ -45,43 +41,31 @@ IsAlike f p c desk = f (record c { phase = p }) desk ≡ f c desk
 
 -- ---- at a target
 
-offer_alike : (peer : Option Peer) (site : Site) (at : ℕ) (caller : Leg) (service : Option Service) (waiting : Bool) (cause : Option ℕ) (target : Target) (p : Phase) (c : Call) (desk : Desk) → IsAlike (offer_where peer site at caller service waiting cause target) p c desk
-offer_alike None site at caller service waiting cause target p c desk = refl
-offer_alike (Some peer) site at caller service waiting cause target p c desk = refl
-
-turn_alike : (on : Option Service → DueDiversion → Call → Desk → Step) (p : Phase) (desk : Desk) → ((service : Option Service) (due : DueDiversion) (c : Call) → IsAlike (on service due) p c desk) → (site : Site) (at : ℕ) (caller : Leg) (service : Option Service) (peer : Option Peer) (cause : Option ℕ) (target : Target) (turn : Turn) (c : Call) → IsAlike (on_turn on site at caller service peer cause target turn) p c desk
-turn_alike on p desk alike site at caller service peer cause target (TurnOffer waiting) c = offer_alike peer site at caller service waiting cause target p c desk
-turn_alike on p desk alike site at caller service peer cause target (TurnDivert due) c = alike service due (passed_by at service c)
-turn_alike on p desk alike site at caller service peer cause target (TurnRefuse why) c = refl
+turn_alike : (on : Option Service → DueDiversion → Call → Desk → Step) (p : Phase) (desk : Desk) → ((service : Option Service) (due : DueDiversion) (c : Call) → IsAlike (on service due) p c desk) → (site : Site) (at : ℕ) (caller : Leg) (service : Option Service) (cause : Option ℕ) (target : Target) (turn : Turn) (c : Call) → IsAlike (on_turn on site at caller service cause target turn) p c desk
+turn_alike on p desk alike site at caller service cause target (TurnOffer peer waiting) c = refl
+turn_alike on p desk alike site at caller service cause target (TurnDivert due) c = alike service due (passed_by at service c)
+turn_alike on p desk alike site at caller service cause target (TurnRefuse why) c = refl
 
 target_alike : (on : Option Service → DueDiversion → Call → Desk → Step) (p : Phase) (desk : Desk) → ((service : Option Service) (due : DueDiversion) (c : Call) → IsAlike (on service due) p c desk) → (site : Site) (now : Standing) (caller : Leg) (cause : Option ℕ) (target : Target) (c : Call) → IsAlike (at_target on site now caller cause target) p c desk
 target_alike on p desk alike site now caller cause target c =
-    turn_alike on p desk alike site now.at caller (service_at site now c.opening cause target) (peer_for site c.opening target) cause target
+    turn_alike on p desk alike site now.at caller (service_at site now c.opening cause target) cause target
     (decided_at site now c.opening (is_diverted c) cause target (service_at site now c.opening cause target) (peer_for site c.opening target)) c
 
-barred_alike : (barred : Bool) (going : Call → Desk → Step) (site : Site) (at : ℕ) (caller : Leg) (p : Phase) (c : Call) (desk : Desk) → IsAlike going p c desk → IsAlike (unless_barred barred going site at caller) p c desk
-barred_alike true going site at caller p c desk alike = refl
-barred_alike false going site at caller p c desk alike = alike
-
-reached_if_alike : (reached : Bool) (going : Call → Desk → Step) (site : Site) (at : ℕ) (caller : Leg) (due : DueDiversion) (p : Phase) (c : Call) (desk : Desk) → IsAlike going p c desk → IsAlike (stopped_if reached due going site at caller) p c desk
-reached_if_alike true going site at caller due p c desk alike = refl
-reached_if_alike false going site at caller due p c desk alike = alike
-
-reached_alike : (due : DueDiversion) (going : Call → Desk → Step) (site : Site) (at : ℕ) (caller : Leg) (p : Phase) (c : Call) (desk : Desk) → IsAlike going p c desk → IsAlike (unless_reached due going site at caller) p c desk
-reached_alike due going site at caller p c desk alike = reached_if_alike (is_reached due.bound c.diversions.count) going site at caller due p c desk alike
+unless_alike : (refusal : Option Cause) (going : Call → Desk → Step) (site : Site) (at : ℕ) (caller : Leg) (p : Phase) (c : Call) (desk : Desk) → IsAlike going p c desk → IsAlike (made_unless refusal going site at caller) p c desk
+unless_alike (Some cause) going site at caller p c desk alike = refl
+unless_alike None going site at caller p c desk alike = alike
 
 divert_alike : (left : ℕ) (site : Site) (now : Standing) (caller : Leg) (service : Option Service) (due : DueDiversion) (p : Phase) (c : Call) (desk : Desk) → IsAlike (divert left site now caller service due) p c desk
 unfolding divert
 divert_alike zero site now caller service due p c desk =
-    barred_alike (is_barred site c.opening now.at service due) (refused site now.at caller (too_many due)) site now.at caller p c desk refl
+    unless_alike (refusal_by 0 site now.at service due c) (refused site now.at caller (too_many due.cause)) site now.at caller p c desk refl
 divert_alike (suc left) site now caller service due p c desk =
     let target : Target = target_of site due in
     let going : Call → Desk → Step = made (at_target (divert left site now caller) site now caller (Some due.cause) target) site target now.at left service due in
-    barred_alike (is_barred site c.opening now.at service due) (unless_reached due going site now.at caller) site now.at caller p c desk
-    (reached_alike due going site now.at caller p c desk
+    unless_alike (refusal_by (suc left) site now.at service due c) going site now.at caller p c desk
     (target_alike (divert left site now caller) p (told_of site due (diverted target now.at left service due c) desk)
     (λ s d e. divert_alike left site now caller s d p e (told_of site due (diverted target now.at left service due c) desk))
-    site now caller (Some due.cause) target (diverted target now.at left service due c)))
+    site now caller (Some due.cause) target (diverted target now.at left service due c))
 
 -- ---- after an attempt
 

@@ -12,7 +12,7 @@ use Rattle.mmtel_transaction.specs.declared.words.DueWord.TheVariants as due
 use Rattle.mmtel_types.specs.Sides.{other_of}
 use Rattle.mmtel_types.specs.declared.sides.Side.{Side}
 use Rattle.mmtel_types.specs.declared.sides.Side.TheVariants.{Caller, Callee}
-use Rattle.mmtel_call_decisions.specs.Requests.{is_same_number, is_same_side, number_of}
+use Rattle.mmtel_call_decisions.specs.Requests.{is_ack_of, is_same_side, number_of}
 use Rattle.mmtel_call_decisions.specs.Showing.{shown_to}
 use Rattle.mmtel_call_decisions.specs.Site.{Site}
 use Rattle.mmtel_call.specs.Calls.{Call, Pair, Parting, Stage, Stood, Success, Taken, Talking}
@@ -48,7 +48,7 @@ acked_and_left site x side desk = bye_to site x side (acked site.sip (leg_of sid
 
 -- the ACK of this side that has the number of its INVITE (§13.2.2.4)
 abbrev pub acknowledges : Side → Success → Side → Said → Bool
-acknowledges waiting success side m = is_same_side waiting side && is_same_number (number_of m) success.cseq
+acknowledges waiting success side m = is_ack_of waiting success.cseq side (number_of m)
 
 -- the text of the ACK of the INVITE of this branch is kept, since it goes out again for each repeat of the 2xx
 abbrev pub with_ack : (branch text : List ℕ) → Taken → Taken

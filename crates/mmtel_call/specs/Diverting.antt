@@ -1,21 +1,22 @@
 -- How a call goes on: it comes to one target after another until it is offered to one, or refused (TS 24.604 §4.5.2.6, RFC 7044 §7).
-use Rattle.std.specs.Prelude.{ℕ, zero, suc, ◌+◌, ◌==◌, nat_lt, not, Bool, List, if◌then◌else◌, Option, Some, None}
+use Rattle.std.specs.Prelude.{ℕ, zero, suc, nat_lt, Bool, List, if◌then◌else◌, Option, Some, None}
 use Rattle.mmtel_answers.specs.Said.{Said, status_of as status_in}
 use Rattle.mmtel_charging.specs.declared.rows.Kind.TheVariants.{Diversion, Terminating}
 use Rattle.mmtel_desk.specs.declared.desks.Desk.{Desk}
-use Rattle.mmtel_history.specs.HistoryInfo.{appended}
 use Rattle.mmtel_leg.specs.Dialogues.{request_uri}
 use Rattle.mmtel_leg.specs.Legs.{Leg}
 use Rattle.mmtel_lex.specs.Grammar.{uri_text}
 use Rattle.mmtel_precedence.specs.Calls.{End, Standing}
-use Rattle.mmtel_precedence.specs.Services.{DueDiversion, is_reached}
+use Rattle.mmtel_precedence.specs.Services.{DueDiversion}
 use Rattle.mmtel_precedence.specs.Turns.{AfterEnd, EndAnswered, EndDivert, EndRefuse, Turn, TurnDivert, TurnOffer, TurnRefuse}
+use Rattle.mmtel_precedence.specs.Verdicts.{too_many}
 use Rattle.mmtel_targets.specs.declared.targets.Target.{Target}
 use Rattle.mmtel_types.specs.Causes.{status_of}
 use Rattle.mmtel_types.specs.declared.causes.Cause.{Cause}
 use Rattle.mmtel_types.specs.declared.causes.Cause.TheVariants as causes
 use Rattle.mmtel_types.specs.declared.numbers.Peer.{Peer}
-use Rattle.mmtel_call_decisions.specs.Decisions.{aim_at, decided_after, decided_at, handed_on, is_barred, is_status, peer_for, service_at, target_of}
+use Rattle.mmtel_call_decisions.specs.Decisions.{aim_at, decided_after, decided_at, handed_on, is_status, peer_for, refusal_of_diversion, service_at, target_of}
+use Rattle.mmtel_call_decisions.specs.Diverted.{diverted_to}
 use Rattle.mmtel_call_decisions.specs.Site.{Site}
 use Rattle.mmtel_call.specs.Calls.{Call, Diverted, Service, Trial}
 use Rattle.mmtel_call.specs.Closing.{Step, meter_for, over, with_past}
@@ -39,13 +40,7 @@ refused_by site at caller service (Some m) cause c desk =
 
 -- one more was made, to this URI, and so many are left
 abbrev pub diverted_list : (uri : List ℕ) → (left : ℕ) → DueDiversion → Call → Diverted
-diverted_list uri left due c = record {
-  left = left;
-  count = c.diversions.count + 1;
-  history = appended c.diversions.history (request_uri c.opening.invite.heard.start) uri due.cause (not due.forward.reveal_to_target);
-  hides_diverting = not due.forward.reveal_served_to_caller;
-  hides_target = not due.forward.reveal_to_caller;
-}
+diverted_list uri left due c = diverted_to (request_uri c.opening.invite.heard.start) uri left due c.diversions
 
 -- by the account that is served
 abbrev pub diverted : Target → (at left : ℕ) → Option Service → DueDiversion → Call → Call
@@ -55,17 +50,14 @@ diverted target at left service due c = with_past (meter_for Diversion c at serv
 abbrev pub told_of : Site → DueDiversion → Call → Desk → Desk
 told_of site due c desk = if due.forward.notify_caller then told_diversion site c desk else desk
 
--- a call at the bound is refused, as busy where the diversion is for a busy user (RFC 4458 §2)
-abbrev pub too_many : DueDiversion → Cause
-too_many due = causes.TooManyDiversions (due.cause == 486)
+-- what refuses it, where the configured bound leaves so many
+abbrev pub refusal_by : (left : ℕ) → Site → (at : ℕ) → Option Service → DueDiversion → Call → Option Cause
+refusal_by left site at service due c = refusal_of_diversion site c.opening at c.diversions.count left service due
 
--- outgoing barring comes first
-abbrev pub unless_barred : Bool → (made : Call → Desk → Step) → Site → (at : ℕ) → Leg → Call → Desk → Step
-unless_barred barred made site at caller c desk = if barred then refused site at caller causes.OutgoingBarred c desk else made c desk
-
--- then the bound of the account that diverts
-abbrev pub unless_reached : DueDiversion → (made : Call → Desk → Step) → Site → (at : ℕ) → Leg → Call → Desk → Step
-unless_reached due made site at caller c desk = if is_reached due.bound c.diversions.count then refused site at caller (too_many due) c desk else made c desk
+-- it is made, where nothing refuses it
+abbrev pub made_unless : Option Cause → (made : Call → Desk → Step) → Site → (at : ℕ) → Leg → Call → Desk → Step
+made_unless None made site at caller c desk = made c desk
+made_unless (Some cause) made site at caller c desk = refused site at caller cause c desk
 
 -- ---- at a target
 
@@ -77,22 +69,18 @@ is_diverted c = nat_lt 0 c.diversions.count
 abbrev pub passed_by : (at : ℕ) → Option Service → Call → Call
 passed_by at service c = with_past (meter_for Terminating c at service) c
 
-abbrev pub offer_where : Option Peer → Site → (at : ℕ) → Leg → Option Service → (waiting : Bool) → (cause : Option ℕ) → Target → Call → Desk → Step
-offer_where None site at caller service waiting cause target c desk = refused site at caller causes.NoRoute (passed_by at service c) desk
-offer_where (Some peer) site at caller service waiting cause target c desk = offer site at caller service waiting (aim_at c.opening peer cause target) c desk
-
 -- by what was decided; `divert` says what a diversion comes to
-abbrev pub on_turn : (divert : Option Service → DueDiversion → Call → Desk → Step) → Site → (at : ℕ) → Leg → Option Service → Option Peer → (cause : Option ℕ) → Target →
-    Turn → Call → Desk → Step
-on_turn divert site at caller service peer cause target (TurnOffer waiting) c desk = offer_where peer site at caller service waiting cause target c desk
-on_turn divert site at caller service peer cause target (TurnDivert due) c desk = divert service due (passed_by at service c) desk
-on_turn divert site at caller service peer cause target (TurnRefuse why) c desk = refused site at caller why (passed_by at service c) desk
+abbrev pub on_turn : (divert : Option Service → DueDiversion → Call → Desk → Step) → Site → (at : ℕ) → Leg → Option Service → (cause : Option ℕ) → Target → Turn →
+    Call → Desk → Step
+on_turn divert site at caller service cause target (TurnOffer peer waiting) c desk = offer site at caller service waiting (aim_at c.opening peer cause target) c desk
+on_turn divert site at caller service cause target (TurnDivert due) c desk = divert service due (passed_by at service c) desk
+on_turn divert site at caller service cause target (TurnRefuse why) c desk = refused site at caller why (passed_by at service c) desk
 
 -- where this account is served there, and this peer leads to it
 abbrev pub where_served : (divert : Option Service → DueDiversion → Call → Desk → Step) → Site → Standing → Leg → Option Service → Option Peer → (cause : Option ℕ) →
     Target → Call → Desk → Step
 where_served divert site now caller service peer cause target c desk =
-    on_turn divert site now.at caller service peer cause target (decided_at site now c.opening (is_diverted c) cause target service peer) c desk
+    on_turn divert site now.at caller service cause target (decided_at site now c.opening (is_diverted c) cause target service peer) c desk
 
 abbrev pub at_target : (divert : Option Service → DueDiversion → Call → Desk → Step) → Site → Standing → Leg → (cause : Option ℕ) → Target → Call → Desk → Step
 at_target divert site now caller cause target c desk =
@@ -102,15 +90,14 @@ at_target divert site now caller cause target c desk =
 abbrev pub made : (onward : Call → Desk → Step) → Site → Target → (at left : ℕ) → Option Service → DueDiversion → Call → Desk → Step
 made onward site target at left service due c desk = onward (diverted target at left service due c) (told_of site due (diverted target at left service due c) desk)
 
--- a diversion that is due, where the configured bound leaves so many: it is made, where the account's own bound lets it pass, and the call comes to the next target
+-- a diversion that is due, where the configured bound leaves so many: it is made, where nothing refuses it, and the call comes to the next target; where none is left, the
+-- bound refuses it
 unfoldable pub divert : (left : ℕ) → Site → Standing → Leg → Option Service → DueDiversion → Call → Desk → Step
 divert zero site now caller service due c desk =
-    unless_barred (is_barred site c.opening now.at service due) (refused site now.at caller (too_many due)) site now.at caller c desk
+    made_unless (refusal_by 0 site now.at service due c) (refused site now.at caller (too_many due.cause)) site now.at caller c desk
 divert (suc left) site now caller service due c desk =
-    unless_barred (is_barred site c.opening now.at service due)
-    (unless_reached due
+    made_unless (refusal_by (suc left) site now.at service due c)
     (made (at_target (divert left site now caller) site now caller (Some due.cause) (target_of site due)) site (target_of site due) now.at left service due)
-    site now.at caller)
     site now.at caller c desk
 
 -- the call comes to a target

@@ -1,28 +1,21 @@
 -- INVITEs of a call that are not the one it waits on, whatever its phase: those that were left before they had a final answer, and those that had a 2xx (RFC 3261 §9.1,
 -- §13.2.2.4, §17.1.1.3).
-use Rattle.std.specs.Prelude.{ℕ, ◌+◌, ◌==◌, ◌&&◌, not, nat_le, nat_lt, Bool, true, false, if◌then◌else◌, Option, Some, None, List, ◌++◌, drop, option_to_list, position}
-use Rattle.std.specs.Prelude.{slice_get, take}
+use Rattle.std.specs.Prelude.{ℕ, ◌&&◌, not, Bool, true, false, if◌then◌else◌, Option, Some, None, List, ◌++◌, option_to_list, position, slice_get}
 use Rattle.std.specs.Str.{bytes_eq}
 use Rattle.mmtel_answers.specs.Said.{Said, status_of}
 use Rattle.mmtel_desk.specs.Desks.{emitted}
+pub use Rattle.mmtel_desk.specs.Invitations.{is_key, is_loose_key, without, without_at}
 use Rattle.mmtel_desk.specs.Loose.{Rest, is_of, on_response}
 use Rattle.mmtel_desk.specs.declared.desks.Desk.{Desk}
 use Rattle.mmtel_desk.specs.declared.invitations.Loose.{Loose}
 use Rattle.mmtel_transaction.specs.declared.words.Emit.TheVariants as emit
 use Rattle.mmtel_transaction.specs.declared.words.TKey.{TKey}
+pub use Rattle.mmtel_sip_rules.specs.Statuses.{is_success}
+use Rattle.mmtel_call_decisions.specs.Requests.{is_of_dialog}
 use Rattle.mmtel_call_decisions.specs.Site.{Site}
 use Rattle.mmtel_call.specs.Calls.{Answered, Asking, Call, Lent, Offered, Over, Parting, Phase, Stage, Stood, Taken, Talking}
 use Rattle.mmtel_call.specs.Closing.{Step, onward}
 use Rattle.mmtel_call.specs.Ringing.{tag_given}
-
--- ---- places in a list
-
-abbrev pub without_at : {A : Type 0} → ℕ → List A → List A
-without_at at items = take at items ++ drop (at + 1) items
-
-abbrev pub without : {A : Type 0} → Option ℕ → List A → List A
-without None items = items
-without (Some at) items = without_at at items
 
 -- ---- one that was left
 
@@ -40,12 +33,9 @@ answered_loose site key m at (Some l) c desk = with_rest at (on_response site.si
 abbrev pub is_taken : (branch : List ℕ) → Taken → Bool
 is_taken branch t = bytes_eq t.invitation.branch branch
 
-abbrev pub is_success : ℕ → Bool
-is_success code = nat_le 200 code && nat_lt code 300
-
 -- a 2xx of another dialog than the one that was made
 abbrev pub is_fork : Taken → Said → Bool
-is_fork t m = not t.within && not (bytes_eq (tag_given m) t.tag)
+is_fork t m = not (is_of_dialog t.within t.tag (tag_given m))
 
 abbrev pub is_talking_at : Stage → Bool
 is_talking_at (Answered side success) = false
@@ -108,13 +98,6 @@ abbrev pub without_silent : (branch : List ℕ) → Call → Call
 without_silent branch c = record c { loose = without (position (is_of branch) c.loose) c.loose }
 
 -- ---- by its client transaction
-
-abbrev pub is_key : TKey → Option TKey → Bool
-is_key key None = false
-is_key key (Some other) = other.0 == key.0
-
-abbrev pub is_loose_key : TKey → Loose → Bool
-is_loose_key key l = is_key key l.invitation.key
 
 abbrev pub is_taken_key : TKey → Taken → Bool
 is_taken_key key t = is_key key t.invitation.key

@@ -8,7 +8,8 @@ use Rattle.mmtel_desk.specs.declared.desks.Desk.{Desk}
 use Rattle.mmtel_desk.specs.declared.invitations.Invitation.{Invitation}
 use Rattle.mmtel_desk.specs.declared.invitations.Loose.{Loose}
 use Rattle.mmtel_leg.specs.Dialogues.{after_request}
-use Rattle.mmtel_leg.specs.Legs.{Leg, with_dialogue}
+use Rattle.mmtel_leg.specs.Legs.{Leg}
+pub use Rattle.mmtel_leg.specs.Legs.{having_invited}
 use Rattle.mmtel_leg.specs.declared.dialogues.Dialogue.{Dialogue}
 use Rattle.mmtel_sdp.specs.Offers.{direction_told}
 use Rattle.mmtel_sdp.specs.declared.values.Direction.{Direction}
@@ -28,10 +29,6 @@ use Rattle.mmtel_call.specs.Ringing.{awaiting_ack, next_success, success_of, tak
 use Rattle.mmtel_call.specs.Sending.{replied_to}
 
 -- ---- it goes to the other side
-
--- the leg once the server sent it an INVITE
-abbrev pub having_invited : Leg → Leg
-having_invited leg = with_dialogue leg (after_request leg.dialogue (codes "INVITE"))
 
 -- the INVITE as it was sent in this dialog
 abbrev pub sent_in : Dialogue → (branch : List ℕ) → Invitation

@@ -1,6 +1,6 @@
 -- A call that is offered to a target and not answered: what it does on each signal (RFC 3261 §9, §13.2.2, §13.3.1, TS 24.604 §4.5.2.6).
 use Rattle.std.specs.Prelude.{ℕ, ◌+◌, ◌==◌, ◌&&◌, ◌||◌, not, nat_lt, Bool, true, false, if◌then◌else◌, Option, Some, None, List, [], ◌∷◌, ◌++◌, length, Result, Ok, Err}
-use Rattle.std.specs.Option.{unwrap_or}
+pub use Rattle.mmtel_answers.specs.Said.{tag_given}
 use Rattle.mmtel_answers.specs.Said.{Said}
 use Rattle.mmtel_desk.specs.Desks.{emitted}
 use Rattle.mmtel_desk.specs.Invitations.{has_said, once_cancelled, with_early}
@@ -17,6 +17,7 @@ use Rattle.mmtel_leg.specs.declared.remotes.Remote.{Remote}
 use Rattle.mmtel_precedence.specs.Attempts.{end_by_final, end_by_time, rings}
 use Rattle.mmtel_precedence.specs.Calls.{End, NoReply, NotReachable, Standing}
 use Rattle.mmtel_scan.specs.Numbers.{next_number}
+pub use Rattle.mmtel_sip_rules.specs.Requests.{ack_time}
 use Rattle.mmtel_transaction.specs.declared.words.DueWord.{DueWord}
 use Rattle.mmtel_transaction.specs.declared.words.DueWord.TheVariants as due
 use Rattle.mmtel_transaction.specs.declared.words.Emit.TheVariants as emit
@@ -49,10 +50,6 @@ abbrev pub cancelled_attempt : Site → Trial → Desk → Desk
 cancelled_attempt site x desk = cancelled site.sip x.attempt.invitation desk
 
 -- ---- provisional responses
-
--- the tag that a response gives
-abbrev pub tag_given : Said → List ℕ
-tag_given m = unwrap_or m.heard.to_tag []
 
 -- the first one with a tag makes an early dialog (§12.1.2): what the target says of itself in it
 abbrev pub early_said : TriedView → Said → Option Remote
@@ -95,10 +92,6 @@ proceeding site at x key m code c desk = record {
 }
 
 -- ---- 2xx
-
--- for so long a 2xx waits for its ACK, in milliseconds (§13.3.1.4)
-abbrev pub ack_time : ℕ
-ack_time = 32000
 
 abbrev pub next_success : Call → ℕ
 next_success c = next_number c.successes

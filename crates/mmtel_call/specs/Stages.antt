@@ -67,11 +67,21 @@ on_request_at stage site at x side key m c desk = on_request_at_if (says (leg_of
 
 -- ---- ACK
 
+-- it is that of the 2xx which waits for it
+abbrev pub is_ack_at : Stage → Side → Said → Bool
+is_ack_at (Answered waiting success) side m = acknowledges waiting success side m
+is_ack_at (Parting waiting success) side m = acknowledges waiting success side m
+is_ack_at Talking side m = false
+is_ack_at (Asking asking q) side m = false
+
+abbrev pub acked_at : Stage → Site → (at : ℕ) → Pair → Side → Said → Call → Desk → Step
+acked_at (Answered waiting success) site at x side m c desk = acked_across site x side success m c desk
+acked_at (Parting waiting success) site at x side m c desk = parted site at x side c desk
+acked_at Talking site at x side m c desk = onward c desk
+acked_at (Asking asking q) site at x side m c desk = onward c desk
+
 abbrev pub on_ack_at : Stage → Site → (at : ℕ) → Pair → Side → Said → Call → Desk → Step
-on_ack_at (Answered waiting success) site at x side m c desk = if acknowledges waiting success side m then acked_across site x side success m c desk else onward c desk
-on_ack_at (Parting waiting success) site at x side m c desk = if acknowledges waiting success side m then parted site at x side c desk else onward c desk
-on_ack_at Talking site at x side m c desk = onward c desk
-on_ack_at (Asking asking q) site at x side m c desk = onward c desk
+on_ack_at stage site at x side m c desk = if is_ack_at stage side m then acked_at stage site at x side m c desk else onward c desk
 
 -- ---- CANCEL: one of an INVITE that has its final has its 200 alone
 

@@ -11,29 +11,23 @@ ghost use Rattle.mmtel_call.specs.Calls.{Over};
 ghost use Rattle.mmtel_call.specs.Closing.{over_stood};
 
 use crate::calls::{Call, Pair, Phase, Stage, Success, Taken};
-use mmtel_answers::Hearing;
-use mmtel_call_decisions::{Setting, is_ack_of, is_same_side, number_of};
+use crate::context::Step;
+use mmtel_answers::{Hearing, number_of};
+use mmtel_call_decisions::{is_ack_of, is_same_side};
 use mmtel_desk::{Desk, file};
 use mmtel_leg::Ended;
 use mmtel_message::Line;
 use mmtel_scan::{List, NoMemory, Text};
 use mmtel_transaction::DueWord;
-use mmtel_types::{Cause, Moment, Peer, Side};
+use mmtel_types::{Cause, Peer, Side};
 use std::alloc::Global;
 use std::mem;
 
 /// Whether an ACK of this side is that of the 2xx.
-pub fn acknowledges(
-    alloc: Global,
-    waiting: Side,
-    success: &Success,
-    side: Side,
-    m: &Hearing,
-) -> Result<bool, NoMemory>
-    ensures { IfOk result (λ yes. yes ≡ acknowledges waiting success.now side m.now) }
+pub fn acknowledges(waiting: Side, success: &Success, side: Side, m: &Hearing) -> bool
+    ensures { result ≡ acknowledges waiting success.now side m.now }
 {
-    let number = number_of(alloc, m)?;
-    Ok(is_ack_of(waiting, success.cseq, side, number))
+    is_ack_of(waiting, success.cseq, side, number_of(m))
 }
 
 impl Success {
@@ -61,62 +55,48 @@ impl Pair {
     }
 
     /// Leaves a side by a BYE of the server's own.
-    pub fn bye_to(
-        &mut self,
-        alloc: Global,
-        setting: &Setting<'_>,
-        side: Side,
-        desk: &mut Desk,
-    ) -> Result<(), NoMemory>
-        ensures done { OnOk result (desk.new ≡ bye_to setting.now self.old side desk.old) }
+    pub fn bye_to(&mut self, step: &Step<'_>, side: Side, desk: &mut Desk) -> Result<(), NoMemory>
+        ensures done { OnOk result (desk.new ≡ bye_to step.now.setting.now self.old side desk.old) }
         ensures other { leg_of (other_of side) self.new ≡ leg_of (other_of side) self.old }
         ensures caller { self.new.caller.meter ≡ self.old.caller.meter }
         ensures callee { self.new.callee.meter ≡ self.old.callee.meter }
     {
         match side {
-            Side::Caller => desk.bye(alloc, setting.sip, &mut self.caller),
-            Side::Callee => desk.bye(alloc, setting.sip, &mut self.callee),
+            Side::Caller => desk.bye(step.alloc, step.sip(), &mut self.caller),
+            Side::Callee => desk.bye(step.alloc, step.sip(), &mut self.callee),
         }
     }
 
     /// Acknowledges the 2xx of a side by an ACK of the server's own.
-    fn acknowledge(
-        &self,
-        alloc: Global,
-        setting: &Setting<'_>,
-        side: Side,
-        desk: &mut Desk,
-    ) -> Result<(), NoMemory>
-        ensures { OnOk result (desk.new ≡ acked setting.now.sip (leg_of side self.now).dialogue desk.old) }
+    fn acknowledge(&self, step: &Step<'_>, side: Side, desk: &mut Desk) -> Result<(), NoMemory>
+        ensures { OnOk result (desk.new ≡ acked step.now.setting.now.sip (leg_of side self.now).dialogue desk.old) }
     {
         match side {
-            Side::Caller => desk.acknowledge(alloc, setting.sip, &self.caller),
-            Side::Callee => desk.acknowledge(alloc, setting.sip, &self.callee),
+            Side::Caller => desk.acknowledge(step.alloc, step.sip(), &self.caller),
+            Side::Callee => desk.acknowledge(step.alloc, step.sip(), &self.callee),
         }
     }
 
     /// Acknowledges the 2xx of a side, and leaves it.
     fn acknowledge_and_leave(
         &mut self,
-        alloc: Global,
-        setting: &Setting<'_>,
+        step: &Step<'_>,
         side: Side,
         desk: &mut Desk,
     ) -> Result<(), NoMemory>
-        ensures done { OnOk result (desk.new ≡ acked_and_left setting.now self.old side desk.old) }
+        ensures done { OnOk result (desk.new ≡ acked_and_left step.now.setting.now self.old side desk.old) }
         ensures other { leg_of (other_of side) self.new ≡ leg_of (other_of side) self.old }
         ensures caller { self.new.caller.meter ≡ self.old.caller.meter }
         ensures callee { self.new.callee.meter ≡ self.old.callee.meter }
     {
-        self.acknowledge(alloc, setting, side, desk)?;
-        self.bye_to(alloc, setting, side, desk)
+        self.acknowledge(step, side, desk)?;
+        self.bye_to(step, side, desk)
     }
 
     /// Sends a side the request of the other one, with these lines of it. Gives its branch.
     pub fn ask_for(
         &mut self,
-        alloc: Global,
-        setting: &Setting<'_>,
+        step: &Step<'_>,
         method: &[u8],
         side: Side,
         lines: &List<Line>,
@@ -124,32 +104,50 @@ impl Pair {
         desk: &mut Desk,
     ) -> Result<Text, NoMemory>
         ensures branch { IfOk result (λ t. t ≡ token desk.old) }
-        ensures done { OnOk result (desk.new ≡ asked_for setting.now.sip method.now (leg_of side self.old).dialogue lines.now m.now.heard desk.old) }
+        ensures done { OnOk result (desk.new
+            ≡ asked_for step.now.setting.now.sip method.now (leg_of side self.old).dialogue lines.now m.now.heard
+            desk.old) }
         ensures caller { self.new.caller.meter ≡ self.old.caller.meter }
         ensures callee { self.new.callee.meter ≡ self.old.callee.meter }
     {
         match side {
-            Side::Caller => desk.ask_for(alloc, setting.sip, method, &mut self.caller, lines, m),
-            Side::Callee => desk.ask_for(alloc, setting.sip, method, &mut self.callee, lines, m),
+            Side::Caller => desk.ask_for(
+                step.alloc,
+                step.sip(),
+                method,
+                &mut self.caller,
+                lines,
+                m,
+            ),
+            Side::Callee => desk.ask_for(
+                step.alloc,
+                step.sip(),
+                method,
+                &mut self.callee,
+                lines,
+                m,
+            ),
         }
     }
 
     /// Sends a side the ACK of the other one, with these lines of it. Gives its text.
     fn acknowledge_for(
         &self,
-        alloc: Global,
-        setting: &Setting<'_>,
+        step: &Step<'_>,
         side: Side,
         lines: &List<Line>,
         m: &Hearing,
         desk: &mut Desk,
     ) -> Result<Text, NoMemory>
-        ensures text { IfOk result (λ t. t ≡ relayed_ack_text setting.now.sip (leg_of side self.now).dialogue (token desk.old) lines.now m.now.heard) }
-        ensures done { OnOk result (desk.new ≡ acked_for setting.now.sip (leg_of side self.now).dialogue lines.now m.now.heard desk.old) }
+        ensures text { IfOk result (λ t. t
+            ≡ relayed_ack_text step.now.setting.now.sip (leg_of side self.now).dialogue (token desk.old) lines.now
+            m.now.heard) }
+        ensures done { OnOk result (desk.new
+            ≡ acked_for step.now.setting.now.sip (leg_of side self.now).dialogue lines.now m.now.heard desk.old) }
     {
         match side {
-            Side::Caller => desk.acknowledge_for(alloc, setting.sip, &self.caller, lines, m),
-            Side::Callee => desk.acknowledge_for(alloc, setting.sip, &self.callee, lines, m),
+            Side::Caller => desk.acknowledge_for(step.alloc, step.sip(), &self.caller, lines, m),
+            Side::Callee => desk.acknowledge_for(step.alloc, step.sip(), &self.callee, lines, m),
         }
     }
 }
@@ -206,31 +204,32 @@ impl Call {
     /// The lines of a side's message that the other side is shown.
     pub fn shown_across(
         &self,
-        alloc: Global,
-        setting: &Setting<'_>,
+        step: &Step<'_>,
         x: &Pair,
         side: Side,
         m: &Hearing,
     ) -> Result<List<Line>, NoMemory>
-        ensures { IfOk result (λ ls. ls ≡ shown_across setting.now self.now x.now side m.now) }
+        ensures { IfOk result (λ ls. ls ≡ shown_across step.now.setting.now self.now x.now side m.now) }
     {
         let peer = x.peer_of(side.other());
         let service = x.service.as_ref();
         let opening = &self.opening;
-        opening.shown_to(alloc, setting, &self.diversions, service, side, peer, m)
+        opening.shown_to(
+            step.alloc,
+            step.setting,
+            &self.diversions,
+            service,
+            side,
+            peer,
+            m,
+        )
     }
 
     /// The call is over, and both legs leave.
-    pub fn end_pair(
-        &mut self,
-        alloc: Global,
-        at: Moment,
-        x: Pair,
-        desk: &mut Desk,
-    ) -> Result<(), NoMemory>
+    pub fn end_pair(&mut self, step: &Step<'_>, x: Pair, desk: &mut Desk) -> Result<(), NoMemory>
         requires { self.old.phase ≡ Over HasEnded }
-        ensures call { OnOk result (self.new ≡ (over_stood at x self.old desk.old).call) }
-        ensures desk { OnOk result (desk.new ≡ (over_stood at x self.old desk.old).desk) }
+        ensures call { OnOk result (self.new ≡ (over_stood step.now.present.at x self.old desk.old).call) }
+        ensures desk { OnOk result (desk.new ≡ (over_stood step.now.present.at x self.old desk.old).desk) }
     {
         let Pair {
             caller,
@@ -240,27 +239,27 @@ impl Call {
         drop(service);
         let Ended { meter: first } = caller.leave();
         let Ended { meter: last } = callee.leave();
-        self.close(alloc, at, Cause::Ended, first, last, desk)
+        self.close(step.alloc, step.present.at, Cause::Ended, first, last, desk)
     }
 
     /// No ACK came: ACK without body and BYE to the other side; BYE to this one.
     pub fn end_unacknowledged(
         &mut self,
-        alloc: Global,
-        setting: &Setting<'_>,
-        at: Moment,
+        step: &Step<'_>,
         x: Pair,
         side: Side,
         desk: &mut Desk,
     ) -> Result<(), NoMemory>
         requires { self.old.phase ≡ Over HasEnded }
-        ensures call { OnOk result (self.new ≡ (unacknowledged setting.now at x side self.old desk.old).call) }
-        ensures desk { OnOk result (desk.new ≡ (unacknowledged setting.now at x side self.old desk.old).desk) }
+        ensures call { OnOk result (self.new
+            ≡ (unacknowledged step.now.setting.now step.now.present.at x side self.old desk.old).call) }
+        ensures desk { OnOk result (desk.new
+            ≡ (unacknowledged step.now.setting.now step.now.present.at x side self.old desk.old).desk) }
     {
         let mut x = x;
-        let left = x.acknowledge_and_leave(alloc, setting, side.other(), desk);
-        let left_too = x.bye_to(alloc, setting, side, desk);
-        let closed = self.end_pair(alloc, at, x, desk);
+        let left = x.acknowledge_and_leave(step, side.other(), desk);
+        let left_too = x.bye_to(step, side, desk);
+        let closed = self.end_pair(step, x, desk);
         left?;
         left_too?;
         closed
@@ -269,20 +268,20 @@ impl Call {
     /// A parting call ends with the side that it waited for: BYE to it.
     pub fn part(
         &mut self,
-        alloc: Global,
-        setting: &Setting<'_>,
-        at: Moment,
+        step: &Step<'_>,
         x: Pair,
         side: Side,
         desk: &mut Desk,
     ) -> Result<(), NoMemory>
         requires { self.old.phase ≡ Over HasEnded }
-        ensures call { OnOk result (self.new ≡ (parted setting.now at x side self.old desk.old).call) }
-        ensures desk { OnOk result (desk.new ≡ (parted setting.now at x side self.old desk.old).desk) }
+        ensures call { OnOk result (self.new
+            ≡ (parted step.now.setting.now step.now.present.at x side self.old desk.old).call) }
+        ensures desk { OnOk result (desk.new
+            ≡ (parted step.now.setting.now step.now.present.at x side self.old desk.old).desk) }
     {
         let mut x = x;
-        let left = x.bye_to(alloc, setting, side, desk);
-        let closed = self.end_pair(alloc, at, x, desk);
+        let left = x.bye_to(step, side, desk);
+        let closed = self.end_pair(step, x, desk);
         left?;
         closed
     }
@@ -290,20 +289,22 @@ impl Call {
     /// A side that owes an ACK leaves: ACK without body and BYE to the other side.
     fn end_before_ack(
         &mut self,
-        alloc: Global,
-        setting: &Setting<'_>,
-        at: Moment,
+        step: &Step<'_>,
         x: Pair,
         side: Side,
         desk: &mut Desk,
     ) -> Result<(), NoMemory>
         requires { self.old.phase ≡ Over HasEnded }
-        ensures call { OnOk result (self.new ≡ (over_stood at x self.old (acked_and_left setting.now x (other_of side) desk.old)).call) }
-        ensures desk { OnOk result (desk.new ≡ (over_stood at x self.old (acked_and_left setting.now x (other_of side) desk.old)).desk) }
+        ensures call { OnOk result (self.new
+            ≡ (over_stood step.now.present.at x self.old (acked_and_left step.now.setting.now x (other_of side)
+            desk.old)).call) }
+        ensures desk { OnOk result (desk.new
+            ≡ (over_stood step.now.present.at x self.old (acked_and_left step.now.setting.now x (other_of side)
+            desk.old)).desk) }
     {
         let mut x = x;
-        let left = x.acknowledge_and_leave(alloc, setting, side.other(), desk);
-        let closed = self.end_pair(alloc, at, x, desk);
+        let left = x.acknowledge_and_leave(step, side.other(), desk);
+        let closed = self.end_pair(step, x, desk);
         left?;
         closed
     }
@@ -311,9 +312,7 @@ impl Call {
     /// A BYE while an ACK is due.
     pub fn bye_before_ack(
         &mut self,
-        alloc: Global,
-        setting: &Setting<'_>,
-        at: Moment,
+        step: &Step<'_>,
         x: Pair,
         waiting: Side,
         success: Success,
@@ -321,11 +320,13 @@ impl Call {
         desk: &mut Desk,
     ) -> Result<(), NoMemory>
         requires { self.old.phase ≡ Over HasEnded }
-        ensures call { OnOk result (self.new ≡ (bye_before_ack setting.now at x waiting success side self.old desk.old).call) }
-        ensures desk { OnOk result (desk.new ≡ (bye_before_ack setting.now at x waiting success side self.old desk.old).desk) }
+        ensures call { OnOk result (self.new
+            ≡ (bye_before_ack step.now.setting.now step.now.present.at x waiting success side self.old desk.old).call) }
+        ensures desk { OnOk result (desk.new
+            ≡ (bye_before_ack step.now.setting.now step.now.present.at x waiting success side self.old desk.old).desk) }
     {
         if is_same_side(waiting, side) {
-            return self.end_before_ack(alloc, setting, at, x, side, desk);
+            return self.end_before_ack(step, x, side, desk);
         }
         self.put_phase(Phase::Stood(x, Stage::Parting(waiting, success)));
         Ok(())
@@ -334,20 +335,20 @@ impl Call {
     /// What goes out where a talking side leaves: its BYE, to the other side.
     fn pass_bye(
         &self,
-        alloc: Global,
-        setting: &Setting<'_>,
+        step: &Step<'_>,
         x: &mut Pair,
         side: Side,
         m: &Hearing,
         desk: &mut Desk,
     ) -> Result<(), NoMemory>
         ensures done { OnOk result (desk.new
-            ≡ asked_for setting.now.sip (codes "BYE") (leg_of (other_of side) x.old).dialogue (shown_across setting.now self.now x.old side m.now) m.now.heard desk.old) }
+            ≡ asked_for step.now.setting.now.sip (codes "BYE") (leg_of (other_of side) x.old).dialogue
+            (shown_across step.now.setting.now self.now x.old side m.now) m.now.heard desk.old) }
         ensures caller { x.new.caller.meter ≡ x.old.caller.meter }
         ensures callee { x.new.callee.meter ≡ x.old.callee.meter }
     {
-        let lines = self.shown_across(alloc, setting, x, side, m)?;
-        let asked = x.ask_for(alloc, setting, b"BYE", side.other(), &lines, m, desk);
+        let lines = self.shown_across(step, x, side, m)?;
+        let asked = x.ask_for(step, b"BYE", side.other(), &lines, m, desk);
         drop(lines);
         match asked {
             Ok(branch) => {
@@ -361,21 +362,21 @@ impl Call {
     /// A talking side leaves, and the call is over.
     pub fn bye_across(
         &mut self,
-        alloc: Global,
-        setting: &Setting<'_>,
-        at: Moment,
+        step: &Step<'_>,
         x: Pair,
         side: Side,
         m: &Hearing,
         desk: &mut Desk,
     ) -> Result<(), NoMemory>
         requires { self.old.phase ≡ Over HasEnded }
-        ensures call { OnOk result (self.new ≡ (bye_across setting.now at x side m.now self.old desk.old).call) }
-        ensures desk { OnOk result (desk.new ≡ (bye_across setting.now at x side m.now self.old desk.old).desk) }
+        ensures call { OnOk result (self.new
+            ≡ (bye_across step.now.setting.now step.now.present.at x side m.now self.old desk.old).call) }
+        ensures desk { OnOk result (desk.new
+            ≡ (bye_across step.now.setting.now step.now.present.at x side m.now self.old desk.old).desk) }
     {
         let mut x = x;
-        let passed = self.pass_bye(alloc, setting, &mut x, side, m, desk);
-        let closed = self.end_pair(alloc, at, x, desk);
+        let passed = self.pass_bye(step, &mut x, side, m, desk);
+        let closed = self.end_pair(step, x, desk);
         passed?;
         closed
     }
@@ -394,20 +395,21 @@ impl Call {
     /// What goes out where the ACK of a side comes: its ACK, to the other side. Gives its text.
     fn pass_ack(
         &self,
-        alloc: Global,
-        setting: &Setting<'_>,
+        step: &Step<'_>,
         x: &Pair,
         side: Side,
         m: &Hearing,
         desk: &mut Desk,
     ) -> Result<Text, NoMemory>
         ensures text { IfOk result (λ t. t
-            ≡ relayed_ack_text setting.now.sip (leg_of (other_of side) x.now).dialogue (token desk.old) (shown_across setting.now self.now x.now side m.now) m.now.heard) }
+            ≡ relayed_ack_text step.now.setting.now.sip (leg_of (other_of side) x.now).dialogue (token desk.old)
+            (shown_across step.now.setting.now self.now x.now side m.now) m.now.heard) }
         ensures done { OnOk result (desk.new
-            ≡ acked_for setting.now.sip (leg_of (other_of side) x.now).dialogue (shown_across setting.now self.now x.now side m.now) m.now.heard desk.old) }
+            ≡ acked_for step.now.setting.now.sip (leg_of (other_of side) x.now).dialogue
+            (shown_across step.now.setting.now self.now x.now side m.now) m.now.heard desk.old) }
     {
-        let lines = self.shown_across(alloc, setting, x, side, m)?;
-        let acked = x.acknowledge_for(alloc, setting, side.other(), &lines, m, desk);
+        let lines = self.shown_across(step, x, side, m)?;
+        let acked = x.acknowledge_for(step, side.other(), &lines, m, desk);
         drop(lines);
         acked
     }
@@ -415,8 +417,7 @@ impl Call {
     /// The ACK of the 2xx came, and the call talks.
     pub fn acknowledge_across(
         &mut self,
-        alloc: Global,
-        setting: &Setting<'_>,
+        step: &Step<'_>,
         x: Pair,
         side: Side,
         success: &Success,
@@ -424,12 +425,14 @@ impl Call {
         desk: &mut Desk,
     ) -> Result<(), NoMemory>
         requires { self.old.phase ≡ Over HasEnded }
-        ensures call { OnOk result (self.new ≡ (acked_across setting.now x side success.now m.now self.old desk.old).call) }
-        ensures desk { OnOk result (desk.new ≡ (acked_across setting.now x side success.now m.now self.old desk.old).desk) }
+        ensures call { OnOk result (self.new
+            ≡ (acked_across step.now.setting.now x side success.now m.now self.old desk.old).call) }
+        ensures desk { OnOk result (desk.new
+            ≡ (acked_across step.now.setting.now x side success.now m.now self.old desk.old).desk) }
     {
-        let passed = self.pass_ack(alloc, setting, &x, side, m, desk);
+        let passed = self.pass_ack(step, &x, side, m, desk);
         self.put_phase(Phase::Stood(x, Stage::Talking));
         let text = passed?;
-        self.keep_ack(alloc, success.branch.bytes(), &text)
+        self.keep_ack(step.alloc, success.branch.bytes(), &text)
     }
 }

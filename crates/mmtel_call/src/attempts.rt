@@ -4,7 +4,6 @@ ghost use Rattle.mmtel_desk.specs.Invitations.{has_said, once_cancelled};
 ghost use Rattle.mmtel_leg.specs.Dialogues.{met};
 ghost use Rattle.mmtel_leg.specs.Legs.{with_dialogue};
 ghost use Rattle.mmtel_call_decisions.specs.Decisions.{time_of};
-ghost use Rattle.mmtel_call_decisions.specs.Requests.{number_of};
 ghost use Rattle.mmtel_call.specs.Sending.{relayed_to_caller};
 ghost use Rattle.mmtel_types.specs.declared.causes.Cause.TheVariants.{Ended as HasEnded};
 ghost use Rattle.mmtel_types.specs.declared.sides.Side.TheVariants.{Callee as TheCallee, Caller};
@@ -14,19 +13,18 @@ ghost use Rattle.mmtel_call.specs.Ringing.{answered, armed, awaiting_ack, early_
 ghost use Rattle.mmtel_call.specs.Ringing.{with_loose};
 
 use crate::calls::{Attempt, Call, Pair, Phase, Stage, Success, Taken, Trial};
+use crate::context::Step;
 use crate::legs::said_with_tag;
-use mmtel_answers::Hearing;
-use mmtel_call_decisions::{Setting, number_of, time_of};
+use mmtel_answers::{Hearing, number_of};
+use mmtel_call_decisions::time_of;
 use mmtel_desk::{Desk, Invitation, Loose, file, once_cancelled, with_early};
 use mmtel_leg::Remote;
 use mmtel_precedence::rings;
 use mmtel_scan::{NoMemory, Text};
+use mmtel_sip_rules::ACK_TIME;
 use mmtel_transaction::{DueWord, Emit, TKey};
-use mmtel_types::{Moment, Side};
+use mmtel_types::Side;
 use std::alloc::Global;
-
-/// For so long a 2xx waits for its ACK, in milliseconds.
-const ACK_TIME: u64 = 32_000;
 
 /// An INVITE of which this response came by this client transaction.
 pub fn has_said(key: TKey, invitation: Invitation) -> Invitation
@@ -96,7 +94,8 @@ impl Call {
         invitation: Invitation,
         within: bool,
     ) -> Result<(), NoMemory>
-        ensures done { OnOk result (self.new ≡ with_loose (record { invitation = invitation; within = within }) self.old) }
+        ensures done { OnOk result (self.new
+            ≡ with_loose (record { invitation = invitation; within = within }) self.old) }
         ensures refused { OnErr result (self.new ≡ self.old) }
     {
         file(alloc, &mut self.loose, Loose { invitation, within })
@@ -110,15 +109,15 @@ impl Call {
     }
 
     /// Arms the time for which that 2xx waits for its ACK.
-    pub fn await_ack(&self, alloc: Global, at: Moment, desk: &mut Desk) -> Result<(), NoMemory>
-        ensures { OnOk result (desk.new ≡ awaiting_ack at self.now desk.old) }
+    pub fn await_ack(&self, step: &Step<'_>, desk: &mut Desk) -> Result<(), NoMemory>
+        ensures { OnOk result (desk.new ≡ awaiting_ack step.now.present.at self.now desk.old) }
     {
         desk.emit(
-            alloc,
+            step.alloc,
             Emit::Arm {
                 call: self.opening.number,
                 what: DueWord::NoAck(self.next_success()),
-                at: at.ms() + ACK_TIME,
+                at: step.present.at.ms() + ACK_TIME,
             },
         )
     }
@@ -132,7 +131,7 @@ impl Call {
     ) -> Result<Success, NoMemory>
         ensures { IfOk result (λ s. s ≡ success_of self.now request.now invitation.now) }
     {
-        let cseq = number_of(alloc, request)?;
+        let cseq = number_of(request);
         let branch = invitation.branch.copied(alloc)?;
         Ok(Success {
             number: self.next_success(),
@@ -144,13 +143,12 @@ impl Call {
     /// Arms the no-reply time, where it begins with this response.
     fn arm(
         &self,
-        alloc: Global,
+        step: &Step<'_>,
         code: u16,
-        at: Moment,
         attempt: &Attempt,
         desk: &mut Desk,
     ) -> Result<(), NoMemory>
-        ensures { OnOk result (desk.new ≡ armed code at attempt.now self.now desk.old) }
+        ensures { OnOk result (desk.new ≡ armed code step.now.present.at attempt.now self.now desk.old) }
     {
         if !rings(code) || attempt.rang {
             return Ok(());
@@ -158,11 +156,11 @@ impl Call {
         match time_of(attempt.service.as_ref()) {
             None => Ok(()),
             Some(time) => desk.emit(
-                alloc,
+                step.alloc,
                 Emit::Arm {
                     call: self.opening.number,
                     what: DueWord::NoReply(attempt.number),
-                    at: at.ms() + time,
+                    at: step.present.at.ms() + time,
                 },
             ),
         }
@@ -188,23 +186,23 @@ impl Call {
     /// What goes out on a provisional response but 100, and what it says of the target: for its leg, and for its INVITE.
     fn pass_proceeding(
         &self,
-        alloc: Global,
-        setting: &Setting<'_>,
-        at: Moment,
+        step: &Step<'_>,
         x: &Trial,
         m: &Hearing,
         code: u16,
         desk: &mut Desk,
     ) -> Result<(Option<Remote>, Option<Remote>), NoMemory>
-        ensures desk { OnOk result (desk.new ≡ armed code at x.now.attempt self.now (relayed_to_caller setting.now self.now x.now.attempt.service m.now desk.old)) }
+        ensures desk { OnOk result (desk.new
+            ≡ armed code step.now.present.at x.now.attempt self.now
+            (relayed_to_caller step.now.setting.now self.now x.now.attempt.service m.now desk.old)) }
         ensures said { IfOk result (λ r. r.0 ≡ early_said x.now.callee m.now) }
         ensures kept { IfOk result (λ r. r.1 ≡ early_said x.now.callee m.now) }
     {
         let service = x.attempt.service.as_ref();
-        self.relay_to_caller(alloc, setting, service, m, desk)?;
-        self.arm(alloc, code, at, &x.attempt, desk)?;
-        let said = x.callee.early_said(alloc, m)?;
-        match x.callee.early_said(alloc, m) {
+        self.relay_to_caller(step, service, m, desk)?;
+        self.arm(step, code, &x.attempt, desk)?;
+        let said = x.callee.early_said(step.alloc, m)?;
+        match x.callee.early_said(step.alloc, m) {
             Err(error) => {
                 drop(said);
                 Err(error)
@@ -216,9 +214,7 @@ impl Call {
     /// A provisional response of the target but 100.
     pub fn hear_proceeding(
         &mut self,
-        alloc: Global,
-        setting: &Setting<'_>,
-        at: Moment,
+        step: &Step<'_>,
         x: Trial,
         key: TKey,
         m: &Hearing,
@@ -226,13 +222,15 @@ impl Call {
         desk: &mut Desk,
     ) -> Result<(), NoMemory>
         requires { self.old.phase ≡ Over HasEnded }
-        ensures call { OnOk result (self.new ≡ (proceeding setting.now at x key m.now code self.old desk.old).call) }
-        ensures desk { OnOk result (desk.new ≡ (proceeding setting.now at x key m.now code self.old desk.old).desk) }
+        ensures call { OnOk result (self.new
+            ≡ (proceeding step.now.setting.now step.now.present.at x key m.now code self.old desk.old).call) }
+        ensures desk { OnOk result (desk.new
+            ≡ (proceeding step.now.setting.now step.now.present.at x key m.now code self.old desk.old).desk) }
     {
-        let passed = self.pass_proceeding(alloc, setting, at, &x, m, code, desk);
+        let passed = self.pass_proceeding(step, &x, m, code, desk);
         match passed {
             Err(error) => {
-                x.give_up(at);
+                x.give_up(step.present.at);
                 Err(error)
             }
             Ok((said, kept)) => {
@@ -254,22 +252,22 @@ impl Call {
     /// What goes out on a 2xx of the target, what it says of itself, and what waits for the caller's ACK.
     fn pass_answer(
         &self,
-        alloc: Global,
-        setting: &Setting<'_>,
-        at: Moment,
+        step: &Step<'_>,
         attempt: &Attempt,
         m: &Hearing,
         desk: &mut Desk,
     ) -> Result<(Remote, Text, Success), NoMemory>
-        ensures desk { OnOk result (desk.new ≡ awaiting_ack at self.now (relayed_to_caller setting.now self.now attempt.now.service m.now desk.old)) }
+        ensures desk { OnOk result (desk.new
+            ≡ awaiting_ack step.now.present.at self.now (relayed_to_caller step.now.setting.now self.now
+            attempt.now.service m.now desk.old)) }
         ensures remote { IfOk result (λ r. r.0 ≡ remote_of TheCallee m.now.heard.lines) }
         ensures tag { IfOk result (λ r. r.1 ≡ tag_given m.now) }
         ensures success { IfOk result (λ r. r.2 ≡ success_of self.now self.now.opening.invite attempt.now.invitation) }
     {
-        self.relay_to_caller(alloc, setting, attempt.service.as_ref(), m, desk)?;
-        self.await_ack(alloc, at, desk)?;
-        let success = self.success_of(alloc, &self.opening.invite, &attempt.invitation)?;
-        match said_with_tag(alloc, m) {
+        self.relay_to_caller(step, attempt.service.as_ref(), m, desk)?;
+        self.await_ack(step, desk)?;
+        let success = self.success_of(step.alloc, &self.opening.invite, &attempt.invitation)?;
+        match said_with_tag(step.alloc, m) {
             Err(error) => {
                 drop(success);
                 Err(error)
@@ -279,45 +277,49 @@ impl Call {
     }
 
     /// The call was answered: it waits for the caller's ACK.
-    fn note_answer(&mut self, alloc: Global, at: Moment, taken: Taken) -> Result<(), NoMemory>
-        ensures done { OnOk result (self.new ≡ record self.old { answered = Some at; successes = next_success self.old; taken = self.old.taken ++ taken ∷ [] }) }
+    fn note_answer(&mut self, step: &Step<'_>, taken: Taken) -> Result<(), NoMemory>
+        ensures done { OnOk result (self.new
+            ≡ record self.old {
+              answered = Some step.now.present.at;
+              successes = next_success self.old;
+              taken = self.old.taken ++ taken ∷ [];
+            }) }
         ensures phase { self.new.phase ≡ self.old.phase }
     {
         self.successes = self.next_success();
-        self.answered = Some(at);
-        file(alloc, &mut self.taken, taken)
+        self.answered = Some(step.present.at);
+        file(step.alloc, &mut self.taken, taken)
     }
 
     /// A 2xx of the target.
     pub fn hear_answer(
         &mut self,
-        alloc: Global,
-        setting: &Setting<'_>,
-        at: Moment,
+        step: &Step<'_>,
         x: Trial,
         key: TKey,
         m: &Hearing,
         desk: &mut Desk,
     ) -> Result<(), NoMemory>
         requires { self.old.phase ≡ Over HasEnded }
-        ensures call { OnOk result (self.new ≡ (answered setting.now at x key m.now self.old desk.old).call) }
-        ensures desk { OnOk result (desk.new ≡ (answered setting.now at x key m.now self.old desk.old).desk) }
+        ensures call { OnOk result (self.new
+            ≡ (answered step.now.setting.now step.now.present.at x key m.now self.old desk.old).call) }
+        ensures desk { OnOk result (desk.new
+            ≡ (answered step.now.setting.now step.now.present.at x key m.now self.old desk.old).desk) }
     {
-        let passed = self.pass_answer(alloc, setting, at, &x.attempt, m, desk);
+        let passed = self.pass_answer(step, &x.attempt, m, desk);
         match passed {
             Err(error) => {
-                x.give_up(at);
+                x.give_up(step.present.at);
                 Err(error)
             }
-            Ok((remote, tag, success)) => self.stand(alloc, at, x, key, remote, tag, success),
+            Ok((remote, tag, success)) => self.stand(step, x, key, remote, tag, success),
         }
     }
 
     /// The call stands with what the target says of itself.
     fn stand(
         &mut self,
-        alloc: Global,
-        at: Moment,
+        step: &Step<'_>,
         x: Trial,
         key: TKey,
         remote: Remote,
@@ -327,13 +329,15 @@ impl Call {
         requires { self.old.phase ≡ Over HasEnded }
         ensures { OnOk result (self.new
             ≡ record self.old {
-              answered = Some at;
+              answered = Some step.now.present.at;
               successes = next_success self.old;
               taken = self.old.taken ++
                   record { invitation = has_said key x.attempt.invitation; tag = tag; within = false } ∷ [];
-              phase =
-                  Stood (record { caller = x.caller; callee = with_dialogue x.callee.leg (met x.callee.leg.dialogue remote); service = x.attempt.service })
-                  (Answered Caller success);
+              phase = Stood (record {
+                caller = x.caller;
+                callee = with_dialogue x.callee.leg (met x.callee.leg.dialogue remote);
+                service = x.attempt.service;
+              }) (Answered Caller success);
             }) }
     {
         let Trial {
@@ -347,7 +351,7 @@ impl Call {
             rang: _,
             invitation,
         } = attempt;
-        let noted = self.note_answer(alloc, at, taken_by(key, tag, false, invitation));
+        let noted = self.note_answer(step, taken_by(key, tag, false, invitation));
         let pair = Pair {
             caller,
             callee: callee.stand(remote),

@@ -6,6 +6,7 @@ ghost use Rattle.mmtel_call.specs.Calls.{Over};
 ghost use Rattle.mmtel_call.specs.Closing.{meter_for, meter_of, over, with_past};
 
 use crate::calls::{Call, Phase};
+use crate::context::Step;
 use mmtel_call_decisions::{Ending, Service, cause_by, file_rows};
 use mmtel_charging::{Kind, Meter};
 use mmtel_desk::Desk;
@@ -64,21 +65,16 @@ impl Call {
     }
 
     /// Lays a meter with those of what is past. It is spent, also where memory runs out.
-    pub fn keep_meter(
-        &mut self,
-        alloc: Global,
-        meter: Option<Meter>,
-        at: Moment,
-    ) -> Result<(), NoMemory>
+    pub fn keep_meter(&mut self, step: &Step<'_>, meter: Option<Meter>) -> Result<(), NoMemory>
         ensures kept { OnOk result (self.new ≡ with_past meter self.old) }
         ensures refused { OnErr result (self.new ≡ self.old) }
     {
         match meter {
             None => Ok(()),
-            Some(meter) => match self.past.push(alloc, meter) {
+            Some(meter) => match self.past.push(step.alloc, meter) {
                 Ok(()) => Ok(()),
                 Err((meter, error)) => {
-                    give_up_meter(Some(meter), at);
+                    give_up_meter(Some(meter), step.present.at);
                     Err(error)
                 }
             },

@@ -7,46 +7,47 @@ ghost use Rattle.mmtel_call.specs.Calls.{Offered, Over};
 ghost use Rattle.mmtel_call.specs.Ringing.{given_up, heard_by, on_cancel, on_heard, on_request, says_offered};
 
 use crate::calls::{Attempt, Call, Phase, Trial};
+use crate::context::Step;
 use crate::legs::hear;
+use crate::signals::SideRequest;
 use mmtel_answers::Hearing;
-use mmtel_call_decisions::Setting;
 use mmtel_desk::Desk;
 use mmtel_leg::{DialogueFault, Ended, InFlight};
 use mmtel_message::is_method;
 use mmtel_scan::NoMemory;
 use mmtel_transaction::TKey;
-use mmtel_types::{Cause, Moment, Side};
-use std::alloc::Global;
+use mmtel_types::{Cause, Side};
 
 impl Call {
     /// What goes out where the caller gives up: its 487, and the CANCEL where that is due.
     fn pass_giving_up(
         &self,
-        alloc: Global,
-        setting: &Setting<'_>,
+        step: &Step<'_>,
         attempt: &Attempt,
         desk: &mut Desk,
     ) -> Result<(), NoMemory>
-        ensures { OnOk result (desk.new ≡ cancelled setting.now.sip attempt.now.invitation (told_caller setting.now self.now 487 desk.old)) }
+        ensures { OnOk result (desk.new
+            ≡ cancelled step.now.setting.now.sip attempt.now.invitation
+            (told_caller step.now.setting.now self.now 487 desk.old)) }
     {
-        self.tell_caller(alloc, setting, 487, desk)?;
-        desk.cancel(alloc, setting.sip, &attempt.invitation)
+        self.tell_caller(step, 487, desk)?;
+        desk.cancel(step.alloc, step.sip(), &attempt.invitation)
     }
 
     /// The caller gives up, and the call is over.
     fn give_up_offered(
         &mut self,
-        alloc: Global,
-        setting: &Setting<'_>,
-        at: Moment,
+        step: &Step<'_>,
         x: Trial,
         desk: &mut Desk,
     ) -> Result<(), NoMemory>
         requires { self.old.phase ≡ Over HasEnded }
-        ensures call { OnOk result (self.new ≡ (given_up setting.now at x self.old desk.old).call) }
-        ensures desk { OnOk result (desk.new ≡ (given_up setting.now at x self.old desk.old).desk) }
+        ensures call { OnOk result (self.new
+            ≡ (given_up step.now.setting.now step.now.present.at x self.old desk.old).call) }
+        ensures desk { OnOk result (desk.new
+            ≡ (given_up step.now.setting.now step.now.present.at x self.old desk.old).desk) }
     {
-        let passed = self.pass_giving_up(alloc, setting, &x.attempt, desk);
+        let passed = self.pass_giving_up(step, &x.attempt, desk);
         let Trial {
             caller,
             callee,
@@ -59,10 +60,17 @@ impl Call {
             invitation,
         } = attempt;
         drop(service);
-        let left = self.leave_attempt(alloc, invitation);
+        let left = self.leave_attempt(step.alloc, invitation);
         let Ended { meter: first } = caller.leave();
         let last = callee.leave();
-        let closed = self.close(alloc, at, Cause::Cancelled, first, last, desk);
+        let closed = self.close(
+            step.alloc,
+            step.present.at,
+            Cause::Cancelled,
+            first,
+            last,
+            desk,
+        );
         passed?;
         left?;
         closed
@@ -71,9 +79,7 @@ impl Call {
     /// A CANCEL of the caller: of the INVITE that opened the call, or of another one, which has its final.
     pub fn hear_cancel(
         &mut self,
-        alloc: Global,
-        setting: &Setting<'_>,
-        at: Moment,
+        step: &Step<'_>,
         x: Trial,
         key: TKey,
         m: &Hearing,
@@ -81,12 +87,16 @@ impl Call {
         desk: &mut Desk,
     ) -> Result<(), NoMemory>
         requires { self.old.phase ≡ Over HasEnded }
-        ensures call { OnOk result (self.new ≡ (on_cancel setting.now at x key m.now invite (record self.old { phase = Offered x }) desk.old).call) }
-        ensures desk { OnOk result (desk.new ≡ (on_cancel setting.now at x key m.now invite (record self.old { phase = Offered x }) desk.old).desk) }
+        ensures call { OnOk result (self.new
+            ≡ (on_cancel step.now.setting.now step.now.present.at x key m.now invite
+            (record self.old { phase = Offered x }) desk.old).call) }
+        ensures desk { OnOk result (desk.new
+            ≡ (on_cancel step.now.setting.now step.now.present.at x key m.now invite
+            (record self.old { phase = Offered x }) desk.old).desk) }
     {
-        let replied = self.reply_to(alloc, setting, key, m, 200, desk);
+        let replied = self.reply_to(step, key, m, 200, desk);
         if invite.0 == self.opening.key.0 {
-            let given_up = self.give_up_offered(alloc, setting, at, x, desk);
+            let given_up = self.give_up_offered(step, x, desk);
             replied?;
             return given_up;
         }
@@ -97,20 +107,21 @@ impl Call {
     /// A BYE of the caller, who gives up.
     fn hear_bye_offered(
         &mut self,
-        alloc: Global,
-        setting: &Setting<'_>,
-        at: Moment,
+        step: &Step<'_>,
         x: Trial,
-        key: TKey,
-        m: &Hearing,
+        request: &SideRequest,
         desk: &mut Desk,
     ) -> Result<(), NoMemory>
         requires { self.old.phase ≡ Over HasEnded }
-        ensures call { OnOk result (self.new ≡ (given_up setting.now at x self.old (replied_to setting.now self.old key m.now 200 desk.old)).call) }
-        ensures desk { OnOk result (desk.new ≡ (given_up setting.now at x self.old (replied_to setting.now self.old key m.now 200 desk.old)).desk) }
+        ensures call { OnOk result (self.new
+            ≡ (given_up step.now.setting.now step.now.present.at x self.old
+            (replied_to step.now.setting.now self.old request.now.key request.now.hearing 200 desk.old)).call) }
+        ensures desk { OnOk result (desk.new
+            ≡ (given_up step.now.setting.now step.now.present.at x self.old
+            (replied_to step.now.setting.now self.old request.now.key request.now.hearing 200 desk.old)).desk) }
     {
-        let replied = self.reply_to(alloc, setting, key, m, 200, desk);
-        let given_up = self.give_up_offered(alloc, setting, at, x, desk);
+        let replied = self.reply_to(step, request.key, &request.hearing, 200, desk);
+        let given_up = self.give_up_offered(step, x, desk);
         replied?;
         given_up
     }
@@ -118,23 +129,24 @@ impl Call {
     /// A request that a leg heard.
     fn take_request_offered(
         &mut self,
-        alloc: Global,
-        setting: &Setting<'_>,
-        at: Moment,
+        step: &Step<'_>,
         x: Trial,
-        side: Side,
-        key: TKey,
-        m: &Hearing,
+        request: &SideRequest,
         desk: &mut Desk,
     ) -> Result<(), NoMemory>
         requires { self.old.phase ≡ Over HasEnded }
-        ensures call { OnOk result (self.new ≡ (on_heard setting.now at x side key m.now (record self.old { phase = Offered x }) desk.old).call) }
-        ensures desk { OnOk result (desk.new ≡ (on_heard setting.now at x side key m.now (record self.old { phase = Offered x }) desk.old).desk) }
+        ensures call { OnOk result (self.new
+            ≡ (on_heard step.now.setting.now step.now.present.at x request.now.side request.now.key
+            request.now.hearing (record self.old { phase = Offered x }) desk.old).call) }
+        ensures desk { OnOk result (desk.new
+            ≡ (on_heard step.now.setting.now step.now.present.at x request.now.side request.now.key
+            request.now.hearing (record self.old { phase = Offered x }) desk.old).desk) }
     {
-        if side == Side::Caller && is_method(b"BYE", m.message.start()) {
-            return self.hear_bye_offered(alloc, setting, at, x, key, m, desk);
+        let hearing = &request.hearing;
+        if request.side == Side::Caller && is_method(b"BYE", hearing.message.start()) {
+            return self.hear_bye_offered(step, x, request, desk);
         }
-        let answered = self.answer_unlisted(alloc, setting, key, m, desk);
+        let answered = self.answer_unlisted(step, request.key, hearing, desk);
         self.put_phase(Phase::Offered(x));
         answered
     }
@@ -142,24 +154,24 @@ impl Call {
     /// A request of a side in its dialog.
     pub fn hear_request_offered(
         &mut self,
-        alloc: Global,
-        setting: &Setting<'_>,
-        at: Moment,
+        step: &Step<'_>,
         x: Trial,
-        side: Side,
-        key: TKey,
-        m: &Hearing,
+        request: &SideRequest,
         desk: &mut Desk,
     ) -> Result<(), NoMemory>
         requires { self.old.phase ≡ Over HasEnded }
-        ensures call { OnOk result (self.new ≡ (on_request setting.now at x side key m.now (record self.old { phase = Offered x }) desk.old).call) }
-        ensures desk { OnOk result (desk.new ≡ (on_request setting.now at x side key m.now (record self.old { phase = Offered x }) desk.old).desk) }
+        ensures call { OnOk result (self.new
+            ≡ (on_request step.now.setting.now step.now.present.at x request.now.side request.now.key
+            request.now.hearing (record self.old { phase = Offered x }) desk.old).call) }
+        ensures desk { OnOk result (desk.new
+            ≡ (on_request step.now.setting.now step.now.present.at x request.now.side request.now.key
+            request.now.hearing (record self.old { phase = Offered x }) desk.old).desk) }
     {
         let mut x = x;
-        match x.hear(side, m) {
-            Ok(()) => self.take_request_offered(alloc, setting, at, x, side, key, m, desk),
+        match x.hear(request.side, &request.hearing) {
+            Ok(()) => self.take_request_offered(step, x, request, desk),
             Err(fault) => {
-                let refused = self.refuse_unheard(alloc, setting, key, m, fault, desk);
+                let refused = self.refuse_unheard(step, request.key, &request.hearing, fault, desk);
                 self.put_phase(Phase::Offered(x));
                 refused
             }

@@ -9,7 +9,7 @@ ghost use Rattle.mmtel_call.specs.Ringing.{early_said, met_by, tag_given};
 
 use crate::calls::{Pair, Trial, Tried, TriedLeg};
 use crate::closing::give_up_meter;
-use mmtel_answers::Hearing;
+use mmtel_answers::{Hearing, said_by_callee};
 use mmtel_charging::Meter;
 use mmtel_leg::{CalleeLeg, CallerLeg, DialogueFault, Ended, InFlight, LegOf, Remote, Standing};
 use mmtel_scan::{NoMemory, Text};
@@ -28,15 +28,6 @@ pub fn hear<P, S>(
     ensures refused { OnErr result (leg.new ≡ leg.old) }
 {
     leg.heard(&request.message, busy)
-}
-
-/// What the callee says of itself in a response.
-#[tactic(auto, unfolding(mmtel_leg::specs::Remotes::tag_in))]
-pub fn said_by_callee(alloc: Global, response: &Hearing) -> Result<Remote, NoMemory>
-    ensures remote { IfOk result (λ r. r ≡ remote_of Callee response.now.heard.lines) }
-    ensures tag { IfOk result (λ r. r.tag ≡ tag_given response.now) }
-{
-    Remote::read(alloc, &response.message, Side::Callee)
 }
 
 /// The callee's tag in a response.

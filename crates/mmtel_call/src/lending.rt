@@ -161,7 +161,8 @@ impl Call {
     /// `NotTalking` exactly where the call does not talk, or a leg of it is away; the call is then as before.
     pub fn release(&mut self, side: Side) -> Result<Released, NotTalking>
         ensures call { self.new ≡ lent_in self.old.phase side self.old }
-        ensures leg { MatchResult result (λ leg. taken_out_in self.old.phase side ≡ Some leg) (λ refused. taken_out_in self.old.phase side ≡ None) }
+        ensures leg { MatchResult result (λ leg. taken_out_in self.old.phase side ≡ Some leg)
+            (λ refused. taken_out_in self.old.phase side ≡ None) }
     {
         match mem::replace(&mut self.phase, Phase::Over(Cause::Ended)) {
             Phase::Stood(x, stage) => self.release_at(side, x, stage),
@@ -184,7 +185,8 @@ impl Call {
     fn release_at(&mut self, side: Side, x: Pair, stage: Stage) -> Result<Released, NotTalking>
         requires { self.old.phase ≡ Over HasEnded }
         ensures call { self.new ≡ lent_at stage side x (record self.old { phase = Stood x stage }) }
-        ensures leg { MatchResult result (λ leg. taken_out_at stage side x ≡ Some leg) (λ refused. taken_out_at stage side x ≡ None) }
+        ensures leg { MatchResult result (λ leg. taken_out_at stage side x ≡ Some leg)
+            (λ refused. taken_out_at stage side x ≡ None) }
     {
         match stage {
             Stage::Talking => {

@@ -1,10 +1,12 @@
 //! One call: two dialogs that the server holds together, by the step table of a call (RFC 3261 §6, TS 24.173).
 #![tactic(auto)]
 
+mod agreements;
 mod answered;
 mod attempts;
 mod calls;
 mod closing;
+mod context;
 mod diverting;
 mod giving_up;
 mod leaving;
@@ -12,6 +14,7 @@ mod legs;
 mod lending;
 mod offering;
 mod openings;
+mod reinvite_ends;
 mod reinvites;
 mod ringing;
 mod sending;

@@ -17,11 +17,12 @@ ghost use Rattle.mmtel_call.specs.Offering.{dialog_of, longest_time, next_attemp
 
 use crate::calls::{Attempt, Call, Phase, Trial, Tried, TriedLeg};
 use crate::closing::meter_for;
+use crate::context::Step;
 use crate::legs::give_up_caller;
 use mmtel_answers::{Aim, called};
-use mmtel_call_decisions::{Service, Setting};
+use mmtel_call_decisions::Service;
 use mmtel_charging::Kind;
-use mmtel_desk::{Desk, Invitation};
+use mmtel_desk::{AttemptInvite, Desk, Invitation};
 use mmtel_leg::{CalleeLeg, CallerLeg, Dialogue, Standing};
 use mmtel_message::Line;
 use mmtel_scan::{List, NoMemory};
@@ -74,17 +75,18 @@ impl Call {
     /// What a target behind this peer is shown of the INVITE that opened the call.
     fn shown_to_target(
         &self,
-        alloc: Global,
-        setting: &Setting<'_>,
+        step: &Step<'_>,
         service: Option<&Service>,
         peer: Peer,
     ) -> Result<List<Line>, NoMemory>
-        ensures { IfOk result (λ ls. ls ≡ shown_to setting.now self.now.opening self.now.diversions (option_copied service.entry) TheCaller peer self.now.opening.invite) }
+        ensures { IfOk result (λ ls. ls
+            ≡ shown_to step.now.setting.now self.now.opening self.now.diversions (option_copied service.entry)
+            TheCaller peer self.now.opening.invite) }
     {
         let opening = &self.opening;
         opening.shown_to(
-            alloc,
-            setting,
+            step.alloc,
+            step.setting,
             &self.diversions,
             service,
             Side::Caller,
@@ -94,15 +96,17 @@ impl Call {
     }
 
     /// Arms the longest time that the next attempt may take.
-    fn arm_cap(&self, alloc: Global, at: Moment, desk: &mut Desk) -> Result<(), NoMemory>
-        ensures { OnOk result (desk.new ≡ emitted (Arm self.now.opening.number (Cap (next_attempt self.now)) (at + longest_time)) desk.old) }
+    fn arm_cap(&self, step: &Step<'_>, desk: &mut Desk) -> Result<(), NoMemory>
+        ensures { OnOk result (desk.new
+            ≡ emitted (Arm self.now.opening.number (Cap (next_attempt self.now)) (step.now.present.at + longest_time))
+            desk.old) }
     {
         desk.emit(
-            alloc,
+            step.alloc,
             Emit::Arm {
                 call: self.opening.number,
                 what: DueWord::Cap(self.next_attempt()),
-                at: at.ms() + LONGEST_TIME,
+                at: step.present.at.ms() + LONGEST_TIME,
             },
         )
     }
@@ -110,53 +114,52 @@ impl Call {
     /// Sends the INVITE of an attempt with these lines of the one that opened the call, and arms the longest time that it may take.
     fn send_shown(
         &self,
-        alloc: Global,
-        setting: &Setting<'_>,
-        at: Moment,
+        step: &Step<'_>,
         waiting: bool,
         aim: Aim,
         lines: &List<Line>,
         desk: &mut Desk,
     ) -> Result<Invitation, NoMemory>
         ensures done { OnOk result (desk.new
-            ≡ emitted (Arm self.now.opening.number (Cap (next_attempt self.now)) (at + longest_time))
-            (offered setting.now.sip aim self.now.opening.invite.heard self.now.opening.restricted lines.now waiting desk.old)) }
-        ensures sent { IfOk result (λ i. i ≡ sent (dialog_of self.now.opening aim desk.old) 1 (token (drew (drew desk.old)))) }
+            ≡ emitted (Arm self.now.opening.number (Cap (next_attempt self.now)) (step.now.present.at + longest_time))
+            (offered step.now.setting.now.sip aim self.now.opening.invite.heard self.now.opening.restricted lines.now
+            waiting desk.old)) }
+        ensures sent { IfOk result (λ i. i
+            ≡ sent (dialog_of self.now.opening aim desk.old) 1 (token (drew (drew desk.old)))) }
     {
         let opening = &self.opening;
-        let invitation = desk.offer(
-            alloc,
-            setting.sip,
-            aim,
-            &opening.invite,
-            opening.restricted,
-            lines.items(),
+        let attempt = AttemptInvite {
+            opening: &opening.invite,
+            restricted: opening.restricted,
+            passed: lines.items(),
             waiting,
-        )?;
-        unless_failed(self.arm_cap(alloc, at, desk), invitation)
+        };
+        let invitation = desk.offer(step.alloc, step.sip(), aim, attempt)?;
+        unless_failed(self.arm_cap(step, desk), invitation)
     }
 
     /// Sends the INVITE of an attempt, and arms the longest time that it may take. Gives the INVITE as it was sent.
     fn send_offer(
         &self,
-        alloc: Global,
-        setting: &Setting<'_>,
-        at: Moment,
+        step: &Step<'_>,
         service: Option<&Service>,
         waiting: bool,
         aim: Aim,
         desk: &mut Desk,
     ) -> Result<Invitation, NoMemory>
-        ensures done { OnOk result (desk.new ≡ sent_to setting.now at (option_copied service.entry) waiting aim self.now desk.old) }
-        ensures sent { IfOk result (λ i. i ≡ sent (dialog_of self.now.opening aim desk.old) 1 (token (drew (drew desk.old)))) }
+        ensures done { OnOk result (desk.new
+            ≡ sent_to step.now.setting.now step.now.present.at (option_copied service.entry) waiting aim
+            self.now desk.old) }
+        ensures sent { IfOk result (λ i. i
+            ≡ sent (dialog_of self.now.opening aim desk.old) 1 (token (drew (drew desk.old)))) }
     {
-        match self.shown_to_target(alloc, setting, service, aim.peer) {
+        match self.shown_to_target(step, service, aim.peer) {
             Err(error) => {
                 drop(aim);
                 Err(error)
             }
             Ok(lines) => {
-                let sent = self.send_shown(alloc, setting, at, waiting, aim, &lines, desk);
+                let sent = self.send_shown(step, waiting, aim, &lines, desk);
                 drop(lines);
                 sent
             }
@@ -177,7 +180,10 @@ impl Call {
           attempts = next_attempt self.old;
           phase = Offered (record {
             caller = caller;
-            callee = record { leg = record { dialogue = called dialogue; meter = meter_for Terminating self.old at service }; is_early = false };
+            callee = record {
+              leg = record { dialogue = called dialogue; meter = meter_for Terminating self.old at service };
+              is_early = false;
+            };
             attempt =
                 record { number = next_attempt self.old; service = service; rang = false; invitation = invitation };
           });
@@ -208,9 +214,7 @@ impl Call {
     /// Want of memory alone; the legs are then given up.
     pub fn offer(
         &mut self,
-        alloc: Global,
-        setting: &Setting<'_>,
-        at: Moment,
+        step: &Step<'_>,
         caller: CallerLeg<Standing>,
         service: Option<Service>,
         waiting: bool,
@@ -218,17 +222,19 @@ impl Call {
         desk: &mut Desk,
     ) -> Result<(), NoMemory>
         requires { self.old.phase ≡ Over HasEnded }
-        ensures call { OnOk result (self.new ≡ (offer setting.now at caller service waiting aim self.old desk.old).call) }
-        ensures desk { OnOk result (desk.new ≡ (offer setting.now at caller service waiting aim self.old desk.old).desk) }
+        ensures call { OnOk result (self.new
+            ≡ (offer step.now.setting.now step.now.present.at caller service waiting aim self.old desk.old).call) }
+        ensures desk { OnOk result (desk.new
+            ≡ (offer step.now.setting.now step.now.present.at caller service waiting aim self.old desk.old).desk) }
     {
-        match self.sent_offer(alloc, setting, at, service.as_ref(), waiting, aim, desk) {
+        match self.sent_offer(step, service.as_ref(), waiting, aim, desk) {
             Ok((invitation, dialogue)) => {
-                self.await_answer(at, caller, service, invitation, dialogue);
+                self.await_answer(step.present.at, caller, service, invitation, dialogue);
                 Ok(())
             }
             Err(error) => {
                 drop(service);
-                give_up_caller(caller, at);
+                give_up_caller(caller, step.present.at);
                 Err(error)
             }
         }
@@ -237,19 +243,20 @@ impl Call {
     /// The same INVITE, and its dialog once more.
     fn sent_offer(
         &self,
-        alloc: Global,
-        setting: &Setting<'_>,
-        at: Moment,
+        step: &Step<'_>,
         service: Option<&Service>,
         waiting: bool,
         aim: Aim,
         desk: &mut Desk,
     ) -> Result<(Invitation, Dialogue), NoMemory>
-        ensures done { OnOk result (desk.new ≡ sent_to setting.now at (option_copied service.entry) waiting aim self.now desk.old) }
-        ensures sent { IfOk result (λ r. r.0 ≡ sent (dialog_of self.now.opening aim desk.old) 1 (token (drew (drew desk.old)))) }
+        ensures done { OnOk result (desk.new
+            ≡ sent_to step.now.setting.now step.now.present.at (option_copied service.entry) waiting aim
+            self.now desk.old) }
+        ensures sent { IfOk result (λ r. r.0
+            ≡ sent (dialog_of self.now.opening aim desk.old) 1 (token (drew (drew desk.old)))) }
         ensures dialog { IfOk result (λ r. r.1 ≡ dialog_of self.now.opening aim desk.old) }
     {
-        let invitation = self.send_offer(alloc, setting, at, service, waiting, aim, desk)?;
-        with_its_dialog(alloc, invitation)
+        let invitation = self.send_offer(step, service, waiting, aim, desk)?;
+        with_its_dialog(step.alloc, invitation)
     }
 }

@@ -9,6 +9,7 @@ ghost use Rattle.mmtel_call.specs.Opening.{begins, caller_of, new_call, opened, 
 
 use crate::calls::{Call, Phase};
 use crate::closing::{give_up_meter, give_up_meters, meter_of};
+use crate::context::Step;
 use mmtel_call_decisions::{Arrival, Diversions, Opening, Present, Setting, opening_of};
 use mmtel_charging::Kind;
 use mmtel_desk::Desk;
@@ -20,16 +21,12 @@ use mmtel_waiting::HoldState;
 use std::alloc::Global;
 
 /// The first target of a call, and its diversions as it opens.
-fn first_way(
-    alloc: Global,
-    setting: &Setting<'_>,
-    opening: &Opening,
-) -> Result<(Target, Diversions), NoMemory>
+fn first_way(step: &Step<'_>, opening: &Opening) -> Result<(Target, Diversions), NoMemory>
     ensures target { IfOk result (λ r. r.0 ≡ first_of opening.now) }
-    ensures diversions { IfOk result (λ r. r.1 ≡ (new_call setting.now opening.now).diversions) }
+    ensures diversions { IfOk result (λ r. r.1 ≡ (new_call step.now.setting.now opening.now).diversions) }
 {
-    let target = opening.first_of(alloc)?;
-    match opening.undiverted(alloc, setting) {
+    let target = opening.first_of(step.alloc)?;
+    match opening.undiverted(step.alloc, step.setting) {
         Err(error) => {
             drop(target);
             Err(error)
@@ -78,17 +75,17 @@ impl Call {
     }
 
     /// The caller's leg, with the meter of the account that is served as the caller.
-    fn open_caller(&self, alloc: Global, at: Moment) -> Result<CallerLeg<Standing>, NoMemory>
-        ensures { IfOk result (λ leg. leg ≡ caller_of at self.now) }
+    fn open_caller(&self, step: &Step<'_>) -> Result<CallerLeg<Standing>, NoMemory>
+        ensures { IfOk result (λ leg. leg ≡ caller_of step.now.present.at self.now) }
     {
         let opening = &self.opening;
-        let tag = opening.tag.copied(alloc)?;
-        let meter = meter_of(Kind::Origin, self, at, opening.served.origin);
+        let tag = opening.tag.copied(step.alloc)?;
+        let meter = meter_of(Kind::Origin, self, step.present.at, opening.served.origin);
         let invite = &opening.invite;
-        match CallerLeg::open(alloc, invite.peer, &invite.message, tag, meter) {
+        match CallerLeg::open(step.alloc, invite.peer, &invite.message, tag, meter) {
             Ok(leg) => Ok(leg),
             Err((meter, error)) => {
-                give_up_meter(meter, at);
+                give_up_meter(meter, step.present.at);
                 Err(error)
             }
         }
@@ -97,9 +94,7 @@ impl Call {
     /// The call comes to its first target, unless this refuses it.
     fn come_unless_refused(
         &mut self,
-        alloc: Global,
-        setting: &Setting<'_>,
-        present: &Present<'_>,
+        step: &Step<'_>,
         caller: CallerLeg<Standing>,
         refusal: Option<Cause>,
         target: Target,
@@ -107,14 +102,16 @@ impl Call {
     ) -> Result<(), NoMemory>
         requires phase { self.old.phase ≡ Over HasEnded }
         requires target { target ≡ first_of self.old.opening }
-        ensures call { OnOk result (self.new ≡ (unless_refused refusal setting.now (standing present.now) caller self.old desk.old).call) }
-        ensures desk { OnOk result (desk.new ≡ (unless_refused refusal setting.now (standing present.now) caller self.old desk.old).desk) }
+        ensures call { OnOk result (self.new
+            ≡ (unless_refused refusal step.now.setting.now (standing step.now.present) caller self.old desk.old).call) }
+        ensures desk { OnOk result (desk.new
+            ≡ (unless_refused refusal step.now.setting.now (standing step.now.present) caller self.old desk.old).desk) }
     {
         match refusal {
-            None => self.come_to(alloc, setting, present, caller, None, target, desk),
+            None => self.come_to(step, caller, None, target, desk),
             Some(cause) => {
                 drop(target);
-                self.refuse(alloc, setting, present.at, caller, cause, desk)
+                self.refuse(step, caller, cause, desk)
             }
         }
     }
@@ -122,44 +119,40 @@ impl Call {
     /// The caller has its 100 and its leg. Gives what refuses the call, and that leg.
     fn welcome(
         &self,
-        alloc: Global,
-        setting: &Setting<'_>,
-        present: &Present<'_>,
+        step: &Step<'_>,
         target: &Target,
         desk: &mut Desk,
     ) -> Result<(Option<Cause>, CallerLeg<Standing>), NoMemory>
         requires { target.now ≡ first_of self.now.opening }
-        ensures refusal { IfOk result (λ r. r.0 ≡ refusal_of setting.now present.now.at self.now.opening) }
-        ensures caller { IfOk result (λ r. r.1 ≡ caller_of present.now.at self.now) }
-        ensures desk { OnOk result (desk.new ≡ told_caller setting.now self.now 100 desk.old) }
+        ensures refusal { IfOk result (λ r. r.0
+            ≡ refusal_of step.now.setting.now step.now.present.at self.now.opening) }
+        ensures caller { IfOk result (λ r. r.1 ≡ caller_of step.now.present.at self.now) }
+        ensures desk { OnOk result (desk.new ≡ told_caller step.now.setting.now self.now 100 desk.old) }
     {
-        let refusal = self.opening.refusal_of(alloc, setting, present.at, target)?;
-        self.tell_caller(alloc, setting, 100, desk)?;
-        let caller = self.open_caller(alloc, present.at)?;
+        let refusal = self
+            .opening
+            .refusal_of(step.alloc, step.setting, step.present.at, target)?;
+        self.tell_caller(step, 100, desk)?;
+        let caller = self.open_caller(step)?;
         Ok((refusal, caller))
     }
 
     /// The caller has its 100, and the call comes to its first target or is refused.
-    fn begin(
-        &mut self,
-        alloc: Global,
-        setting: &Setting<'_>,
-        present: &Present<'_>,
-        target: Target,
-        desk: &mut Desk,
-    ) -> Result<(), NoMemory>
+    fn begin(&mut self, step: &Step<'_>, target: Target, desk: &mut Desk) -> Result<(), NoMemory>
         requires phase { self.old.phase ≡ Over HasEnded }
         requires target { target ≡ first_of self.old.opening }
-        ensures call { OnOk result (self.new ≡ (begins setting.now (standing present.now) self.old desk.old).call) }
-        ensures desk { OnOk result (desk.new ≡ (begins setting.now (standing present.now) self.old desk.old).desk) }
+        ensures call { OnOk result (self.new
+            ≡ (begins step.now.setting.now (standing step.now.present) self.old desk.old).call) }
+        ensures desk { OnOk result (desk.new
+            ≡ (begins step.now.setting.now (standing step.now.present) self.old desk.old).desk) }
     {
-        match self.welcome(alloc, setting, present, &target, desk) {
+        match self.welcome(step, &target, desk) {
             Err(error) => {
                 drop(target);
                 Err(error)
             }
             Ok((refusal, caller)) => {
-                self.come_unless_refused(alloc, setting, present, caller, refusal, target, desk)
+                self.come_unless_refused(step, caller, refusal, target, desk)
             }
         }
     }
@@ -187,27 +180,25 @@ impl Call {
     }
 
     /// The call of this opening begins.
-    fn open_by(
-        alloc: Global,
-        setting: &Setting<'_>,
-        present: &Present<'_>,
-        opening: Opening,
-        desk: &mut Desk,
-    ) -> Result<Call, NoMemory>
-        ensures call { IfOk result (λ c. c ≡ (begins setting.now (standing present.now) (new_call setting.now opening) desk.old).call) }
-        ensures desk { OnOk result (desk.new ≡ (begins setting.now (standing present.now) (new_call setting.now opening) desk.old).desk) }
+    fn open_by(step: &Step<'_>, opening: Opening, desk: &mut Desk) -> Result<Call, NoMemory>
+        ensures call { IfOk result (λ c. c
+            ≡ (begins step.now.setting.now (standing step.now.present) (new_call step.now.setting.now opening)
+            desk.old).call) }
+        ensures desk { OnOk result (desk.new
+            ≡ (begins step.now.setting.now (standing step.now.present) (new_call step.now.setting.now opening)
+            desk.old).desk) }
     {
-        match first_way(alloc, setting, &opening) {
+        match first_way(step, &opening) {
             Err(error) => {
                 drop(opening);
                 Err(error)
             }
             Ok((target, diversions)) => {
-                let mut call = Call::new(setting, opening, diversions);
-                match call.begin(alloc, setting, present, target, desk) {
+                let mut call = Call::new(step.setting, opening, diversions);
+                match call.begin(step, target, desk) {
                     Ok(()) => Ok(call),
                     Err(error) => {
-                        call.give_up(present.at);
+                        call.give_up(step.present.at);
                         Err(error)
                     }
                 }
@@ -231,6 +222,7 @@ impl Call {
         ensures call { IfOk result (λ c. c ≡ (opened setting.now (standing present.now) arrival desk.old).call) }
         ensures desk { OnOk result (desk.new ≡ (opened setting.now (standing present.now) arrival desk.old).desk) }
     {
+        let step = Step::new(alloc, setting, present);
         match desk.draw(alloc) {
             Err(error) => {
                 drop(arrival);
@@ -238,7 +230,7 @@ impl Call {
             }
             Ok(tag) => {
                 let opening = opening_of(alloc, setting, present, tag, arrival)?;
-                Call::open_by(alloc, setting, present, opening, desk)
+                Call::open_by(&step, opening, desk)
             }
         }
     }

@@ -15,24 +15,22 @@ ghost use Rattle.mmtel_call.specs.Diverting.{goes_on, is_diverted, on_end};
 ghost use Rattle.mmtel_call.specs.Ringing.{failed, loose, on_due, on_response, silenced, timed_out, with_loose};
 
 use crate::calls::{Attempt, Call, Phase, Trial, Tried};
+use crate::context::Step;
 use crate::legs::give_up_caller;
 use mmtel_answers::{Hearing, status_of};
-use mmtel_call_decisions::{Present, Service, Setting, end_of, end_of_time, redirect_of};
+use mmtel_call_decisions::{Service, redirect_of};
 use mmtel_desk::{Desk, Invitation};
 use mmtel_leg::{CallerLeg, Standing};
 use mmtel_lex::Uri;
-use mmtel_precedence::AttemptEnd;
+use mmtel_precedence::{AttemptEnd, AttemptTimeout, end_by_final, end_by_timeout};
 use mmtel_scan::NoMemory;
 use mmtel_transaction::{DueWord, TKey};
-use std::alloc::Global;
 
 impl Call {
     /// An attempt of this account ended so, its leg with it; a final that was heard may be handed on.
     fn go_on_from(
         &mut self,
-        alloc: Global,
-        setting: &Setting<'_>,
-        present: &Present<'_>,
+        step: &Step<'_>,
         caller: CallerLeg<Standing>,
         callee: Tried,
         service: Option<&Service>,
@@ -42,38 +40,42 @@ impl Call {
     ) -> Result<(), NoMemory>
         requires { self.old.phase ≡ Over HasEnded }
         ensures call { OnOk result (self.new
-            ≡ (on_end setting.now (standing present.now) caller (option_copied service.entry) (option_copied response.entry)
-            (decided_after self.old.opening present.now.at (is_diverted self.old) (option_copied service.entry) (told_end how.entry.now)) (with_past callee.leg.meter self.old) desk.old).call) }
+            ≡ (on_end step.now.setting.now (standing step.now.present) caller (option_copied service.entry)
+            (option_copied response.entry)
+            (decided_after self.old.opening step.now.present.at (is_diverted self.old) (option_copied service.entry)
+            (told_end how.entry.now)) (with_past callee.leg.meter self.old) desk.old).call) }
         ensures desk { OnOk result (desk.new
-            ≡ (on_end setting.now (standing present.now) caller (option_copied service.entry) (option_copied response.entry)
-            (decided_after self.old.opening present.now.at (is_diverted self.old) (option_copied service.entry) (told_end how.entry.now)) (with_past callee.leg.meter self.old) desk.old).desk) }
+            ≡ (on_end step.now.setting.now (standing step.now.present) caller (option_copied service.entry)
+            (option_copied response.entry)
+            (decided_after self.old.opening step.now.present.at (is_diverted self.old) (option_copied service.entry)
+            (told_end how.entry.now)) (with_past callee.leg.meter self.old) desk.old).desk) }
     {
-        let kept = self.keep_meter(alloc, callee.leave(), present.at);
+        let kept = self.keep_meter(step, callee.leave());
         match kept {
             Err(error) => {
-                give_up_caller(caller, present.at);
+                give_up_caller(caller, step.present.at);
                 Err(error)
             }
-            Ok(()) => self.go_on(
-                alloc, setting, present, caller, service, how, response, desk,
-            ),
+            Ok(()) => self.go_on(step, caller, service, how, response, desk),
         }
     }
 
     /// The attempt ended so; a final that was heard may be handed on.
     fn go_on_after(
         &mut self,
-        alloc: Global,
-        setting: &Setting<'_>,
-        present: &Present<'_>,
+        step: &Step<'_>,
         x: Trial,
         how: &AttemptEnd<'_>,
         response: Option<&Hearing>,
         desk: &mut Desk,
     ) -> Result<(), NoMemory>
         requires { self.old.phase ≡ Over HasEnded }
-        ensures call { OnOk result (self.new ≡ (goes_on setting.now (standing present.now) x (told_end how.entry.now) (option_copied response.entry) self.old desk.old).call) }
-        ensures desk { OnOk result (desk.new ≡ (goes_on setting.now (standing present.now) x (told_end how.entry.now) (option_copied response.entry) self.old desk.old).desk) }
+        ensures call { OnOk result (self.new
+            ≡ (goes_on step.now.setting.now (standing step.now.present) x (told_end how.entry.now)
+            (option_copied response.entry) self.old desk.old).call) }
+        ensures desk { OnOk result (desk.new
+            ≡ (goes_on step.now.setting.now (standing step.now.present) x (told_end how.entry.now)
+            (option_copied response.entry) self.old desk.old).desk) }
     {
         let Trial {
             caller,
@@ -81,9 +83,7 @@ impl Call {
             attempt,
         } = x;
         let service = attempt.service.as_ref();
-        let gone = self.go_on_from(
-            alloc, setting, present, caller, callee, service, how, response, desk,
-        );
+        let gone = self.go_on_from(step, caller, callee, service, how, response, desk);
         drop(attempt);
         gone
     }
@@ -91,28 +91,26 @@ impl Call {
     /// The same, said of the call as it was offered.
     fn go_on_offered(
         &mut self,
-        alloc: Global,
-        setting: &Setting<'_>,
-        present: &Present<'_>,
+        step: &Step<'_>,
         x: Trial,
         how: &AttemptEnd<'_>,
         desk: &mut Desk,
     ) -> Result<(), NoMemory>
         requires { self.old.phase ≡ Over HasEnded }
         ensures call { OnOk result (self.new
-            ≡ (goes_on setting.now (standing present.now) x (told_end how.entry.now) None (record self.old { phase = Offered x }) desk.old).call) }
+            ≡ (goes_on step.now.setting.now (standing step.now.present) x (told_end how.entry.now) None
+            (record self.old { phase = Offered x }) desk.old).call) }
         ensures desk { OnOk result (desk.new
-            ≡ (goes_on setting.now (standing present.now) x (told_end how.entry.now) None (record self.old { phase = Offered x }) desk.old).desk) }
+            ≡ (goes_on step.now.setting.now (standing step.now.present) x (told_end how.entry.now) None
+            (record self.old { phase = Offered x }) desk.old).desk) }
     {
-        self.go_on_after(alloc, setting, present, x, how, None, desk)
+        self.go_on_after(step, x, how, None, desk)
     }
 
     /// The attempt ended by a final of this status, which was heard and may be handed on.
     fn go_on_from_final(
         &mut self,
-        alloc: Global,
-        setting: &Setting<'_>,
-        present: &Present<'_>,
+        step: &Step<'_>,
         x: Trial,
         redirect: Option<&Uri>,
         m: &Hearing,
@@ -120,22 +118,22 @@ impl Call {
         desk: &mut Desk,
     ) -> Result<(), NoMemory>
         requires phase { self.old.phase ≡ Over HasEnded }
-        requires code { 200 ≤ code }
+        requires code { 300 ≤ code }
         ensures call { OnOk result (self.new
-            ≡ (goes_on setting.now (standing present.now) x (end_by_final code (option_copied redirect.entry) x.attempt.rang) (Some m.now) self.old desk.old).call) }
+            ≡ (goes_on step.now.setting.now (standing step.now.present) x (end_by_final code
+            (option_copied redirect.entry) x.attempt.rang) (Some m.now) self.old desk.old).call) }
         ensures desk { OnOk result (desk.new
-            ≡ (goes_on setting.now (standing present.now) x (end_by_final code (option_copied redirect.entry) x.attempt.rang) (Some m.now) self.old desk.old).desk) }
+            ≡ (goes_on step.now.setting.now (standing step.now.present) x (end_by_final code
+            (option_copied redirect.entry) x.attempt.rang) (Some m.now) self.old desk.old).desk) }
     {
-        let how = end_of(code, redirect, x.attempt.rang);
-        self.go_on_after(alloc, setting, present, x, &how, Some(m), desk)
+        let how = end_by_final(code, redirect, x.attempt.rang);
+        self.go_on_after(step, x, &how, Some(m), desk)
     }
 
     /// The same, where the response redirects to this target or to none.
     fn go_on_redirected(
         &mut self,
-        alloc: Global,
-        setting: &Setting<'_>,
-        present: &Present<'_>,
+        step: &Step<'_>,
         x: Trial,
         redirect: Option<Uri>,
         m: &Hearing,
@@ -143,12 +141,16 @@ impl Call {
         desk: &mut Desk,
     ) -> Result<(), NoMemory>
         requires phase { self.old.phase ≡ Over HasEnded }
-        requires code { 200 ≤ code }
-        ensures call { OnOk result (self.new ≡ (goes_on setting.now (standing present.now) x (end_by_final code redirect x.attempt.rang) (Some m.now) self.old desk.old).call) }
-        ensures desk { OnOk result (desk.new ≡ (goes_on setting.now (standing present.now) x (end_by_final code redirect x.attempt.rang) (Some m.now) self.old desk.old).desk) }
+        requires code { 300 ≤ code }
+        ensures call { OnOk result (self.new
+            ≡ (goes_on step.now.setting.now (standing step.now.present) x (end_by_final code redirect x.attempt.rang)
+            (Some m.now) self.old desk.old).call) }
+        ensures desk { OnOk result (desk.new
+            ≡ (goes_on step.now.setting.now (standing step.now.present) x (end_by_final code redirect x.attempt.rang)
+            (Some m.now) self.old desk.old).desk) }
     {
         let target = redirect.as_ref();
-        let gone = self.go_on_from_final(alloc, setting, present, x, target, m, code, desk);
+        let gone = self.go_on_from_final(step, x, target, m, code, desk);
         drop(redirect);
         gone
     }
@@ -156,9 +158,7 @@ impl Call {
     /// A final from 300 of the target.
     fn hear_failure(
         &mut self,
-        alloc: Global,
-        setting: &Setting<'_>,
-        present: &Present<'_>,
+        step: &Step<'_>,
         x: Trial,
         key: TKey,
         m: &Hearing,
@@ -166,26 +166,26 @@ impl Call {
         desk: &mut Desk,
     ) -> Result<(), NoMemory>
         requires phase { self.old.phase ≡ Over HasEnded }
-        requires code { 200 ≤ code }
-        ensures call { OnOk result (self.new ≡ (failed setting.now (standing present.now) x key m.now code self.old desk.old).call) }
-        ensures desk { OnOk result (desk.new ≡ (failed setting.now (standing present.now) x key m.now code self.old desk.old).desk) }
+        requires code { 300 ≤ code }
+        ensures call { OnOk result (self.new
+            ≡ (failed step.now.setting.now (standing step.now.present) x key m.now code self.old desk.old).call) }
+        ensures desk { OnOk result (desk.new
+            ≡ (failed step.now.setting.now (standing step.now.present) x key m.now code self.old desk.old).desk) }
     {
-        let acked = desk.acknowledge_final(alloc, setting.sip, key, &x.attempt.invitation, m);
-        let redirect = redirect_of(alloc, m);
+        let acked = desk.acknowledge_final(step.alloc, step.sip(), key, &x.attempt.invitation, m);
+        let redirect = redirect_of(step.alloc, m);
         match acked {
             Err(error) => {
                 drop(redirect);
-                x.give_up(present.at);
+                x.give_up(step.present.at);
                 Err(error)
             }
             Ok(()) => match redirect {
                 Err(error) => {
-                    x.give_up(present.at);
+                    x.give_up(step.present.at);
                     Err(error)
                 }
-                Ok(redirect) => {
-                    self.go_on_redirected(alloc, setting, present, x, redirect, m, code, desk)
-                }
+                Ok(redirect) => { self.go_on_redirected(step, x, redirect, m, code, desk) }
             },
         }
     }
@@ -193,17 +193,19 @@ impl Call {
     /// A response of the target.
     pub fn hear_response(
         &mut self,
-        alloc: Global,
-        setting: &Setting<'_>,
-        present: &Present<'_>,
+        step: &Step<'_>,
         x: Trial,
         key: TKey,
         m: &Hearing,
         desk: &mut Desk,
     ) -> Result<(), NoMemory>
         requires { self.old.phase ≡ Over HasEnded }
-        ensures call { OnOk result (self.new ≡ (on_response setting.now (standing present.now) x key m.now (status_of m.now.heard.start) self.old desk.old).call) }
-        ensures desk { OnOk result (desk.new ≡ (on_response setting.now (standing present.now) x key m.now (status_of m.now.heard.start) self.old desk.old).desk) }
+        ensures call { OnOk result (self.new
+            ≡ (on_response step.now.setting.now (standing step.now.present) x key m.now
+            (status_of m.now.heard.start) self.old desk.old).call) }
+        ensures desk { OnOk result (desk.new
+            ≡ (on_response step.now.setting.now (standing step.now.present) x key m.now
+            (status_of m.now.heard.start) self.old desk.old).desk) }
     {
         let code = status_of(m.message.start());
         if code < 101 {
@@ -211,41 +213,41 @@ impl Call {
             return Ok(());
         }
         if code < 200 {
-            return self.hear_proceeding(alloc, setting, present.at, x, key, m, code, desk);
+            return self.hear_proceeding(step, x, key, m, code, desk);
         }
         if code < 300 {
-            return self.hear_answer(alloc, setting, present.at, x, key, m, desk);
+            return self.hear_answer(step, x, key, m, desk);
         }
-        self.hear_failure(alloc, setting, present, x, key, m, code, desk)
+        self.hear_failure(step, x, key, m, code, desk)
     }
 
     /// No response came from the target at all.
     pub fn hear_silence(
         &mut self,
-        alloc: Global,
-        setting: &Setting<'_>,
-        present: &Present<'_>,
+        step: &Step<'_>,
         x: Trial,
         desk: &mut Desk,
     ) -> Result<(), NoMemory>
         requires { self.old.phase ≡ Over HasEnded }
-        ensures call { OnOk result (self.new ≡ (silenced setting.now (standing present.now) x (record self.old { phase = Offered x }) desk.old).call) }
-        ensures desk { OnOk result (desk.new ≡ (silenced setting.now (standing present.now) x (record self.old { phase = Offered x }) desk.old).desk) }
+        ensures call { OnOk result (self.new
+            ≡ (silenced step.now.setting.now (standing step.now.present) x
+            (record self.old { phase = Offered x }) desk.old).call) }
+        ensures desk { OnOk result (desk.new
+            ≡ (silenced step.now.setting.now (standing step.now.present) x
+            (record self.old { phase = Offered x }) desk.old).desk) }
     {
         if x.attempt.rang {
             self.put_phase(Phase::Offered(x));
             return Ok(());
         }
-        let how = AttemptEnd::NotReachable(408);
-        self.go_on_offered(alloc, setting, present, x, &how, desk)
+        let how = end_by_timeout(AttemptTimeout::Silence, x.attempt.rang);
+        self.go_on_offered(step, x, &how, desk)
     }
 
     /// An attempt of this account, which ended so, is left with its INVITE: CANCEL to the target where that is due, and the call goes on.
     fn leave_for_next(
         &mut self,
-        alloc: Global,
-        setting: &Setting<'_>,
-        present: &Present<'_>,
+        step: &Step<'_>,
         caller: CallerLeg<Standing>,
         callee: Tried,
         service: Option<&Service>,
@@ -255,19 +257,21 @@ impl Call {
     ) -> Result<(), NoMemory>
         requires { self.old.phase ≡ Over HasEnded }
         ensures call { OnOk result (self.new
-            ≡ (on_end setting.now (standing present.now) caller (option_copied service.entry) None
-            (decided_after self.old.opening present.now.at (is_diverted self.old) (option_copied service.entry) (told_end how.entry.now))
-            (with_past callee.leg.meter (with_loose (loose (once_cancelled invitation)) self.old)) (cancelled setting.now.sip invitation desk.old)).call) }
+            ≡ (on_end step.now.setting.now (standing step.now.present) caller (option_copied service.entry) None
+            (decided_after self.old.opening step.now.present.at (is_diverted self.old) (option_copied service.entry)
+            (told_end how.entry.now))
+            (with_past callee.leg.meter (with_loose (loose (once_cancelled invitation)) self.old))
+            (cancelled step.now.setting.now.sip invitation desk.old)).call) }
         ensures desk { OnOk result (desk.new
-            ≡ (on_end setting.now (standing present.now) caller (option_copied service.entry) None
-            (decided_after self.old.opening present.now.at (is_diverted self.old) (option_copied service.entry) (told_end how.entry.now))
-            (with_past callee.leg.meter (with_loose (loose (once_cancelled invitation)) self.old)) (cancelled setting.now.sip invitation desk.old)).desk) }
+            ≡ (on_end step.now.setting.now (standing step.now.present) caller (option_copied service.entry) None
+            (decided_after self.old.opening step.now.present.at (is_diverted self.old) (option_copied service.entry)
+            (told_end how.entry.now))
+            (with_past callee.leg.meter (with_loose (loose (once_cancelled invitation)) self.old))
+            (cancelled step.now.setting.now.sip invitation desk.old)).desk) }
     {
-        let cancelled = desk.cancel(alloc, setting.sip, &invitation);
-        let left = self.leave_attempt(alloc, invitation);
-        let gone = self.go_on_from(
-            alloc, setting, present, caller, callee, service, how, None, desk,
-        );
+        let cancelled = desk.cancel(step.alloc, step.sip(), &invitation);
+        let left = self.leave_attempt(step.alloc, invitation);
+        let gone = self.go_on_from(step, caller, callee, service, how, None, desk);
         cancelled?;
         left?;
         gone
@@ -276,16 +280,18 @@ impl Call {
     /// The time of an attempt passed: CANCEL to the target, and the call goes on.
     fn time_out(
         &mut self,
-        alloc: Global,
-        setting: &Setting<'_>,
-        present: &Present<'_>,
+        step: &Step<'_>,
         x: Trial,
         how: &AttemptEnd<'_>,
         desk: &mut Desk,
     ) -> Result<(), NoMemory>
         requires { self.old.phase ≡ Over HasEnded }
-        ensures call { OnOk result (self.new ≡ (timed_out setting.now (standing present.now) x (told_end how.entry.now) self.old desk.old).call) }
-        ensures desk { OnOk result (desk.new ≡ (timed_out setting.now (standing present.now) x (told_end how.entry.now) self.old desk.old).desk) }
+        ensures call { OnOk result (self.new
+            ≡ (timed_out step.now.setting.now (standing step.now.present) x
+            (told_end how.entry.now) self.old desk.old).call) }
+        ensures desk { OnOk result (desk.new
+            ≡ (timed_out step.now.setting.now (standing step.now.present) x
+            (told_end how.entry.now) self.old desk.old).desk) }
     {
         let Trial {
             caller,
@@ -299,9 +305,7 @@ impl Call {
             invitation,
         } = attempt;
         let reached = service.as_ref();
-        let gone = self.leave_for_next(
-            alloc, setting, present, caller, callee, reached, invitation, how, desk,
-        );
+        let gone = self.leave_for_next(step, caller, callee, reached, invitation, how, desk);
         drop(service);
         gone
     }
@@ -309,41 +313,46 @@ impl Call {
     /// The same, said of the call as it was offered.
     fn time_out_offered(
         &mut self,
-        alloc: Global,
-        setting: &Setting<'_>,
-        present: &Present<'_>,
+        step: &Step<'_>,
         x: Trial,
         how: &AttemptEnd<'_>,
         desk: &mut Desk,
     ) -> Result<(), NoMemory>
         requires { self.old.phase ≡ Over HasEnded }
-        ensures call { OnOk result (self.new ≡ (timed_out setting.now (standing present.now) x (told_end how.entry.now) (record self.old { phase = Offered x }) desk.old).call) }
-        ensures desk { OnOk result (desk.new ≡ (timed_out setting.now (standing present.now) x (told_end how.entry.now) (record self.old { phase = Offered x }) desk.old).desk) }
+        ensures call { OnOk result (self.new
+            ≡ (timed_out step.now.setting.now (standing step.now.present) x (told_end how.entry.now)
+            (record self.old { phase = Offered x }) desk.old).call) }
+        ensures desk { OnOk result (desk.new
+            ≡ (timed_out step.now.setting.now (standing step.now.present) x (told_end how.entry.now)
+            (record self.old { phase = Offered x }) desk.old).desk) }
     {
-        self.time_out(alloc, setting, present, x, how, desk)
+        self.time_out(step, x, how, desk)
     }
 
     /// A deadline of the call came, which is that of this attempt or has nothing to say.
     pub fn ring_out(
         &mut self,
-        alloc: Global,
-        setting: &Setting<'_>,
-        present: &Present<'_>,
+        step: &Step<'_>,
         x: Trial,
         what: DueWord,
         desk: &mut Desk,
     ) -> Result<(), NoMemory>
         requires { self.old.phase ≡ Over HasEnded }
-        ensures call { OnOk result (self.new ≡ (on_due setting.now (standing present.now) x what (record self.old { phase = Offered x }) desk.old).call) }
-        ensures desk { OnOk result (desk.new ≡ (on_due setting.now (standing present.now) x what (record self.old { phase = Offered x }) desk.old).desk) }
+        ensures call { OnOk result (self.new
+            ≡ (on_due step.now.setting.now (standing step.now.present) x what
+            (record self.old { phase = Offered x }) desk.old).call) }
+        ensures desk { OnOk result (desk.new
+            ≡ (on_due step.now.setting.now (standing step.now.present) x what
+            (record self.old { phase = Offered x }) desk.old).desk) }
     {
         match what {
             DueWord::NoReply(number) if number == x.attempt.number => {
-                self.time_out_offered(alloc, setting, present, x, &AttemptEnd::NoReply, desk)
+                let how = end_by_timeout(AttemptTimeout::NoReplyTime, x.attempt.rang);
+                self.time_out_offered(step, x, &how, desk)
             }
             DueWord::Cap(number) if number == x.attempt.number => {
-                let how = end_of_time(x.attempt.rang);
-                self.time_out_offered(alloc, setting, present, x, &how, desk)
+                let how = end_by_timeout(AttemptTimeout::LongestTime, x.attempt.rang);
+                self.time_out_offered(step, x, &how, desk)
             }
             _ => {
                 self.put_phase(Phase::Offered(x));

@@ -9,8 +9,9 @@ ghost use Rattle.mmtel_answers.specs.Answers.{allowed};
 ghost use Rattle.mmtel_call.specs.Sending.{relayed_to_caller, replied_to, told_caller};
 
 use crate::calls::Call;
-use mmtel_answers::{Hearing, allowed, retry_after};
-use mmtel_call_decisions::{Service, Setting, unlisted_status};
+use crate::context::Step;
+use mmtel_answers::{Hearing, OwnResponse, allowed, retry_after};
+use mmtel_call_decisions::{Service, unlisted_status};
 use mmtel_desk::Desk;
 use mmtel_leg::DialogueFault;
 use mmtel_message::Line;
@@ -18,24 +19,22 @@ use mmtel_precedence::Onward;
 use mmtel_scan::{List, NoMemory};
 use mmtel_transaction::TKey;
 use mmtel_types::Side;
-use std::alloc::Global;
 
 impl Call {
     /// Answers a request of a side with a status alone.
     pub fn reply_to(
         &self,
-        alloc: Global,
-        setting: &Setting<'_>,
+        step: &Step<'_>,
         key: TKey,
         request: &Hearing,
         code: u16,
         desk: &mut Desk,
     ) -> Result<(), NoMemory>
-        ensures { OnOk result (desk.new ≡ replied_to setting.now self.now key request.now code desk.old) }
+        ensures { OnOk result (desk.new ≡ replied_to step.now.setting.now self.now key request.now code desk.old) }
     {
         desk.reply(
-            alloc,
-            setting.sip,
+            step.alloc,
+            step.sip(),
             key,
             request,
             self.opening.tag.bytes(),
@@ -46,50 +45,48 @@ impl Call {
     /// Answers it with named lines.
     fn answer_to(
         &self,
-        alloc: Global,
-        setting: &Setting<'_>,
+        step: &Step<'_>,
         key: TKey,
         request: &Hearing,
         code: u16,
         named: &List<Line>,
         desk: &mut Desk,
     ) -> Result<(), NoMemory>
-        ensures { OnOk result (desk.new ≡ answered_to setting.now self.now key request.now code named.now desk.old) }
+        ensures { OnOk result (desk.new
+            ≡ answered_to step.now.setting.now self.now key request.now code named.now desk.old) }
     {
         let tag = self.opening.tag.bytes();
-        let named = named.items();
-        desk.answer(alloc, setting.sip, key, request, tag, code, &[], named, b"")
+        let own = OwnResponse {
+            code,
+            passed: &[],
+            named: named.items(),
+            body: b"",
+        };
+        desk.answer(step.alloc, step.sip(), key, request, tag, own)
     }
 
     /// Answers the INVITE that opened the call with a status alone.
-    pub fn tell_caller(
-        &self,
-        alloc: Global,
-        setting: &Setting<'_>,
-        code: u16,
-        desk: &mut Desk,
-    ) -> Result<(), NoMemory>
-        ensures { OnOk result (desk.new ≡ told_caller setting.now self.now code desk.old) }
+    pub fn tell_caller(&self, step: &Step<'_>, code: u16, desk: &mut Desk) -> Result<(), NoMemory>
+        ensures { OnOk result (desk.new ≡ told_caller step.now.setting.now self.now code desk.old) }
     {
         let opening = &self.opening;
-        self.reply_to(alloc, setting, opening.key, &opening.invite, code, desk)
+        self.reply_to(step, opening.key, &opening.invite, code, desk)
     }
 
     /// Tells the caller of a diversion that was made, where the forward says so (TS 24.604 §4.5.2.6).
     pub fn tell_of(
         &self,
-        alloc: Global,
-        setting: &Setting<'_>,
+        step: &Step<'_>,
         due: &Onward<'_>,
         desk: &mut Desk,
     ) -> Result<(), NoMemory>
-        ensures { OnOk result (desk.new ≡ told_of setting.now (told_due due.entry.now) self.now desk.old) }
+        ensures { OnOk result (desk.new ≡ told_of step.now.setting.now (told_due due.entry.now) self.now desk.old) }
     {
         let opening = &self.opening;
-        match opening.notice_of(alloc, setting, &self.diversions, due)? {
+        match opening.notice_of(step.alloc, step.setting, &self.diversions, due)? {
             None => Ok(()),
             Some(lines) => {
-                let answered = self.answer_with(alloc, setting, 181, &lines, desk);
+                let answered = self.answer_with(step, 181, &lines, desk);
                 drop(lines);
                 answered
             }
@@ -99,46 +96,50 @@ impl Call {
     /// Answers the INVITE that opened the call with a status and these lines of History-Info.
     fn answer_with(
         &self,
-        alloc: Global,
-        setting: &Setting<'_>,
+        step: &Step<'_>,
         code: u16,
         lines: &List<Line>,
         desk: &mut Desk,
     ) -> Result<(), NoMemory>
-        ensures { OnOk result (desk.new ≡ answered setting.now.sip self.now.opening.key self.now.opening.invite self.now.opening.tag code lines.now [] [] desk.old) }
+        ensures { OnOk result (desk.new
+            ≡ answered step.now.setting.now.sip self.now.opening.key self.now.opening.invite self.now.opening.tag code
+            lines.now [] [] desk.old) }
     {
         let opening = &self.opening;
         let tag = opening.tag.bytes();
+        let own = OwnResponse {
+            code,
+            passed: lines.items(),
+            named: &[],
+            body: b"",
+        };
         desk.answer(
-            alloc,
-            setting.sip,
+            step.alloc,
+            step.sip(),
             opening.key,
             &opening.invite,
             tag,
-            code,
-            lines.items(),
-            &[],
-            b"",
+            own,
         )
     }
 
     /// Relays a response of the target to the caller.
     pub fn relay_to_caller(
         &self,
-        alloc: Global,
-        setting: &Setting<'_>,
+        step: &Step<'_>,
         service: Option<&Service>,
         response: &Hearing,
         desk: &mut Desk,
     ) -> Result<(), NoMemory>
-        ensures { OnOk result (desk.new ≡ relayed_to_caller setting.now self.now (option_copied service.entry) response.now desk.old) }
+        ensures { OnOk result (desk.new
+            ≡ relayed_to_caller step.now.setting.now self.now (option_copied service.entry) response.now desk.old) }
     {
         let opening = &self.opening;
         let peer = opening.invite.peer;
         let callee = Side::Callee;
         let lines = opening.shown_to(
-            alloc,
-            setting,
+            step.alloc,
+            step.setting,
             &self.diversions,
             service,
             callee,
@@ -146,8 +147,8 @@ impl Call {
             response,
         )?;
         let relayed = desk.relay(
-            alloc,
-            setting.sip,
+            step.alloc,
+            step.sip(),
             opening.key,
             &opening.invite,
             opening.tag.bytes(),
@@ -161,23 +162,20 @@ impl Call {
     /// Answers a request that its leg did not hear.
     pub fn refuse_unheard(
         &self,
-        alloc: Global,
-        setting: &Setting<'_>,
+        step: &Step<'_>,
         key: TKey,
         request: &Hearing,
         fault: DialogueFault,
         desk: &mut Desk,
     ) -> Result<(), NoMemory>
-        ensures { OnOk result (desk.new ≡ unheard setting.now self.now key request.now fault desk.old) }
+        ensures { OnOk result (desk.new ≡ unheard step.now.setting.now self.now key request.now fault desk.old) }
     {
         match fault {
-            DialogueFault::OldCSeq { last: _ } => {
-                self.reply_to(alloc, setting, key, request, 500, desk)
-            }
-            DialogueFault::Pending => self.reply_to(alloc, setting, key, request, 491, desk),
+            DialogueFault::OldCSeq { last: _ } => { self.reply_to(step, key, request, 500, desk) }
+            DialogueFault::Pending => self.reply_to(step, key, request, 491, desk),
             DialogueFault::Unfinished => {
-                let named = retry_after(alloc)?;
-                let answered = self.answer_to(alloc, setting, key, request, 500, &named, desk);
+                let named = retry_after(step.alloc)?;
+                let answered = self.answer_to(step, key, request, 500, &named, desk);
                 drop(named);
                 answered
             }
@@ -187,16 +185,16 @@ impl Call {
     /// Answers OPTIONS (RFC 3261 §11.2).
     fn answer_options(
         &self,
-        alloc: Global,
-        setting: &Setting<'_>,
+        step: &Step<'_>,
         key: TKey,
         request: &Hearing,
         desk: &mut Desk,
     ) -> Result<(), NoMemory>
-        ensures { OnOk result (desk.new ≡ answered_to setting.now self.now key request.now 200 allowed desk.old) }
+        ensures { OnOk result (desk.new
+            ≡ answered_to step.now.setting.now self.now key request.now 200 allowed desk.old) }
     {
-        let named = allowed(alloc)?;
-        let answered = self.answer_to(alloc, setting, key, request, 200, &named, desk);
+        let named = allowed(step.alloc)?;
+        let answered = self.answer_to(step, key, request, 200, &named, desk);
         drop(named);
         answered
     }
@@ -204,18 +202,17 @@ impl Call {
     /// Answers a request that no row of the step table has.
     pub fn answer_unlisted(
         &self,
-        alloc: Global,
-        setting: &Setting<'_>,
+        step: &Step<'_>,
         key: TKey,
         request: &Hearing,
         desk: &mut Desk,
     ) -> Result<(), NoMemory>
-        ensures { OnOk result (desk.new ≡ unlisted setting.now self.now key request.now desk.old) }
+        ensures { OnOk result (desk.new ≡ unlisted step.now.setting.now self.now key request.now desk.old) }
     {
         let status = unlisted_status(request.message.start());
         if status == 200 {
-            return self.answer_options(alloc, setting, key, request, desk);
+            return self.answer_options(step, key, request, desk);
         }
-        self.reply_to(alloc, setting, key, request, status, desk)
+        self.reply_to(step, key, request, status, desk)
     }
 }

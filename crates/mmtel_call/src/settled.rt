@@ -3,8 +3,8 @@ ghost use Rattle.std.specs.Prelude.{◌≡◌};
 ghost use Rattle.mmtel_call.specs.Settled.{has_heard, has_sent, is_over_in, is_settled};
 
 use crate::calls::{Call, Phase};
-use crate::leaving::{loose_of, taken_at, taken_of};
-use mmtel_desk::loose_at;
+use crate::leaving::{taken_at, taken_of};
+use mmtel_desk::{loose_at, loose_of};
 use mmtel_transaction::TKey;
 
 impl Call {

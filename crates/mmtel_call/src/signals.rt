@@ -5,6 +5,17 @@ use mmtel_scan::Text;
 use mmtel_transaction::{DueWord, TKey};
 use mmtel_types::Side;
 
+/// A request of a side in its dialog, other than ACK, and the server transaction that it opened.
+#[derive(Drop)]
+pub struct SideRequest {
+    /// Whose it is.
+    pub side: Side,
+    /// Its server transaction.
+    pub key: TKey,
+    /// The request as it was heard.
+    pub hearing: Hearing,
+}
+
 /// What a call hears once it is open.
 #[derive(Drop)]
 pub enum Signal {

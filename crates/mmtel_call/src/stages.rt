@@ -1,8 +1,8 @@
 //! What an answered call does on each signal, by its stage.
 ghost use Rattle.std.specs.Prelude.{◌≡◌, if◌then◌else◌, OnErr, OnOk};
 ghost use Rattle.mmtel_types.specs.declared.causes.Cause.TheVariants.{Ended as HasEnded};
-ghost use Rattle.mmtel_call.specs.Calls.{Answered, Over, Parting, Stood};
-ghost use Rattle.mmtel_call.specs.Stages.{busy_in, has_left, is_due_at, left_by, on_ack_at, on_bye, on_cancel_at, on_due_at, on_heard_at, on_invite, on_request_at};
+ghost use Rattle.mmtel_call.specs.Calls.{Over, Stood};
+ghost use Rattle.mmtel_call.specs.Stages.{acked_at, busy_in, has_left, is_ack_at, is_due_at, left_by, on_ack_at, on_bye, on_cancel_at, on_due_at, on_heard_at, on_invite, on_request_at};
 ghost use Rattle.mmtel_call.specs.Stages.{on_response_at, on_silence_at, rung_out};
 ghost use Rattle.mmtel_call.specs.Answered.{leg_of, with_leg};
 ghost use Rattle.mmtel_call.specs.Closing.{onward};
@@ -10,17 +10,19 @@ ghost use Rattle.mmtel_call.specs.Reinvites.{silenced_across};
 ghost use Rattle.mmtel_call.specs.Requests.{having_heard, is_bye, says, unlisted};
 
 use crate::answered::acknowledges;
-use crate::calls::{Call, Pair, Phase, Reinvite, Stage, Success};
+use crate::calls::{Call, Pair, Phase, Reinvite, Stage};
+use crate::context::Step;
 use crate::legs::hear;
+use crate::reinvites::RelayedInvite;
+use crate::signals::SideRequest;
 use mmtel_answers::Hearing;
-use mmtel_call_decisions::{Setting, is_same_side};
+use mmtel_call_decisions::is_same_side;
 use mmtel_desk::Desk;
 use mmtel_leg::{DialogueFault, InFlight};
 use mmtel_message::is_method;
 use mmtel_scan::NoMemory;
 use mmtel_transaction::{DueWord, TKey};
-use mmtel_types::{Moment, Side};
-use std::alloc::Global;
+use mmtel_types::Side;
 
 impl Stage {
     /// Which INVITE stands in the way of one of this side.
@@ -67,6 +69,18 @@ impl Stage {
         }
     }
 
+    /// Whether an ACK of a side is that of the 2xx which waits for it.
+    fn is_ack(&self, side: Side, m: &Hearing) -> bool
+        ensures { result ≡ is_ack_at self.now side m.now }
+    {
+        match self {
+            Stage::Answered(waiting, success) => acknowledges(*waiting, success, side, m),
+            Stage::Parting(waiting, success) => acknowledges(*waiting, success, side, m),
+            Stage::Talking => false,
+            Stage::Asking(_, _) => false,
+        }
+    }
+
     /// Whether the side has left before.
     fn has_left(&self, side: Side) -> bool
         ensures { result ≡ has_left self.now side }
@@ -91,7 +105,7 @@ impl Call {
     }
 
     /// The same, and lets a request go of which no more is kept.
-    fn pass_over(&mut self, phase: Phase, request: Hearing)
+    fn pass_over(&mut self, phase: Phase, request: SideRequest)
         requires { self.old.phase ≡ Over HasEnded }
         ensures { self.new ≡ record self.old { phase = phase } }
     {
@@ -102,32 +116,32 @@ impl Call {
     /// An INVITE of a side that its leg heard.
     fn take_invite(
         &mut self,
-        alloc: Global,
-        setting: &Setting<'_>,
-        at: Moment,
+        step: &Step<'_>,
         x: Pair,
         stage: Stage,
-        side: Side,
-        key: TKey,
-        m: Hearing,
+        request: SideRequest,
         desk: &mut Desk,
     ) -> Result<(), NoMemory>
         requires { self.old.phase ≡ Over HasEnded }
-        ensures call { OnOk result (self.new ≡ (on_invite stage setting.now x side key m (record self.old { phase = Stood x stage }) desk.old).call) }
-        ensures desk { OnOk result (desk.new ≡ (on_invite stage setting.now x side key m (record self.old { phase = Stood x stage }) desk.old).desk) }
+        ensures call { OnOk result (self.new
+            ≡ (on_invite stage step.now.setting.now x request.side request.key request.hearing
+            (record self.old { phase = Stood x stage }) desk.old).call) }
+        ensures desk { OnOk result (desk.new
+            ≡ (on_invite stage step.now.setting.now x request.side request.key request.hearing
+            (record self.old { phase = Stood x stage }) desk.old).desk) }
     {
         match stage {
-            Stage::Talking => self.invite_across(alloc, setting, at, x, side, key, m, desk),
+            Stage::Talking => self.invite_across(step, x, request, desk),
             Stage::Answered(waiting, success) => {
-                self.pass_over(Phase::Stood(x, Stage::Answered(waiting, success)), m);
+                self.pass_over(Phase::Stood(x, Stage::Answered(waiting, success)), request);
                 Ok(())
             }
             Stage::Parting(waiting, success) => {
-                self.pass_over(Phase::Stood(x, Stage::Parting(waiting, success)), m);
+                self.pass_over(Phase::Stood(x, Stage::Parting(waiting, success)), request);
                 Ok(())
             }
             Stage::Asking(asking, q) => {
-                self.pass_over(Phase::Stood(x, Stage::Asking(asking, q)), m);
+                self.pass_over(Phase::Stood(x, Stage::Asking(asking, q)), request);
                 Ok(())
             }
         }
@@ -136,9 +150,7 @@ impl Call {
     /// A side leaves, whose BYE was answered.
     fn leave_by(
         &mut self,
-        alloc: Global,
-        setting: &Setting<'_>,
-        at: Moment,
+        step: &Step<'_>,
         x: Pair,
         stage: Stage,
         side: Side,
@@ -146,20 +158,28 @@ impl Call {
         desk: &mut Desk,
     ) -> Result<(), NoMemory>
         requires { self.old.phase ≡ Over HasEnded }
-        ensures call { OnOk result (self.new ≡ (left_by stage setting.now at x side m.now (record self.old { phase = Stood x stage }) desk.old).call) }
-        ensures desk { OnOk result (desk.new ≡ (left_by stage setting.now at x side m.now (record self.old { phase = Stood x stage }) desk.old).desk) }
+        ensures call { OnOk result (self.new
+            ≡ (left_by stage step.now.setting.now step.now.present.at x side m.now
+            (record self.old { phase = Stood x stage }) desk.old).call) }
+        ensures desk { OnOk result (desk.new
+            ≡ (left_by stage step.now.setting.now step.now.present.at x side m.now
+            (record self.old { phase = Stood x stage }) desk.old).desk) }
     {
         match stage {
             Stage::Answered(waiting, success) => {
-                self.bye_before_ack(alloc, setting, at, x, waiting, success, side, desk)
+                self.bye_before_ack(step, x, waiting, success, side, desk)
             }
             Stage::Parting(_waiting, success) => {
                 drop(success);
-                self.end_pair(alloc, at, x, desk)
+                self.end_pair(step, x, desk)
             }
-            Stage::Talking => self.bye_across(alloc, setting, at, x, side, m, desk),
+            Stage::Talking => self.bye_across(step, x, side, m, desk),
             Stage::Asking(asking, q) => {
-                self.bye_while_asking(alloc, setting, at, x, asking, q, side, desk)
+                let asked = RelayedInvite {
+                    side: asking,
+                    invite: q,
+                };
+                self.bye_while_asking(step, x, asked, side, desk)
             }
         }
     }
@@ -167,27 +187,28 @@ impl Call {
     /// A BYE of a side that its leg heard.
     fn take_bye(
         &mut self,
-        alloc: Global,
-        setting: &Setting<'_>,
-        at: Moment,
+        step: &Step<'_>,
         x: Pair,
         stage: Stage,
-        side: Side,
-        key: TKey,
-        m: &Hearing,
+        request: &SideRequest,
         desk: &mut Desk,
     ) -> Result<(), NoMemory>
         requires { self.old.phase ≡ Over HasEnded }
-        ensures call { OnOk result (self.new ≡ (on_bye stage setting.now at x side key m.now (record self.old { phase = Stood x stage }) desk.old).call) }
-        ensures desk { OnOk result (desk.new ≡ (on_bye stage setting.now at x side key m.now (record self.old { phase = Stood x stage }) desk.old).desk) }
+        ensures call { OnOk result (self.new
+            ≡ (on_bye stage step.now.setting.now step.now.present.at x request.now.side request.now.key
+            request.now.hearing (record self.old { phase = Stood x stage }) desk.old).call) }
+        ensures desk { OnOk result (desk.new
+            ≡ (on_bye stage step.now.setting.now step.now.present.at x request.now.side request.now.key
+            request.now.hearing (record self.old { phase = Stood x stage }) desk.old).desk) }
     {
-        if stage.has_left(side) {
-            let replied = self.reply_to(alloc, setting, key, m, 481, desk);
+        let hearing = &request.hearing;
+        if stage.has_left(request.side) {
+            let replied = self.reply_to(step, request.key, hearing, 481, desk);
             self.put_phase(Phase::Stood(x, stage));
             return replied;
         }
-        let replied = self.reply_to(alloc, setting, key, m, 200, desk);
-        let left = self.leave_by(alloc, setting, at, x, stage, side, m, desk);
+        let replied = self.reply_to(step, request.key, hearing, 200, desk);
+        let left = self.leave_by(step, x, stage, request.side, hearing, desk);
         replied?;
         left
     }
@@ -195,28 +216,29 @@ impl Call {
     /// A request of a side that its leg heard, other than INVITE.
     fn take_other_request(
         &mut self,
-        alloc: Global,
-        setting: &Setting<'_>,
-        at: Moment,
+        step: &Step<'_>,
         x: Pair,
         stage: Stage,
-        side: Side,
-        key: TKey,
-        m: &Hearing,
+        request: &SideRequest,
         desk: &mut Desk,
     ) -> Result<(), NoMemory>
         requires { self.old.phase ≡ Over HasEnded }
         ensures call { OnOk result (self.new
-            ≡ (if is_bye m.now then on_bye stage setting.now at x side key m.now (record self.old { phase = Stood x stage }) desk.old
-            else onward (record self.old { phase = Stood x stage }) (unlisted setting.now self.old key m.now desk.old)).call) }
+            ≡ (if is_bye request.now.hearing then on_bye stage step.now.setting.now step.now.present.at x
+            request.now.side request.now.key request.now.hearing (record self.old { phase = Stood x stage }) desk.old
+            else onward (record self.old { phase = Stood x stage })
+            (unlisted step.now.setting.now self.old request.now.key request.now.hearing desk.old)).call) }
         ensures desk { OnOk result (desk.new
-            ≡ (if is_bye m.now then on_bye stage setting.now at x side key m.now (record self.old { phase = Stood x stage }) desk.old
-            else onward (record self.old { phase = Stood x stage }) (unlisted setting.now self.old key m.now desk.old)).desk) }
+            ≡ (if is_bye request.now.hearing then on_bye stage step.now.setting.now step.now.present.at x
+            request.now.side request.now.key request.now.hearing (record self.old { phase = Stood x stage }) desk.old
+            else onward (record self.old { phase = Stood x stage })
+            (unlisted step.now.setting.now self.old request.now.key request.now.hearing desk.old)).desk) }
     {
-        if is_method(b"BYE", m.message.start()) {
-            return self.take_bye(alloc, setting, at, x, stage, side, key, m, desk);
+        let hearing = &request.hearing;
+        if is_method(b"BYE", hearing.message.start()) {
+            return self.take_bye(step, x, stage, request, desk);
         }
-        let answered = self.answer_unlisted(alloc, setting, key, m, desk);
+        let answered = self.answer_unlisted(step, request.key, hearing, desk);
         self.put_phase(Phase::Stood(x, stage));
         answered
     }
@@ -224,129 +246,60 @@ impl Call {
     /// A request of a side that its leg heard.
     fn take_request(
         &mut self,
-        alloc: Global,
-        setting: &Setting<'_>,
-        at: Moment,
+        step: &Step<'_>,
         x: Pair,
         stage: Stage,
-        side: Side,
-        key: TKey,
-        m: Hearing,
+        request: SideRequest,
         desk: &mut Desk,
     ) -> Result<(), NoMemory>
         requires { self.old.phase ≡ Over HasEnded }
-        ensures call { OnOk result (self.new ≡ (on_heard_at stage setting.now at x side key m (record self.old { phase = Stood x stage }) desk.old).call) }
-        ensures desk { OnOk result (desk.new ≡ (on_heard_at stage setting.now at x side key m (record self.old { phase = Stood x stage }) desk.old).desk) }
+        ensures call { OnOk result (self.new
+            ≡ (on_heard_at stage step.now.setting.now step.now.present.at x request.side request.key request.hearing
+            (record self.old { phase = Stood x stage }) desk.old).call) }
+        ensures desk { OnOk result (desk.new
+            ≡ (on_heard_at stage step.now.setting.now step.now.present.at x request.side request.key request.hearing
+            (record self.old { phase = Stood x stage }) desk.old).desk) }
     {
-        if is_method(b"INVITE", m.message.start()) {
-            return self.take_invite(alloc, setting, at, x, stage, side, key, m, desk);
+        if is_method(b"INVITE", request.hearing.message.start()) {
+            return self.take_invite(step, x, stage, request, desk);
         }
-        let taken = self.take_other_request(alloc, setting, at, x, stage, side, key, &m, desk);
-        drop(m);
+        let taken = self.take_other_request(step, x, stage, &request, desk);
+        drop(request);
         taken
     }
 
     /// A request of a side of an answered call.
     pub fn hear_request_at(
         &mut self,
-        alloc: Global,
-        setting: &Setting<'_>,
-        at: Moment,
+        step: &Step<'_>,
         x: Pair,
         stage: Stage,
-        side: Side,
-        key: TKey,
-        m: Hearing,
+        request: SideRequest,
         desk: &mut Desk,
     ) -> Result<(), NoMemory>
         requires { self.old.phase ≡ Over HasEnded }
-        ensures call { OnOk result (self.new ≡ (on_request_at stage setting.now at x side key m (record self.old { phase = Stood x stage }) desk.old).call) }
-        ensures desk { OnOk result (desk.new ≡ (on_request_at stage setting.now at x side key m (record self.old { phase = Stood x stage }) desk.old).desk) }
+        ensures call { OnOk result (self.new
+            ≡ (on_request_at stage step.now.setting.now step.now.present.at x request.side request.key request.hearing
+            (record self.old { phase = Stood x stage }) desk.old).call) }
+        ensures desk { OnOk result (desk.new
+            ≡ (on_request_at stage step.now.setting.now step.now.present.at x request.side request.key request.hearing
+            (record self.old { phase = Stood x stage }) desk.old).desk) }
     {
         let mut x = x;
-        match x.hear(side, &m, stage.busy(side)) {
-            Ok(()) => self.take_request(alloc, setting, at, x, stage, side, key, m, desk),
+        match x.hear(request.side, &request.hearing, stage.busy(request.side)) {
+            Ok(()) => self.take_request(step, x, stage, request, desk),
             Err(fault) => {
-                let refused = self.refuse_unheard(alloc, setting, key, &m, fault, desk);
-                self.pass_over(Phase::Stood(x, stage), m);
+                let refused = self.refuse_unheard(step, request.key, &request.hearing, fault, desk);
+                self.pass_over(Phase::Stood(x, stage), request);
                 refused
             }
         }
     }
 
-    /// The ACK of a 2xx, which this call waited for or did not.
+    /// The ACK of the 2xx that waited for it.
     fn take_ack(
         &mut self,
-        alloc: Global,
-        setting: &Setting<'_>,
-        at: Moment,
-        x: Pair,
-        waiting: Side,
-        success: Success,
-        side: Side,
-        m: &Hearing,
-        desk: &mut Desk,
-    ) -> Result<(), NoMemory>
-        requires { self.old.phase ≡ Over HasEnded }
-        ensures call { OnOk result (self.new
-            ≡ (on_ack_at (Answered waiting success) setting.now at x side m.now (record self.old { phase = Stood x (Answered waiting success) }) desk.old).call) }
-        ensures desk { OnOk result (desk.new
-            ≡ (on_ack_at (Answered waiting success) setting.now at x side m.now (record self.old { phase = Stood x (Answered waiting success) }) desk.old).desk) }
-    {
-        match acknowledges(alloc, waiting, &success, side, m) {
-            Err(error) => {
-                drop(success);
-                x.give_up(at);
-                Err(error)
-            }
-            Ok(true) => {
-                let acked = self.acknowledge_across(alloc, setting, x, side, &success, m, desk);
-                drop(success);
-                acked
-            }
-            Ok(false) => self.stay(Phase::Stood(x, Stage::Answered(waiting, success))),
-        }
-    }
-
-    /// The same in a parting call.
-    fn take_last_ack(
-        &mut self,
-        alloc: Global,
-        setting: &Setting<'_>,
-        at: Moment,
-        x: Pair,
-        waiting: Side,
-        success: Success,
-        side: Side,
-        m: &Hearing,
-        desk: &mut Desk,
-    ) -> Result<(), NoMemory>
-        requires { self.old.phase ≡ Over HasEnded }
-        ensures call { OnOk result (self.new
-            ≡ (on_ack_at (Parting waiting success) setting.now at x side m.now (record self.old { phase = Stood x (Parting waiting success) }) desk.old).call) }
-        ensures desk { OnOk result (desk.new
-            ≡ (on_ack_at (Parting waiting success) setting.now at x side m.now (record self.old { phase = Stood x (Parting waiting success) }) desk.old).desk) }
-    {
-        match acknowledges(alloc, waiting, &success, side, m) {
-            Err(error) => {
-                drop(success);
-                x.give_up(at);
-                Err(error)
-            }
-            Ok(true) => {
-                drop(success);
-                self.part(alloc, setting, at, x, side, desk)
-            }
-            Ok(false) => self.stay(Phase::Stood(x, Stage::Parting(waiting, success))),
-        }
-    }
-
-    /// An ACK of a side of an answered call.
-    pub fn hear_ack_at(
-        &mut self,
-        alloc: Global,
-        setting: &Setting<'_>,
-        at: Moment,
+        step: &Step<'_>,
         x: Pair,
         stage: Stage,
         side: Side,
@@ -354,34 +307,68 @@ impl Call {
         desk: &mut Desk,
     ) -> Result<(), NoMemory>
         requires { self.old.phase ≡ Over HasEnded }
-        ensures call { OnOk result (self.new ≡ (on_ack_at stage setting.now at x side m.now (record self.old { phase = Stood x stage }) desk.old).call) }
-        ensures desk { OnOk result (desk.new ≡ (on_ack_at stage setting.now at x side m.now (record self.old { phase = Stood x stage }) desk.old).desk) }
+        ensures call { OnOk result (self.new
+            ≡ (acked_at stage step.now.setting.now step.now.present.at x side m.now
+            (record self.old { phase = Stood x stage }) desk.old).call) }
+        ensures desk { OnOk result (desk.new
+            ≡ (acked_at stage step.now.setting.now step.now.present.at x side m.now
+            (record self.old { phase = Stood x stage }) desk.old).desk) }
     {
         match stage {
-            Stage::Answered(waiting, success) => {
-                self.take_ack(alloc, setting, at, x, waiting, success, side, m, desk)
+            Stage::Answered(_waiting, success) => {
+                let acked = self.acknowledge_across(step, x, side, &success, m, desk);
+                drop(success);
+                acked
             }
-            Stage::Parting(waiting, success) => {
-                self.take_last_ack(alloc, setting, at, x, waiting, success, side, m, desk)
+            Stage::Parting(_waiting, success) => {
+                drop(success);
+                self.part(step, x, side, desk)
             }
             Stage::Talking => self.stay(Phase::Stood(x, Stage::Talking)),
             Stage::Asking(asking, q) => self.stay(Phase::Stood(x, Stage::Asking(asking, q))),
         }
     }
 
+    /// An ACK of a side of an answered call.
+    pub fn hear_ack_at(
+        &mut self,
+        step: &Step<'_>,
+        x: Pair,
+        stage: Stage,
+        side: Side,
+        m: &Hearing,
+        desk: &mut Desk,
+    ) -> Result<(), NoMemory>
+        requires { self.old.phase ≡ Over HasEnded }
+        ensures call { OnOk result (self.new
+            ≡ (on_ack_at stage step.now.setting.now step.now.present.at x side m.now
+            (record self.old { phase = Stood x stage }) desk.old).call) }
+        ensures desk { OnOk result (desk.new
+            ≡ (on_ack_at stage step.now.setting.now step.now.present.at x side m.now
+            (record self.old { phase = Stood x stage }) desk.old).desk) }
+    {
+        if stage.is_ack(side, m) {
+            return self.take_ack(step, x, stage, side, m, desk);
+        }
+        self.stay(Phase::Stood(x, stage))
+    }
+
     /// A CANCEL in an answered call, which had its 200.
     pub fn hear_cancel_at(
         &mut self,
-        alloc: Global,
-        setting: &Setting<'_>,
+        step: &Step<'_>,
         x: Pair,
         stage: Stage,
         invite: TKey,
         desk: &mut Desk,
     ) -> Result<(), NoMemory>
         requires { self.old.phase ≡ Over HasEnded }
-        ensures call { OnOk result (self.new ≡ (on_cancel_at stage setting.now x invite (record self.old { phase = Stood x stage }) desk.old).call) }
-        ensures desk { OnOk result (desk.new ≡ (on_cancel_at stage setting.now x invite (record self.old { phase = Stood x stage }) desk.old).desk) }
+        ensures call { OnOk result (self.new
+            ≡ (on_cancel_at stage step.now.setting.now x invite
+            (record self.old { phase = Stood x stage }) desk.old).call) }
+        ensures desk { OnOk result (desk.new
+            ≡ (on_cancel_at stage step.now.setting.now x invite
+            (record self.old { phase = Stood x stage }) desk.old).desk) }
     {
         match stage {
             Stage::Answered(waiting, success) => self.stay(Phase::Stood(
@@ -395,7 +382,11 @@ impl Call {
             Stage::Talking => self.stay(Phase::Stood(x, Stage::Talking)),
             Stage::Asking(asking, q) => {
                 if invite.0 == q.key.0 {
-                    return self.cancel_across(alloc, setting, x, asking, q, desk);
+                    let asked = RelayedInvite {
+                        side: asking,
+                        invite: q,
+                    };
+                    return self.cancel_across(step, x, asked, desk);
                 }
                 self.stay(Phase::Stood(x, Stage::Asking(asking, q)))
             }
@@ -405,9 +396,7 @@ impl Call {
     /// A response to the INVITE that was relayed.
     pub fn hear_response_at(
         &mut self,
-        alloc: Global,
-        setting: &Setting<'_>,
-        at: Moment,
+        step: &Step<'_>,
         x: Pair,
         stage: Stage,
         key: TKey,
@@ -415,8 +404,12 @@ impl Call {
         desk: &mut Desk,
     ) -> Result<(), NoMemory>
         requires { self.old.phase ≡ Over HasEnded }
-        ensures call { OnOk result (self.new ≡ (on_response_at stage setting.now at x key m.now (record self.old { phase = Stood x stage }) desk.old).call) }
-        ensures desk { OnOk result (desk.new ≡ (on_response_at stage setting.now at x key m.now (record self.old { phase = Stood x stage }) desk.old).desk) }
+        ensures call { OnOk result (self.new
+            ≡ (on_response_at stage step.now.setting.now step.now.present.at x key m.now
+            (record self.old { phase = Stood x stage }) desk.old).call) }
+        ensures desk { OnOk result (desk.new
+            ≡ (on_response_at stage step.now.setting.now step.now.present.at x key m.now
+            (record self.old { phase = Stood x stage }) desk.old).desk) }
     {
         match stage {
             Stage::Answered(waiting, success) => self.stay(Phase::Stood(
@@ -429,7 +422,11 @@ impl Call {
             )),
             Stage::Talking => self.stay(Phase::Stood(x, Stage::Talking)),
             Stage::Asking(asking, q) => {
-                self.hear_response_across(alloc, setting, at, x, asking, q, key, m, desk)
+                let asked = RelayedInvite {
+                    side: asking,
+                    invite: q,
+                };
+                self.hear_response_across(step, x, asked, key, m, desk)
             }
         }
     }
@@ -437,18 +434,18 @@ impl Call {
     /// No response came to this INVITE, which goes with the call.
     fn end_by_silence(
         &mut self,
-        alloc: Global,
-        setting: &Setting<'_>,
-        at: Moment,
+        step: &Step<'_>,
         x: Pair,
         q: Reinvite,
         desk: &mut Desk,
     ) -> Result<(), NoMemory>
         requires { self.old.phase ≡ Over HasEnded }
-        ensures call { OnOk result (self.new ≡ (silenced_across setting.now at x q self.old desk.old).call) }
-        ensures desk { OnOk result (desk.new ≡ (silenced_across setting.now at x q self.old desk.old).desk) }
+        ensures call { OnOk result (self.new
+            ≡ (silenced_across step.now.setting.now step.now.present.at x q self.old desk.old).call) }
+        ensures desk { OnOk result (desk.new
+            ≡ (silenced_across step.now.setting.now step.now.present.at x q self.old desk.old).desk) }
     {
-        let heard = self.hear_silence_across(alloc, setting, at, x, &q, desk);
+        let heard = self.hear_silence_across(step, x, &q, desk);
         drop(q);
         heard
     }
@@ -456,16 +453,18 @@ impl Call {
     /// No response came to the INVITE that was relayed.
     pub fn hear_silence_at(
         &mut self,
-        alloc: Global,
-        setting: &Setting<'_>,
-        at: Moment,
+        step: &Step<'_>,
         x: Pair,
         stage: Stage,
         desk: &mut Desk,
     ) -> Result<(), NoMemory>
         requires { self.old.phase ≡ Over HasEnded }
-        ensures call { OnOk result (self.new ≡ (on_silence_at stage setting.now at x (record self.old { phase = Stood x stage }) desk.old).call) }
-        ensures desk { OnOk result (desk.new ≡ (on_silence_at stage setting.now at x (record self.old { phase = Stood x stage }) desk.old).desk) }
+        ensures call { OnOk result (self.new
+            ≡ (on_silence_at stage step.now.setting.now step.now.present.at x
+            (record self.old { phase = Stood x stage }) desk.old).call) }
+        ensures desk { OnOk result (desk.new
+            ≡ (on_silence_at stage step.now.setting.now step.now.present.at x
+            (record self.old { phase = Stood x stage }) desk.old).desk) }
     {
         match stage {
             Stage::Answered(waiting, success) => self.stay(Phase::Stood(
@@ -477,32 +476,34 @@ impl Call {
                 Stage::Parting(waiting, success),
             )),
             Stage::Talking => self.stay(Phase::Stood(x, Stage::Talking)),
-            Stage::Asking(_asking, q) => self.end_by_silence(alloc, setting, at, x, q, desk),
+            Stage::Asking(_asking, q) => self.end_by_silence(step, x, q, desk),
         }
     }
 
     /// No ACK came of the 2xx that waited for it.
     fn lapse(
         &mut self,
-        alloc: Global,
-        setting: &Setting<'_>,
-        at: Moment,
+        step: &Step<'_>,
         x: Pair,
         stage: Stage,
         desk: &mut Desk,
     ) -> Result<(), NoMemory>
         requires { self.old.phase ≡ Over HasEnded }
-        ensures call { OnOk result (self.new ≡ (rung_out stage setting.now at x (record self.old { phase = Stood x stage }) desk.old).call) }
-        ensures desk { OnOk result (desk.new ≡ (rung_out stage setting.now at x (record self.old { phase = Stood x stage }) desk.old).desk) }
+        ensures call { OnOk result (self.new
+            ≡ (rung_out stage step.now.setting.now step.now.present.at x
+            (record self.old { phase = Stood x stage }) desk.old).call) }
+        ensures desk { OnOk result (desk.new
+            ≡ (rung_out stage step.now.setting.now step.now.present.at x
+            (record self.old { phase = Stood x stage }) desk.old).desk) }
     {
         match stage {
             Stage::Answered(waiting, success) => {
                 drop(success);
-                self.end_unacknowledged(alloc, setting, at, x, waiting, desk)
+                self.end_unacknowledged(step, x, waiting, desk)
             }
             Stage::Parting(waiting, success) => {
                 drop(success);
-                self.part(alloc, setting, at, x, waiting, desk)
+                self.part(step, x, waiting, desk)
             }
             Stage::Talking => self.stay(Phase::Stood(x, Stage::Talking)),
             Stage::Asking(asking, q) => self.stay(Phase::Stood(x, Stage::Asking(asking, q))),
@@ -512,20 +513,22 @@ impl Call {
     /// A deadline of an answered call came.
     pub fn ring_out_at(
         &mut self,
-        alloc: Global,
-        setting: &Setting<'_>,
-        at: Moment,
+        step: &Step<'_>,
         x: Pair,
         stage: Stage,
         what: DueWord,
         desk: &mut Desk,
     ) -> Result<(), NoMemory>
         requires { self.old.phase ≡ Over HasEnded }
-        ensures call { OnOk result (self.new ≡ (on_due_at stage setting.now at x what (record self.old { phase = Stood x stage }) desk.old).call) }
-        ensures desk { OnOk result (desk.new ≡ (on_due_at stage setting.now at x what (record self.old { phase = Stood x stage }) desk.old).desk) }
+        ensures call { OnOk result (self.new
+            ≡ (on_due_at stage step.now.setting.now step.now.present.at x what
+            (record self.old { phase = Stood x stage }) desk.old).call) }
+        ensures desk { OnOk result (desk.new
+            ≡ (on_due_at stage step.now.setting.now step.now.present.at x what
+            (record self.old { phase = Stood x stage }) desk.old).desk) }
     {
         if stage.is_due(what) {
-            return self.lapse(alloc, setting, at, x, stage, desk);
+            return self.lapse(step, x, stage, desk);
         }
         self.stay(Phase::Stood(x, stage))
     }

@@ -7,16 +7,17 @@ ghost use Rattle.mmtel_desk.specs.Invites.{invite_answered, invite_silent};
 ghost use Rattle.mmtel_call_decisions.specs.Site.{standing};
 ghost use Rattle.mmtel_call.specs.Calls.{Offered, Over};
 ghost use Rattle.mmtel_call.specs.Ringing.{on_response};
-ghost use Rattle.mmtel_call.specs.Table.{ack_in, answer_to, cancel_in, current, due_in, is_branch, request_in, response_in, silence_in, silence_of, step};
+ghost use Rattle.mmtel_call.specs.Table.{ack_in, answer_to, cancel_in, current, due_in, is_branch, request_in, response_in, silence_in, silence_of, step, step as step_of};
 
 use crate::calls::{Call, Phase, Stage, Trial};
-use crate::signals::Signal;
+use crate::context::Step;
+use crate::signals::{SideRequest, Signal};
 use mmtel_answers::Hearing;
 use mmtel_call_decisions::{Present, Setting};
 use mmtel_desk::{Desk, invite_answered, invite_silent};
 use mmtel_scan::NoMemory;
 use mmtel_transaction::{DueWord, TKey};
-use mmtel_types::{Cause, Moment, Side};
+use mmtel_types::{Cause, Side};
 use std::alloc::Global;
 use std::mem;
 
@@ -43,32 +44,30 @@ impl Call {
     /// A request of a side in its dialog.
     fn hear_request(
         &mut self,
-        alloc: Global,
-        setting: &Setting<'_>,
-        at: Moment,
-        side: Side,
-        key: TKey,
-        m: Hearing,
+        step: &Step<'_>,
+        request: SideRequest,
         desk: &mut Desk,
     ) -> Result<(), NoMemory>
-        ensures call { OnOk result (self.new ≡ (request_in self.old.phase setting.now at side key m self.old desk.old).call) }
-        ensures desk { OnOk result (desk.new ≡ (request_in self.old.phase setting.now at side key m self.old desk.old).desk) }
+        ensures call { OnOk result (self.new
+            ≡ (request_in self.old.phase step.now.setting.now step.now.present.at request.side request.key
+            request.hearing self.old desk.old).call) }
+        ensures desk { OnOk result (desk.new
+            ≡ (request_in self.old.phase step.now.setting.now step.now.present.at request.side request.key
+            request.hearing self.old desk.old).desk) }
     {
         match mem::replace(&mut self.phase, Phase::Over(Cause::Ended)) {
             Phase::Offered(x) => {
-                let heard = self.hear_request_offered(alloc, setting, at, x, side, key, &m, desk);
-                drop(m);
+                let heard = self.hear_request_offered(step, x, &request, desk);
+                drop(request);
                 heard
             }
-            Phase::Stood(x, stage) => {
-                self.hear_request_at(alloc, setting, at, x, stage, side, key, m, desk)
-            }
+            Phase::Stood(x, stage) => { self.hear_request_at(step, x, stage, request, desk) }
             Phase::Lent(loan) => {
-                drop(m);
+                drop(request);
                 self.stay(Phase::Lent(loan))
             }
             Phase::Over(cause) => {
-                drop(m);
+                drop(request);
                 self.stay(Phase::Over(cause))
             }
         }
@@ -77,21 +76,19 @@ impl Call {
     /// An ACK of a side.
     fn hear_ack(
         &mut self,
-        alloc: Global,
-        setting: &Setting<'_>,
-        at: Moment,
+        step: &Step<'_>,
         side: Side,
         m: &Hearing,
         desk: &mut Desk,
     ) -> Result<(), NoMemory>
-        ensures call { OnOk result (self.new ≡ (ack_in self.old.phase setting.now at side m.now self.old desk.old).call) }
-        ensures desk { OnOk result (desk.new ≡ (ack_in self.old.phase setting.now at side m.now self.old desk.old).desk) }
+        ensures call { OnOk result (self.new
+            ≡ (ack_in self.old.phase step.now.setting.now step.now.present.at side m.now self.old desk.old).call) }
+        ensures desk { OnOk result (desk.new
+            ≡ (ack_in self.old.phase step.now.setting.now step.now.present.at side m.now self.old desk.old).desk) }
     {
         match mem::replace(&mut self.phase, Phase::Over(Cause::Ended)) {
             Phase::Offered(x) => self.stay(Phase::Offered(x)),
-            Phase::Stood(x, stage) => {
-                self.hear_ack_at(alloc, setting, at, x, stage, side, m, desk)
-            }
+            Phase::Stood(x, stage) => { self.hear_ack_at(step, x, stage, side, m, desk) }
             Phase::Lent(loan) => self.stay(Phase::Lent(loan)),
             Phase::Over(cause) => self.stay(Phase::Over(cause)),
         }
@@ -100,22 +97,24 @@ impl Call {
     /// A CANCEL.
     fn hear_any_cancel(
         &mut self,
-        alloc: Global,
-        setting: &Setting<'_>,
-        at: Moment,
+        step: &Step<'_>,
         key: TKey,
         m: &Hearing,
         invite: TKey,
         desk: &mut Desk,
     ) -> Result<(), NoMemory>
-        ensures call { OnOk result (self.new ≡ (cancel_in self.old.phase setting.now at key m.now invite self.old desk.old).call) }
-        ensures desk { OnOk result (desk.new ≡ (cancel_in self.old.phase setting.now at key m.now invite self.old desk.old).desk) }
+        ensures call { OnOk result (self.new
+            ≡ (cancel_in self.old.phase step.now.setting.now step.now.present.at key m.now invite
+            self.old desk.old).call) }
+        ensures desk { OnOk result (desk.new
+            ≡ (cancel_in self.old.phase step.now.setting.now step.now.present.at key m.now invite
+            self.old desk.old).desk) }
     {
         match mem::replace(&mut self.phase, Phase::Over(Cause::Ended)) {
-            Phase::Offered(x) => { self.hear_cancel(alloc, setting, at, x, key, m, invite, desk) }
+            Phase::Offered(x) => { self.hear_cancel(step, x, key, m, invite, desk) }
             Phase::Stood(x, stage) => {
-                let replied = self.reply_to(alloc, setting, key, m, 200, desk);
-                let heard = self.hear_cancel_at(alloc, setting, x, stage, invite, desk);
+                let replied = self.reply_to(step, key, m, 200, desk);
+                let heard = self.hear_cancel_at(step, x, stage, invite, desk);
                 replied?;
                 heard
             }
@@ -127,9 +126,7 @@ impl Call {
     /// A response of the target that the call is offered to.
     fn hear_response_offered(
         &mut self,
-        alloc: Global,
-        setting: &Setting<'_>,
-        present: &Present<'_>,
+        step: &Step<'_>,
         x: Trial,
         key: TKey,
         m: &Hearing,
@@ -137,76 +134,63 @@ impl Call {
     ) -> Result<(), NoMemory>
         requires { self.old.phase ≡ Over HasEnded }
         ensures call { OnOk result (self.new
-            ≡ (on_response setting.now (standing present.now) x key m.now (status_of m.now.heard.start) (record self.old { phase = Offered x }) desk.old).call) }
+            ≡ (on_response step.now.setting.now (standing step.now.present) x key m.now (status_of m.now.heard.start)
+            (record self.old { phase = Offered x }) desk.old).call) }
         ensures desk { OnOk result (desk.new
-            ≡ (on_response setting.now (standing present.now) x key m.now (status_of m.now.heard.start) (record self.old { phase = Offered x }) desk.old).desk) }
+            ≡ (on_response step.now.setting.now (standing step.now.present) x key m.now (status_of m.now.heard.start)
+            (record self.old { phase = Offered x }) desk.old).desk) }
     {
-        self.hear_response(alloc, setting, present, x, key, m, desk)
+        self.hear_response(step, x, key, m, desk)
     }
 
     /// A response to the INVITE that the call waits on.
     fn hear_answer_of(
         &mut self,
-        alloc: Global,
-        setting: &Setting<'_>,
-        present: &Present<'_>,
+        step: &Step<'_>,
         key: TKey,
         m: &Hearing,
         desk: &mut Desk,
     ) -> Result<(), NoMemory>
-        ensures call { OnOk result (self.new ≡ (response_in self.old.phase setting.now (standing present.now) key m.now self.old desk.old).call) }
-        ensures desk { OnOk result (desk.new ≡ (response_in self.old.phase setting.now (standing present.now) key m.now self.old desk.old).desk) }
+        ensures call { OnOk result (self.new
+            ≡ (response_in self.old.phase step.now.setting.now (standing step.now.present) key m.now
+            self.old desk.old).call) }
+        ensures desk { OnOk result (desk.new
+            ≡ (response_in self.old.phase step.now.setting.now (standing step.now.present) key m.now
+            self.old desk.old).desk) }
     {
         match mem::replace(&mut self.phase, Phase::Over(Cause::Ended)) {
-            Phase::Offered(x) => {
-                self.hear_response_offered(alloc, setting, present, x, key, m, desk)
-            }
-            Phase::Stood(x, stage) => {
-                self.hear_response_at(alloc, setting, present.at, x, stage, key, m, desk)
-            }
+            Phase::Offered(x) => { self.hear_response_offered(step, x, key, m, desk) }
+            Phase::Stood(x, stage) => { self.hear_response_at(step, x, stage, key, m, desk) }
             Phase::Lent(loan) => self.stay(Phase::Lent(loan)),
             Phase::Over(cause) => self.stay(Phase::Over(cause)),
         }
     }
 
     /// No response came to the INVITE that the call waits on.
-    fn hear_silence_of(
-        &mut self,
-        alloc: Global,
-        setting: &Setting<'_>,
-        present: &Present<'_>,
-        desk: &mut Desk,
-    ) -> Result<(), NoMemory>
-        ensures call { OnOk result (self.new ≡ (silence_in self.old.phase setting.now (standing present.now) self.old desk.old).call) }
-        ensures desk { OnOk result (desk.new ≡ (silence_in self.old.phase setting.now (standing present.now) self.old desk.old).desk) }
+    fn hear_silence_of(&mut self, step: &Step<'_>, desk: &mut Desk) -> Result<(), NoMemory>
+        ensures call { OnOk result (self.new
+            ≡ (silence_in self.old.phase step.now.setting.now (standing step.now.present) self.old desk.old).call) }
+        ensures desk { OnOk result (desk.new
+            ≡ (silence_in self.old.phase step.now.setting.now (standing step.now.present) self.old desk.old).desk) }
     {
         match mem::replace(&mut self.phase, Phase::Over(Cause::Ended)) {
-            Phase::Offered(x) => self.hear_silence(alloc, setting, present, x, desk),
-            Phase::Stood(x, stage) => {
-                self.hear_silence_at(alloc, setting, present.at, x, stage, desk)
-            }
+            Phase::Offered(x) => self.hear_silence(step, x, desk),
+            Phase::Stood(x, stage) => { self.hear_silence_at(step, x, stage, desk) }
             Phase::Lent(loan) => self.stay(Phase::Lent(loan)),
             Phase::Over(cause) => self.stay(Phase::Over(cause)),
         }
     }
 
     /// A deadline of the call came.
-    fn hear_due(
-        &mut self,
-        alloc: Global,
-        setting: &Setting<'_>,
-        present: &Present<'_>,
-        what: DueWord,
-        desk: &mut Desk,
-    ) -> Result<(), NoMemory>
-        ensures call { OnOk result (self.new ≡ (due_in self.old.phase setting.now (standing present.now) what self.old desk.old).call) }
-        ensures desk { OnOk result (desk.new ≡ (due_in self.old.phase setting.now (standing present.now) what self.old desk.old).desk) }
+    fn hear_due(&mut self, step: &Step<'_>, what: DueWord, desk: &mut Desk) -> Result<(), NoMemory>
+        ensures call { OnOk result (self.new
+            ≡ (due_in self.old.phase step.now.setting.now (standing step.now.present) what self.old desk.old).call) }
+        ensures desk { OnOk result (desk.new
+            ≡ (due_in self.old.phase step.now.setting.now (standing step.now.present) what self.old desk.old).desk) }
     {
         match mem::replace(&mut self.phase, Phase::Over(Cause::Ended)) {
-            Phase::Offered(x) => self.ring_out(alloc, setting, present, x, what, desk),
-            Phase::Stood(x, stage) => {
-                self.ring_out_at(alloc, setting, present.at, x, stage, what, desk)
-            }
+            Phase::Offered(x) => self.ring_out(step, x, what, desk),
+            Phase::Stood(x, stage) => { self.ring_out_at(step, x, stage, what, desk) }
             Phase::Lent(loan) => self.stay(Phase::Lent(loan)),
             Phase::Over(cause) => self.stay(Phase::Over(cause)),
         }
@@ -215,43 +199,47 @@ impl Call {
     /// A response, by the branch of the INVITE that it answers.
     fn hear_answer_to(
         &mut self,
-        alloc: Global,
-        setting: &Setting<'_>,
-        present: &Present<'_>,
+        step: &Step<'_>,
         branch: Option<&[u8]>,
         key: TKey,
         m: &Hearing,
         desk: &mut Desk,
     ) -> Result<(), NoMemory>
-        ensures call { OnOk result (self.new ≡ (answer_to (option_copied branch.entry) setting.now (standing present.now) key m.now self.old desk.old).call) }
-        ensures desk { OnOk result (desk.new ≡ (answer_to (option_copied branch.entry) setting.now (standing present.now) key m.now self.old desk.old).desk) }
+        ensures call { OnOk result (self.new
+            ≡ (answer_to (option_copied branch.entry) step.now.setting.now (standing step.now.present) key m.now
+            self.old desk.old).call) }
+        ensures desk { OnOk result (desk.new
+            ≡ (answer_to (option_copied branch.entry) step.now.setting.now (standing step.now.present) key m.now
+            self.old desk.old).desk) }
     {
         let Some(branch) = branch else {
             return Ok(());
         };
         if self.phase.waits_on(branch) {
-            return self.hear_answer_of(alloc, setting, present, key, m, desk);
+            return self.hear_answer_of(step, key, m, desk);
         }
-        self.hear_other(alloc, setting, key, m, branch, desk)
+        self.hear_other(step, key, m, branch, desk)
     }
 
     /// Silence, by the branch of the INVITE that was given up.
     fn hear_silence_to(
         &mut self,
-        alloc: Global,
-        setting: &Setting<'_>,
-        present: &Present<'_>,
+        step: &Step<'_>,
         branch: Option<&[u8]>,
         desk: &mut Desk,
     ) -> Result<(), NoMemory>
-        ensures call { OnOk result (self.new ≡ (silence_of (option_copied branch.entry) setting.now (standing present.now) self.old desk.old).call) }
-        ensures desk { OnOk result (desk.new ≡ (silence_of (option_copied branch.entry) setting.now (standing present.now) self.old desk.old).desk) }
+        ensures call { OnOk result (self.new
+            ≡ (silence_of (option_copied branch.entry) step.now.setting.now (standing step.now.present)
+            self.old desk.old).call) }
+        ensures desk { OnOk result (desk.new
+            ≡ (silence_of (option_copied branch.entry) step.now.setting.now (standing step.now.present)
+            self.old desk.old).desk) }
     {
         let Some(branch) = branch else {
             return Ok(());
         };
         if self.phase.waits_on(branch) {
-            return self.hear_silence_of(alloc, setting, present, desk);
+            return self.hear_silence_of(step, desk);
         }
         self.drop_silent(branch);
         Ok(())
@@ -260,21 +248,23 @@ impl Call {
     /// A response.
     fn hear_any_answer(
         &mut self,
-        alloc: Global,
-        setting: &Setting<'_>,
-        present: &Present<'_>,
+        step: &Step<'_>,
         key: TKey,
         m: &Hearing,
         desk: &mut Desk,
     ) -> Result<(), NoMemory>
-        ensures call { OnOk result (self.new ≡ (answer_to (invite_answered m.now) setting.now (standing present.now) key m.now self.old desk.old).call) }
-        ensures desk { OnOk result (desk.new ≡ (answer_to (invite_answered m.now) setting.now (standing present.now) key m.now self.old desk.old).desk) }
+        ensures call { OnOk result (self.new
+            ≡ (answer_to (invite_answered m.now) step.now.setting.now (standing step.now.present) key m.now
+            self.old desk.old).call) }
+        ensures desk { OnOk result (desk.new
+            ≡ (answer_to (invite_answered m.now) step.now.setting.now (standing step.now.present) key m.now
+            self.old desk.old).desk) }
     {
-        match invite_answered(alloc, m)? {
+        match invite_answered(step.alloc, m)? {
             None => Ok(()),
             Some(branch) => {
                 let answered = Some(branch.bytes());
-                let heard = self.hear_answer_to(alloc, setting, present, answered, key, m, desk);
+                let heard = self.hear_answer_to(step, answered, key, m, desk);
                 drop(branch);
                 heard
             }
@@ -295,15 +285,34 @@ impl Call {
         signal: Signal,
         desk: &mut Desk,
     ) -> Result<(), NoMemory>
-        ensures call { OnOk result (self.new ≡ (step setting.now (standing present.now) signal self.old desk.old).call) }
-        ensures desk { OnOk result (desk.new ≡ (step setting.now (standing present.now) signal self.old desk.old).desk) }
+        ensures call { OnOk result (self.new
+            ≡ (step setting.now (standing present.now) signal self.old desk.old).call) }
+        ensures desk { OnOk result (desk.new
+            ≡ (step setting.now (standing present.now) signal self.old desk.old).desk) }
+    {
+        self.hear_signal(&Step::new(alloc, setting, present), signal, desk)
+    }
+
+    /// The same, of what the step is given as one value.
+    #[tactic(auto, unfolding(crate::specs::Table::step))]
+    fn hear_signal(
+        &mut self,
+        step: &Step<'_>,
+        signal: Signal,
+        desk: &mut Desk,
+    ) -> Result<(), NoMemory>
+        ensures call { OnOk result (self.new
+            ≡ (step_of step.now.setting.now (standing step.now.present) signal self.old desk.old).call) }
+        ensures desk { OnOk result (desk.new
+            ≡ (step_of step.now.setting.now (standing step.now.present) signal self.old desk.old).desk) }
     {
         match signal {
             Signal::Request { side, key, request } => {
-                self.hear_request(alloc, setting, present.at, side, key, request, desk)
+                let hearing = request;
+                self.hear_request(step, SideRequest { side, key, hearing }, desk)
             }
             Signal::Ack { side, ack } => {
-                let heard = self.hear_ack(alloc, setting, present.at, side, &ack, desk);
+                let heard = self.hear_ack(step, side, &ack, desk);
                 drop(ack);
                 heard
             }
@@ -312,24 +321,23 @@ impl Call {
                 cancel,
                 invite,
             } => {
-                let at = present.at;
-                let heard = self.hear_any_cancel(alloc, setting, at, key, &cancel, invite, desk);
+                let heard = self.hear_any_cancel(step, key, &cancel, invite, desk);
                 drop(cancel);
                 heard
             }
             Signal::Answer { key, response } => {
-                let heard = self.hear_any_answer(alloc, setting, present, key, &response, desk);
+                let heard = self.hear_any_answer(step, key, &response, desk);
                 drop(response);
                 heard
             }
             Signal::Silent { branch, method } => {
                 let invite = invite_silent(branch.bytes(), method.bytes());
-                let heard = self.hear_silence_to(alloc, setting, present, invite, desk);
+                let heard = self.hear_silence_to(step, invite, desk);
                 drop(branch);
                 drop(method);
                 heard
             }
-            Signal::Due { what } => self.hear_due(alloc, setting, present, what, desk),
+            Signal::Due { what } => self.hear_due(step, what, desk),
             Signal::Ended { key } => {
                 self.drop_ended(key);
                 Ok(())

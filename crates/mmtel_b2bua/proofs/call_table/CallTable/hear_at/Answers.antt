@@ -1,4 +1,4 @@
-use Rattle.std.proofs.Common.{◌≡◌, ◌<◌, ◌≤◌, ◌+◌, ◌-◌, ℕ, Bool, List, Option, Some, OnOk, length, subst, sym, ap, ◌∙◌}
+use Rattle.std.proofs.Common.{◌≡◌, ◌<◌, ◌≤◌, ◌+◌, ◌-◌, ℕ, Bool, List, Some, OnOk, length, subst, sym, ap, ◌∙◌}
 use Rattle.std.specs.Prelude.{if◌then◌else◌, option_to_list, slice_get, set}
 use Rattle.std.specs.Box.{with_value}
 use Rattle.std.proofs.lemmas.Result.{on_ok_weaker}
@@ -61,14 +61,14 @@ returns-clause-table c =
     let gone = c.is_gone-gone.result in
     let invites = option_to_list c.args.invite in
     let now : unboxed c.keep_at-after.new.entries.items ≡ left gone es k y = ap unboxed c.keep_at-after.ensures.entries ∙ left_boxes bs k gone b in
-    let made : Step = step c.args.setting.now (by_counts c.args.setting.now c.args.at c.args.sheets.now c.take.new.busy) c.args.signal e.call c.args.desk.now in
-    let same : made ≡ step_of c.args.setting.now c.args.at c.args.sheets.now (busy_beside (number_of e) es) c.args.signal c.args.desk.now e =
-    stepped c.args.setting.now c.args.at c.args.sheets.now c.take.new.busy es c.self.inside.opened k e c.self.inside.busy c.served.result c.self.invariant.ascend is c.self.invariant.counts c.served.ensures c.take.ensures c.args.signal c.args.desk.now in
+    let made : Step = step c.args.step.now.setting.now (by_counts c.args.step.now.setting.now c.args.step.now.at c.args.step.now.sheets.now c.take.new.busy) c.args.signal e.call c.args.desk.now in
+    let same : made ≡ step_of c.args.step.now.setting.now c.args.step.now.at c.args.step.now.sheets.now (busy_beside (number_of e) es) c.args.signal c.args.desk.now e =
+    stepped c.args.step.now.setting.now c.args.step.now.at c.args.step.now.sheets.now c.take.new.busy es c.self.inside.opened k e c.self.inside.busy c.served.result c.self.invariant.ascend is c.self.invariant.counts c.served.ensures c.take.ensures c.args.signal c.args.desk.now in
     let entry = still_on _ c.hear-heard.result c.count_again-counted.result c.count_again-counted.ensures.heard c.hear-heard.ensures.entry in
     let settled = still_if (λ settled. settled ≡ is_settled made.call) c.hear-heard.result c.count_again-counted.result c.count_again-counted.ensures.heard c.hear-heard.ensures.settled in
     let put = left_put c.count_again-counted.result gone c.is_gone-gone.ensures es k y (entry_after invites made e) entry settled in
     let t : Table = record { entries = es; opened = c.self.inside.opened; rows = c.self.inside.rows } in
-    let done = on_ok_weaker c.count_again-counted.result (λ are. table_after t c.args.self.now c.self.view_is k e is (λ o xs. (moved_at c.args.setting.now c.args.at c.args.sheets.now c.args.signal invites k o xs c.args.desk.now).entries) (unboxed c.keep_at-after.new.entries.items)
+    let done = on_ok_weaker c.count_again-counted.result (λ are. table_after t c.args.self.now c.self.view_is k e is (λ o xs. (moved_at c.args.step.now.setting.now c.args.step.now.at c.args.step.now.sheets.now c.args.signal invites k o xs c.args.desk.now).entries) (unboxed c.keep_at-after.new.entries.items)
     (now ∙ (are ∙ ap (λ (s : Step). put_at k (entry_after invites s e) es) same))) put in
     elim c.match-counted.branch [
       | in-Ok w ↦ in_ok c.count_again-counted.result _ c.match-counted.result _ _ w.in-Ok.is w.result-is done
@@ -83,10 +83,10 @@ returns-clause-desk c =
     let e = c.deref_mut-entry.result.now in
     let within : k < length es = subst (λ (t : Table). k < length t.entries) (sym c.self.view_is) c.requires in
     let is : slice_get es k ≡ Some e = stands_at bs k c.index_mut.result.now e within c.index_mut.ensures.value c.deref_mut-entry.ensures.value in
-    let same = stepped c.args.setting.now c.args.at c.args.sheets.now c.take.new.busy es c.self.inside.opened k e c.self.inside.busy c.served.result c.self.invariant.ascend is c.self.invariant.counts c.served.ensures c.take.ensures c.args.signal c.args.desk.now in
+    let same = stepped c.args.step.now.setting.now c.args.step.now.at c.args.step.now.sheets.now c.take.new.busy es c.self.inside.opened k e c.self.inside.busy c.served.result c.self.invariant.ascend is c.self.invariant.counts c.served.ensures c.take.ensures c.args.signal c.args.desk.now in
     let said = still_on _ c.hear-heard.result c.count_again-counted.result c.count_again-counted.ensures.heard c.hear-heard.ensures.desk in
     let t : Table = record { entries = es; opened = c.self.inside.opened; rows = c.self.inside.rows } in
-    let done = on_ok_weaker c.count_again-counted.result (λ are. are ∙ (ap (λ (s : Step). s.desk) same ∙ said_after t c.args.self.now c.self.view_is k e is (λ o xs. (moved_at c.args.setting.now c.args.at c.args.sheets.now c.args.signal (option_to_list c.args.invite) k o xs c.args.desk.now).desk))) said in
+    let done = on_ok_weaker c.count_again-counted.result (λ are. are ∙ (ap (λ (s : Step). s.desk) same ∙ said_after t c.args.self.now c.self.view_is k e is (λ o xs. (moved_at c.args.step.now.setting.now c.args.step.now.at c.args.step.now.sheets.now c.args.signal (option_to_list c.args.invite) k o xs c.args.desk.now).desk))) said in
     elim c.match-counted.branch [
       | in-Ok w ↦ in_ok c.count_again-counted.result _ c.match-counted.result _ _ w.in-Ok.is w.result-is done
       | in-Err w ↦ in_err c.match-counted.result _ _ w.result-is

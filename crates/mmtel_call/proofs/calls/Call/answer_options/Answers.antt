@@ -7,5 +7,5 @@ use Rattle.mmtel_call.proofs.calls.Call.answer_options.Goals as goal
 
 pub returns : goal.returns
 returns c =
-    subst (λ (ls : List Line). OnOk c.answer_to-answered.result (c.answer_to-answered.new.desk ≡ answered_to c.args.setting.now c.args.self.now c.args.key c.args.request.now 200 ls c.args.desk.now))
+    subst (λ (ls : List Line). OnOk c.answer_to-answered.result (c.answer_to-answered.new.desk ≡ answered_to c.args.step.now.setting.now c.args.self.now c.args.key c.args.request.now 200 ls c.args.desk.now))
     c.in_ok-named.ensures.lines c.answer_to-answered.ensures

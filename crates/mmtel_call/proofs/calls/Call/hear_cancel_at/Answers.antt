@@ -11,35 +11,35 @@ always (Err e) p = tt
 pub returns-in-Answered-clause-call : goal.returns-in-Answered-clause-call
 returns-in-Answered-clause-call c =
     subst (λ (s : Stage). OnOk c.stay.result (c.stay.new.self
-    ≡ (on_cancel_at s c.args.setting.now c.args.x c.args.invite (record c.args.self.now { phase = Stood c.args.x s }) c.args.desk.now).call))
+    ≡ (on_cancel_at s c.args.step.now.setting.now c.args.x c.args.invite (record c.args.self.now { phase = Stood c.args.x s }) c.args.desk.now).call))
     (sym c.in-Answered.is) (always c.stay.result c.stay.ensures)
 
 pub returns-in-Answered-clause-desk : goal.returns-in-Answered-clause-desk
 returns-in-Answered-clause-desk c =
     subst (λ (s : Stage). OnOk c.stay.result (c.args.desk.now
-    ≡ (on_cancel_at s c.args.setting.now c.args.x c.args.invite (record c.args.self.now { phase = Stood c.args.x s }) c.args.desk.now).desk))
+    ≡ (on_cancel_at s c.args.step.now.setting.now c.args.x c.args.invite (record c.args.self.now { phase = Stood c.args.x s }) c.args.desk.now).desk))
     (sym c.in-Answered.is) (always c.stay.result refl)
 
 pub returns-in-Parting-clause-call : goal.returns-in-Parting-clause-call
 returns-in-Parting-clause-call c =
     subst (λ (s : Stage). OnOk c.stay-in-Parting.result (c.stay-in-Parting.new.self
-    ≡ (on_cancel_at s c.args.setting.now c.args.x c.args.invite (record c.args.self.now { phase = Stood c.args.x s }) c.args.desk.now).call))
+    ≡ (on_cancel_at s c.args.step.now.setting.now c.args.x c.args.invite (record c.args.self.now { phase = Stood c.args.x s }) c.args.desk.now).call))
     (sym c.in-Parting.is) (always c.stay-in-Parting.result c.stay-in-Parting.ensures)
 
 pub returns-in-Parting-clause-desk : goal.returns-in-Parting-clause-desk
 returns-in-Parting-clause-desk c =
     subst (λ (s : Stage). OnOk c.stay-in-Parting.result (c.args.desk.now
-    ≡ (on_cancel_at s c.args.setting.now c.args.x c.args.invite (record c.args.self.now { phase = Stood c.args.x s }) c.args.desk.now).desk))
+    ≡ (on_cancel_at s c.args.step.now.setting.now c.args.x c.args.invite (record c.args.self.now { phase = Stood c.args.x s }) c.args.desk.now).desk))
     (sym c.in-Parting.is) (always c.stay-in-Parting.result refl)
 
 pub returns-in-Talking-clause-call : goal.returns-in-Talking-clause-call
 returns-in-Talking-clause-call c =
     subst (λ (s : Stage). OnOk c.stay-in-Talking.result (c.stay-in-Talking.new.self
-    ≡ (on_cancel_at s c.args.setting.now c.args.x c.args.invite (record c.args.self.now { phase = Stood c.args.x s }) c.args.desk.now).call))
+    ≡ (on_cancel_at s c.args.step.now.setting.now c.args.x c.args.invite (record c.args.self.now { phase = Stood c.args.x s }) c.args.desk.now).call))
     (sym c.in-Talking.is) (always c.stay-in-Talking.result c.stay-in-Talking.ensures)
 
 pub returns-in-Talking-clause-desk : goal.returns-in-Talking-clause-desk
 returns-in-Talking-clause-desk c =
     subst (λ (s : Stage). OnOk c.stay-in-Talking.result (c.args.desk.now
-    ≡ (on_cancel_at s c.args.setting.now c.args.x c.args.invite (record c.args.self.now { phase = Stood c.args.x s }) c.args.desk.now).desk))
+    ≡ (on_cancel_at s c.args.step.now.setting.now c.args.x c.args.invite (record c.args.self.now { phase = Stood c.args.x s }) c.args.desk.now).desk))
     (sym c.in-Talking.is) (always c.stay-in-Talking.result refl)

@@ -11,44 +11,44 @@ always (Err e) p = tt
 
 pub returns-in-Offered-clause-call : goal.returns-in-Offered-clause-call
 returns-in-Offered-clause-call c =
-    subst (λ (p : Phase). OnOk c.ring_out.result (c.ring_out.new.self ≡ (due_in p c.args.setting.now (standing c.args.present.now) c.args.what (record c.args.self.now { phase = p }) c.args.desk.now).call))
+    subst (λ (p : Phase). OnOk c.ring_out.result (c.ring_out.new.self ≡ (due_in p c.args.step.now.setting.now (standing c.args.step.now.present) c.args.what (record c.args.self.now { phase = p }) c.args.desk.now).call))
     c.in-Offered.ensures.value c.ring_out.ensures.call
 
 pub returns-in-Offered-clause-desk : goal.returns-in-Offered-clause-desk
 returns-in-Offered-clause-desk c =
-    subst (λ (p : Phase). OnOk c.ring_out.result (c.ring_out.new.desk ≡ (due_in p c.args.setting.now (standing c.args.present.now) c.args.what (record c.args.self.now { phase = p }) c.args.desk.now).desk))
+    subst (λ (p : Phase). OnOk c.ring_out.result (c.ring_out.new.desk ≡ (due_in p c.args.step.now.setting.now (standing c.args.step.now.present) c.args.what (record c.args.self.now { phase = p }) c.args.desk.now).desk))
     c.in-Offered.ensures.value c.ring_out.ensures.desk
 
 pub returns-in-Stood-clause-call : goal.returns-in-Stood-clause-call
 returns-in-Stood-clause-call c =
-    subst (λ (p : Phase). OnOk c.ring_out_at.result (c.ring_out_at.new.self ≡ (due_in p c.args.setting.now (standing c.args.present.now) c.args.what (record c.args.self.now { phase = p }) c.args.desk.now).call))
+    subst (λ (p : Phase). OnOk c.ring_out_at.result (c.ring_out_at.new.self ≡ (due_in p c.args.step.now.setting.now (standing c.args.step.now.present) c.args.what (record c.args.self.now { phase = p }) c.args.desk.now).call))
     c.in-Stood.ensures.value c.ring_out_at.ensures.call
 
 pub returns-in-Stood-clause-desk : goal.returns-in-Stood-clause-desk
 returns-in-Stood-clause-desk c =
-    subst (λ (p : Phase). OnOk c.ring_out_at.result (c.ring_out_at.new.desk ≡ (due_in p c.args.setting.now (standing c.args.present.now) c.args.what (record c.args.self.now { phase = p }) c.args.desk.now).desk))
+    subst (λ (p : Phase). OnOk c.ring_out_at.result (c.ring_out_at.new.desk ≡ (due_in p c.args.step.now.setting.now (standing c.args.step.now.present) c.args.what (record c.args.self.now { phase = p }) c.args.desk.now).desk))
     c.in-Stood.ensures.value c.ring_out_at.ensures.desk
 
 pub returns-in-Lent-clause-call : goal.returns-in-Lent-clause-call
 returns-in-Lent-clause-call c =
     subst (λ (p : Phase). OnOk c.stay.result (c.stay.new.self
-    ≡ (due_in p c.args.setting.now (standing c.args.present.now) c.args.what (record c.args.self.now { phase = p }) c.args.desk.now).call))
+    ≡ (due_in p c.args.step.now.setting.now (standing c.args.step.now.present) c.args.what (record c.args.self.now { phase = p }) c.args.desk.now).call))
     c.in-Lent.ensures.value (always c.stay.result c.stay.ensures)
 
 pub returns-in-Lent-clause-desk : goal.returns-in-Lent-clause-desk
 returns-in-Lent-clause-desk c =
     subst (λ (p : Phase). OnOk c.stay.result (c.args.desk.now
-    ≡ (due_in p c.args.setting.now (standing c.args.present.now) c.args.what (record c.args.self.now { phase = p }) c.args.desk.now).desk))
+    ≡ (due_in p c.args.step.now.setting.now (standing c.args.step.now.present) c.args.what (record c.args.self.now { phase = p }) c.args.desk.now).desk))
     c.in-Lent.ensures.value (always c.stay.result refl)
 
 pub returns-in-Over-clause-call : goal.returns-in-Over-clause-call
 returns-in-Over-clause-call c =
     subst (λ (p : Phase). OnOk c.stay-in-Over.result (c.stay-in-Over.new.self
-    ≡ (due_in p c.args.setting.now (standing c.args.present.now) c.args.what (record c.args.self.now { phase = p }) c.args.desk.now).call))
+    ≡ (due_in p c.args.step.now.setting.now (standing c.args.step.now.present) c.args.what (record c.args.self.now { phase = p }) c.args.desk.now).call))
     c.in-Over.ensures.value (always c.stay-in-Over.result c.stay-in-Over.ensures)
 
 pub returns-in-Over-clause-desk : goal.returns-in-Over-clause-desk
 returns-in-Over-clause-desk c =
     subst (λ (p : Phase). OnOk c.stay-in-Over.result (c.args.desk.now
-    ≡ (due_in p c.args.setting.now (standing c.args.present.now) c.args.what (record c.args.self.now { phase = p }) c.args.desk.now).desk))
+    ≡ (due_in p c.args.step.now.setting.now (standing c.args.step.now.present) c.args.what (record c.args.self.now { phase = p }) c.args.desk.now).desk))
     c.in-Over.ensures.value (always c.stay-in-Over.result refl)

@@ -8,6 +8,7 @@ use Rattle.mmtel_call_decisions.specs.Decisions.{redirect_of}
 use Rattle.mmtel_call_decisions.specs.Site.{Site, standing}
 use Rattle.mmtel_call.specs.Closing.{Step}
 use Rattle.mmtel_call.specs.Diverting.{goes_on}
+use Rattle.mmtel_types.specs.declared.addrs.Addr.{Addr}
 use Rattle.mmtel_call.proofs.calls.Call.hear_failure.Goals as goal
 
 both : (f : Option Uri → Desk → Step) (a b : Option Uri) (d e : Desk) → a ≡ b → d ≡ e → f a d ≡ f b e
@@ -16,15 +17,15 @@ both f a b d e p q = ap (λ (x : Option Uri). f x d) p ∙ ap (λ (y : Desk). f 
 pub returns-in-Ok-redirect-clause-call : goal.returns-in-Ok-redirect-clause-call
 returns-in-Ok-redirect-clause-call c =
     subst (λ (s : Step). OnOk c.go_on_redirected.result (c.go_on_redirected.new.self ≡ s.call))
-    (both (λ x y. goes_on c.args.setting.now (standing c.args.present.now) c.args.x (end_by_final c.args.code x c.args.x.attempt.rang) (Some c.args.m.now) c.args.self.now y)
-    c.in-Ok-redirect.redirect (redirect_of c.args.m.now) c.acknowledge_final-acked.new.self (final_acked c.args.setting.now.sip c.args.key c.args.x.attempt.invitation c.args.m.now.heard c.args.desk.now)
-    c.in-Ok-redirect.ensures.uri (c.in-Ok.ensures.done ∙ ap (λ (s : Site). final_acked s.sip c.args.key c.args.x.attempt.invitation c.args.m.now.heard c.args.desk.now) c.setting.view_is))
+    (both (λ x y. goes_on c.args.step.now.setting.now (standing c.args.step.now.present) c.args.x (end_by_final c.args.code x c.args.x.attempt.rang) (Some c.args.m.now) c.args.self.now y)
+    c.in-Ok-redirect.redirect (redirect_of c.args.m.now) c.acknowledge_final-acked.new.self (final_acked c.args.step.now.setting.now.sip c.args.key c.args.x.attempt.invitation c.args.m.now.heard c.args.desk.now)
+    c.in-Ok-redirect.ensures.uri (c.in-Ok.ensures.done ∙ ap (λ (a : Addr). final_acked a c.args.key c.args.x.attempt.invitation c.args.m.now.heard c.args.desk.now) c.sip.ensures))
     c.go_on_redirected.ensures.call
 
 pub returns-in-Ok-redirect-clause-desk : goal.returns-in-Ok-redirect-clause-desk
 returns-in-Ok-redirect-clause-desk c =
     subst (λ (s : Step). OnOk c.go_on_redirected.result (c.go_on_redirected.new.desk ≡ s.desk))
-    (both (λ x y. goes_on c.args.setting.now (standing c.args.present.now) c.args.x (end_by_final c.args.code x c.args.x.attempt.rang) (Some c.args.m.now) c.args.self.now y)
-    c.in-Ok-redirect.redirect (redirect_of c.args.m.now) c.acknowledge_final-acked.new.self (final_acked c.args.setting.now.sip c.args.key c.args.x.attempt.invitation c.args.m.now.heard c.args.desk.now)
-    c.in-Ok-redirect.ensures.uri (c.in-Ok.ensures.done ∙ ap (λ (s : Site). final_acked s.sip c.args.key c.args.x.attempt.invitation c.args.m.now.heard c.args.desk.now) c.setting.view_is))
+    (both (λ x y. goes_on c.args.step.now.setting.now (standing c.args.step.now.present) c.args.x (end_by_final c.args.code x c.args.x.attempt.rang) (Some c.args.m.now) c.args.self.now y)
+    c.in-Ok-redirect.redirect (redirect_of c.args.m.now) c.acknowledge_final-acked.new.self (final_acked c.args.step.now.setting.now.sip c.args.key c.args.x.attempt.invitation c.args.m.now.heard c.args.desk.now)
+    c.in-Ok-redirect.ensures.uri (c.in-Ok.ensures.done ∙ ap (λ (a : Addr). final_acked a c.args.key c.args.x.attempt.invitation c.args.m.now.heard c.args.desk.now) c.sip.ensures))
     c.go_on_redirected.ensures.desk

@@ -2,10 +2,10 @@
 use Rattle.std.proofs.Common.{◌≡◌, ◌∙◌, List, [], ◌∷◌, ◌++◌, Option, Some, Result, Ok, Err, OnOk, ap, slice_get, sym}
 use Rattle.std.specs.Prelude.{option_to_list}
 use Rattle.mmtel_desk.specs.Loose.{on_response}
-use Rattle.mmtel_call_decisions.specs.Site.{Site}
 use Rattle.mmtel_call.specs.Calls.{Taken}
 use Rattle.mmtel_desk.specs.declared.invitations.Loose.{Loose}
 use Rattle.mmtel_call.specs.Leaving.{as_loose, taken_again, without_at}
+use Rattle.mmtel_types.specs.declared.addrs.Addr.{Addr}
 use Rattle.mmtel_call.proofs.calls.Call.hear_fork.Goals as goal
 
 always : {T E P : Type 0} (r : Result T E) → P → OnOk r P
@@ -19,8 +19,8 @@ pub returns-in-Some-clause-desk : goal.returns-in-Some-clause-desk
 returns-in-Some-clause-desk c = λ t is.
     always c.file.result
     (c.in_ok-hear_loose.ensures.desk
-    ∙ (ap (λ (s : Site). (on_response s.sip c.args.key c.args.m.now.heard (as_loose c.remove-invitation.result) c.args.desk.now).desk) c.setting.view_is
-    ∙ ap (λ (u : Taken). (on_response c.args.setting.now.sip c.args.key c.args.m.now.heard (as_loose u) c.args.desk.now).desk) (same (slice_get c.args.self.now.taken c.args.at) c.remove-invitation.result t c.remove-invitation.ensures.handed_out is)))
+    ∙ (ap (λ (a : Addr). (on_response a c.args.key c.args.m.now.heard (as_loose c.remove-invitation.result) c.args.desk.now).desk) c.sip.ensures
+    ∙ ap (λ (u : Taken). (on_response c.args.step.now.setting.now.sip c.args.key c.args.m.now.heard (as_loose u) c.args.desk.now).desk) (same (slice_get c.args.self.now.taken c.args.at) c.remove-invitation.result t c.remove-invitation.ensures.handed_out is)))
 
 mapped : {T E P Q : Type 0} (r : Result T E) → (P → Q) → OnOk r P → OnOk r Q
 mapped (Ok x) f p = f p
@@ -30,11 +30,11 @@ mapped (Err e) f p = tt
 pub returns-in-Some-clause-call : goal.returns-in-Some-clause-call
 returns-in-Some-clause-call c = λ t is.
     let one : c.remove-invitation.result ≡ t = same (slice_get c.args.self.now.taken c.args.at) c.remove-invitation.result t c.remove-invitation.ensures.handed_out is in
-    let left : Some c.in-Some.left ≡ (on_response c.args.setting.now.sip c.args.key c.args.m.now.heard (as_loose t) c.args.desk.now).left =
+    let left : Some c.in-Some.left ≡ (on_response c.args.step.now.setting.now.sip c.args.key c.args.m.now.heard (as_loose t) c.args.desk.now).left =
     sym c.in-Some.is
     ∙ (c.in_ok-hear_loose.ensures.left
-    ∙ (ap (λ (s : Site). (on_response s.sip c.args.key c.args.m.now.heard (as_loose c.remove-invitation.result) c.args.desk.now).left) c.setting.view_is
-    ∙ ap (λ (u : Taken). (on_response c.args.setting.now.sip c.args.key c.args.m.now.heard (as_loose u) c.args.desk.now).left) one)) in
+    ∙ (ap (λ (a : Addr). (on_response a c.args.key c.args.m.now.heard (as_loose c.remove-invitation.result) c.args.desk.now).left) c.sip.ensures
+    ∙ ap (λ (u : Taken). (on_response c.args.step.now.setting.now.sip c.args.key c.args.m.now.heard (as_loose u) c.args.desk.now).left) one)) in
     mapped c.file.result
     (λ filed. ap (λ (xs : List Taken). record c.args.self.now { taken = xs })
     (filed

@@ -9,7 +9,7 @@ unfolding answered_other
 returns-in-Some-clause-call c =
     let place : position (is_of c.args.branch.now) c.args.self.now.loose ≡ Some c.in-Some.at = search rules in
     subst (λ (o : Option ℕ). OnOk c.hear_loose_at.result (c.hear_loose_at.new.self
-    ≡ (answered_at c.args.setting.now c.args.key c.args.m.now c.args.branch.now o c.args.self.now c.args.desk.now).call))
+    ≡ (answered_at c.args.step.now.setting.now c.args.key c.args.m.now c.args.branch.now o c.args.self.now c.args.desk.now).call))
     (sym place) c.hear_loose_at.ensures.call
 
 pub returns-in-None-taken_at-clause-call : goal.returns-in-None-taken_at-clause-call
@@ -17,8 +17,8 @@ unfolding answered_other
 returns-in-None-taken_at-clause-call c =
     let place : position (is_of c.args.branch.now) c.args.self.now.loose ≡ None = search rules in
     let other : position (is_taken c.args.branch.now) c.args.self.now.taken ≡ None = search rules in
-    ap (λ (o : Option ℕ). (answered_taken_at c.args.setting.now c.args.key c.args.m.now o c.args.self.now c.args.desk.now).call) (sym other)
-    ∙ ap (λ (o : Option ℕ). (answered_at c.args.setting.now c.args.key c.args.m.now c.args.branch.now o c.args.self.now c.args.desk.now).call) (sym place)
+    ap (λ (o : Option ℕ). (answered_taken_at c.args.step.now.setting.now c.args.key c.args.m.now o c.args.self.now c.args.desk.now).call) (sym other)
+    ∙ ap (λ (o : Option ℕ). (answered_at c.args.step.now.setting.now c.args.key c.args.m.now c.args.branch.now o c.args.self.now c.args.desk.now).call) (sym place)
 
 pub returns-in-Some-taken_at-clause-call : goal.returns-in-Some-taken_at-clause-call
 unfolding answered_other
@@ -26,9 +26,9 @@ returns-in-Some-taken_at-clause-call c =
     let place : position (is_of c.args.branch.now) c.args.self.now.loose ≡ None = search rules in
     let other : position (is_taken c.args.branch.now) c.args.self.now.taken ≡ Some c.in-Some-taken_at.at = search rules in
     subst (λ (o : Option ℕ). OnOk c.hear_taken_at.result (c.hear_taken_at.new.self
-    ≡ (answered_at c.args.setting.now c.args.key c.args.m.now c.args.branch.now o c.args.self.now c.args.desk.now).call)) (sym place)
+    ≡ (answered_at c.args.step.now.setting.now c.args.key c.args.m.now c.args.branch.now o c.args.self.now c.args.desk.now).call)) (sym place)
     (subst (λ (o : Option ℕ). OnOk c.hear_taken_at.result (c.hear_taken_at.new.self
-    ≡ (answered_taken_at c.args.setting.now c.args.key c.args.m.now o c.args.self.now c.args.desk.now).call)) (sym other)
+    ≡ (answered_taken_at c.args.step.now.setting.now c.args.key c.args.m.now o c.args.self.now c.args.desk.now).call)) (sym other)
     c.hear_taken_at.ensures.call)
 
 pub returns-in-Some-clause-desk : goal.returns-in-Some-clause-desk
@@ -36,7 +36,7 @@ unfolding answered_other
 returns-in-Some-clause-desk c =
     let place : position (is_of c.args.branch.now) c.args.self.now.loose ≡ Some c.in-Some.at = search rules in
     subst (λ (o : Option ℕ). OnOk c.hear_loose_at.result (c.hear_loose_at.new.desk
-    ≡ (answered_at c.args.setting.now c.args.key c.args.m.now c.args.branch.now o c.args.self.now c.args.desk.now).desk))
+    ≡ (answered_at c.args.step.now.setting.now c.args.key c.args.m.now c.args.branch.now o c.args.self.now c.args.desk.now).desk))
     (sym place) c.hear_loose_at.ensures.desk
 
 pub returns-in-None-taken_at-clause-desk : goal.returns-in-None-taken_at-clause-desk
@@ -44,8 +44,8 @@ unfolding answered_other
 returns-in-None-taken_at-clause-desk c =
     let place : position (is_of c.args.branch.now) c.args.self.now.loose ≡ None = search rules in
     let other : position (is_taken c.args.branch.now) c.args.self.now.taken ≡ None = search rules in
-    ap (λ (o : Option ℕ). (answered_taken_at c.args.setting.now c.args.key c.args.m.now o c.args.self.now c.args.desk.now).desk) (sym other)
-    ∙ ap (λ (o : Option ℕ). (answered_at c.args.setting.now c.args.key c.args.m.now c.args.branch.now o c.args.self.now c.args.desk.now).desk) (sym place)
+    ap (λ (o : Option ℕ). (answered_taken_at c.args.step.now.setting.now c.args.key c.args.m.now o c.args.self.now c.args.desk.now).desk) (sym other)
+    ∙ ap (λ (o : Option ℕ). (answered_at c.args.step.now.setting.now c.args.key c.args.m.now c.args.branch.now o c.args.self.now c.args.desk.now).desk) (sym place)
 
 pub returns-in-Some-taken_at-clause-desk : goal.returns-in-Some-taken_at-clause-desk
 unfolding answered_other
@@ -53,7 +53,7 @@ returns-in-Some-taken_at-clause-desk c =
     let place : position (is_of c.args.branch.now) c.args.self.now.loose ≡ None = search rules in
     let other : position (is_taken c.args.branch.now) c.args.self.now.taken ≡ Some c.in-Some-taken_at.at = search rules in
     subst (λ (o : Option ℕ). OnOk c.hear_taken_at.result (c.hear_taken_at.new.desk
-    ≡ (answered_at c.args.setting.now c.args.key c.args.m.now c.args.branch.now o c.args.self.now c.args.desk.now).desk)) (sym place)
+    ≡ (answered_at c.args.step.now.setting.now c.args.key c.args.m.now c.args.branch.now o c.args.self.now c.args.desk.now).desk)) (sym place)
     (subst (λ (o : Option ℕ). OnOk c.hear_taken_at.result (c.hear_taken_at.new.desk
-    ≡ (answered_taken_at c.args.setting.now c.args.key c.args.m.now o c.args.self.now c.args.desk.now).desk)) (sym other)
+    ≡ (answered_taken_at c.args.step.now.setting.now c.args.key c.args.m.now o c.args.self.now c.args.desk.now).desk)) (sym other)
     c.hear_taken_at.ensures.desk)

@@ -10,11 +10,11 @@ use Rattle.mmtel_call.proofs.calls.Call.hear_response_offered.Goals as goal
 pub returns-clause-call : goal.returns-clause-call
 returns-clause-call c =
     subst (λ (s : Step). OnOk c.hear_response.result (c.hear_response.new.self ≡ s.call))
-    (sym (response_alike c.args.setting.now (standing c.args.present.now) c.args.x c.args.key c.args.m.now (status_of c.args.m.now.heard.start) (Offered c.args.x) c.args.self.now c.args.desk.now))
+    (sym (response_alike c.args.step.now.setting.now (standing c.args.step.now.present) c.args.x c.args.key c.args.m.now (status_of c.args.m.now.heard.start) (Offered c.args.x) c.args.self.now c.args.desk.now))
     c.hear_response.ensures.call
 
 pub returns-clause-desk : goal.returns-clause-desk
 returns-clause-desk c =
     subst (λ (s : Step). OnOk c.hear_response.result (c.hear_response.new.desk ≡ s.desk))
-    (sym (response_alike c.args.setting.now (standing c.args.present.now) c.args.x c.args.key c.args.m.now (status_of c.args.m.now.heard.start) (Offered c.args.x) c.args.self.now c.args.desk.now))
+    (sym (response_alike c.args.step.now.setting.now (standing c.args.step.now.present) c.args.x c.args.key c.args.m.now (status_of c.args.m.now.heard.start) (Offered c.args.x) c.args.self.now c.args.desk.now))
     c.hear_response.ensures.desk

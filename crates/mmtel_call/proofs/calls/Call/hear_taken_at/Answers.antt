@@ -41,28 +41,28 @@ again site key m at o t c desk its status fork =
 
 -- what it comes to at each way out
 comes_to_nothing : (c : In_default) →
-    answered_taken c.args.setting.now c.args.key c.args.m.now c.args.at (slice_get c.args.self.now.taken c.args.at) c.args.self.now c.args.desk.now
+    answered_taken c.args.step.now.setting.now c.args.key c.args.m.now c.args.at (slice_get c.args.self.now.taken c.args.at) c.args.self.now c.args.desk.now
     ≡ onward c.args.self.now c.args.desk.now
 comes_to_nothing c =
     let none : slice_get c.args.self.now.taken c.args.at ≡ None = grind (arith, common_steps, gets) in
-    nowhere c.args.setting.now c.args.key c.args.m.now c.args.at (slice_get c.args.self.now.taken c.args.at) c.args.self.now c.args.desk.now none
+    nowhere c.args.step.now.setting.now c.args.key c.args.m.now c.args.at (slice_get c.args.self.now.taken c.args.at) c.args.self.now c.args.desk.now none
 
 comes_late : (c : Then-not-is_success) →
-    answered_taken c.args.setting.now c.args.key c.args.m.now c.args.at (slice_get c.args.self.now.taken c.args.at) c.args.self.now c.args.desk.now
+    answered_taken c.args.step.now.setting.now c.args.key c.args.m.now c.args.at (slice_get c.args.self.now.taken c.args.at) c.args.self.now c.args.desk.now
     ≡ onward c.args.self.now c.args.desk.now
 comes_late c =
     let its : slice_get c.args.self.now.taken c.args.at ≡ Some c.in-Some.taken.now = grind (arith, common_steps, gets) in
     let status : is_success (status_of c.args.m.now.heard.start) ≡ false = search rules in
-    late c.args.setting.now c.args.key c.args.m.now c.args.at (slice_get c.args.self.now.taken c.args.at) c.in-Some.taken.now c.args.self.now c.args.desk.now its status
+    late c.args.step.now.setting.now c.args.key c.args.m.now c.args.at (slice_get c.args.self.now.taken c.args.at) c.in-Some.taken.now c.args.self.now c.args.desk.now its status
 
 comes_again : (c : Else-branch) →
-    answered_taken c.args.setting.now c.args.key c.args.m.now c.args.at (slice_get c.args.self.now.taken c.args.at) c.args.self.now c.args.desk.now
+    answered_taken c.args.step.now.setting.now c.args.key c.args.m.now c.args.at (slice_get c.args.self.now.taken c.args.at) c.args.self.now c.args.desk.now
     ≡ repeated c.in-Some.taken.now c.args.self.now c.args.desk.now
 comes_again c =
     let its : slice_get c.args.self.now.taken c.args.at ≡ Some c.in-Some.taken.now = grind (arith, common_steps, gets) in
     let status : is_success (status_of c.args.m.now.heard.start) ≡ true = search rules in
     let fork : is_fork c.in-Some.taken.now c.args.m.now ≡ false = search rules in
-    again c.args.setting.now c.args.key c.args.m.now c.args.at (slice_get c.args.self.now.taken c.args.at) c.in-Some.taken.now c.args.self.now c.args.desk.now its status fork
+    again c.args.step.now.setting.now c.args.key c.args.m.now c.args.at (slice_get c.args.self.now.taken c.args.at) c.in-Some.taken.now c.args.self.now c.args.desk.now its status fork
 
 pub returns-in_default-clause-call : goal.returns-in_default-clause-call
 returns-in_default-clause-call c = ap (λ (s : Step). s.call) (sym (comes_to_nothing c))

@@ -11,47 +11,47 @@ always (Err e) p = tt
 pub returns-in-Answered-clause-call : goal.returns-in-Answered-clause-call
 returns-in-Answered-clause-call c =
     subst (λ (s : Stage). OnOk c.end_unacknowledged.result (c.end_unacknowledged.new.self
-    ≡ (rung_out s c.args.setting.now c.args.at c.args.x (record c.args.self.now { phase = Stood c.args.x s }) c.args.desk.now).call))
+    ≡ (rung_out s c.args.step.now.setting.now c.args.step.now.present.at c.args.x (record c.args.self.now { phase = Stood c.args.x s }) c.args.desk.now).call))
     (sym c.in-Answered.is) c.end_unacknowledged.ensures.call
 
 pub returns-in-Answered-clause-desk : goal.returns-in-Answered-clause-desk
 returns-in-Answered-clause-desk c =
     subst (λ (s : Stage). OnOk c.end_unacknowledged.result (c.end_unacknowledged.new.desk
-    ≡ (rung_out s c.args.setting.now c.args.at c.args.x (record c.args.self.now { phase = Stood c.args.x s }) c.args.desk.now).desk))
+    ≡ (rung_out s c.args.step.now.setting.now c.args.step.now.present.at c.args.x (record c.args.self.now { phase = Stood c.args.x s }) c.args.desk.now).desk))
     (sym c.in-Answered.is) c.end_unacknowledged.ensures.desk
 
 pub returns-in-Parting-clause-call : goal.returns-in-Parting-clause-call
 returns-in-Parting-clause-call c =
     subst (λ (s : Stage). OnOk c.part.result (c.part.new.self
-    ≡ (rung_out s c.args.setting.now c.args.at c.args.x (record c.args.self.now { phase = Stood c.args.x s }) c.args.desk.now).call))
+    ≡ (rung_out s c.args.step.now.setting.now c.args.step.now.present.at c.args.x (record c.args.self.now { phase = Stood c.args.x s }) c.args.desk.now).call))
     (sym c.in-Parting.is) c.part.ensures.call
 
 pub returns-in-Parting-clause-desk : goal.returns-in-Parting-clause-desk
 returns-in-Parting-clause-desk c =
     subst (λ (s : Stage). OnOk c.part.result (c.part.new.desk
-    ≡ (rung_out s c.args.setting.now c.args.at c.args.x (record c.args.self.now { phase = Stood c.args.x s }) c.args.desk.now).desk))
+    ≡ (rung_out s c.args.step.now.setting.now c.args.step.now.present.at c.args.x (record c.args.self.now { phase = Stood c.args.x s }) c.args.desk.now).desk))
     (sym c.in-Parting.is) c.part.ensures.desk
 
 pub returns-in-Talking-clause-call : goal.returns-in-Talking-clause-call
 returns-in-Talking-clause-call c =
     subst (λ (s : Stage). OnOk c.stay.result (c.stay.new.self
-    ≡ (rung_out s c.args.setting.now c.args.at c.args.x (record c.args.self.now { phase = Stood c.args.x s }) c.args.desk.now).call))
+    ≡ (rung_out s c.args.step.now.setting.now c.args.step.now.present.at c.args.x (record c.args.self.now { phase = Stood c.args.x s }) c.args.desk.now).call))
     (sym c.in-Talking.is) (always c.stay.result c.stay.ensures)
 
 pub returns-in-Talking-clause-desk : goal.returns-in-Talking-clause-desk
 returns-in-Talking-clause-desk c =
     subst (λ (s : Stage). OnOk c.stay.result (c.args.desk.now
-    ≡ (rung_out s c.args.setting.now c.args.at c.args.x (record c.args.self.now { phase = Stood c.args.x s }) c.args.desk.now).desk))
+    ≡ (rung_out s c.args.step.now.setting.now c.args.step.now.present.at c.args.x (record c.args.self.now { phase = Stood c.args.x s }) c.args.desk.now).desk))
     (sym c.in-Talking.is) (always c.stay.result refl)
 
 pub returns-in-Asking-clause-call : goal.returns-in-Asking-clause-call
 returns-in-Asking-clause-call c =
     subst (λ (s : Stage). OnOk c.stay-in-Asking.result (c.stay-in-Asking.new.self
-    ≡ (rung_out s c.args.setting.now c.args.at c.args.x (record c.args.self.now { phase = Stood c.args.x s }) c.args.desk.now).call))
+    ≡ (rung_out s c.args.step.now.setting.now c.args.step.now.present.at c.args.x (record c.args.self.now { phase = Stood c.args.x s }) c.args.desk.now).call))
     (sym c.in-Asking.is) (always c.stay-in-Asking.result c.stay-in-Asking.ensures)
 
 pub returns-in-Asking-clause-desk : goal.returns-in-Asking-clause-desk
 returns-in-Asking-clause-desk c =
     subst (λ (s : Stage). OnOk c.stay-in-Asking.result (c.args.desk.now
-    ≡ (rung_out s c.args.setting.now c.args.at c.args.x (record c.args.self.now { phase = Stood c.args.x s }) c.args.desk.now).desk))
+    ≡ (rung_out s c.args.step.now.setting.now c.args.step.now.present.at c.args.x (record c.args.self.now { phase = Stood c.args.x s }) c.args.desk.now).desk))
     (sym c.in-Asking.is) (always c.stay-in-Asking.result refl)

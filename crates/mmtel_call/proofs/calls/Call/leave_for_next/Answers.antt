@@ -11,6 +11,7 @@ use Rattle.mmtel_call.specs.Calls.{Call}
 use Rattle.mmtel_call.specs.Closing.{Step, with_past}
 use Rattle.mmtel_call.specs.Diverting.{is_diverted, on_end}
 use Rattle.mmtel_call.specs.Ringing.{loose, with_loose}
+use Rattle.mmtel_types.specs.declared.addrs.Addr.{Addr}
 use Rattle.mmtel_call.proofs.calls.Call.leave_for_next.Goals as goal
 
 both : (f : Call → Desk → Step) (a b : Call) (d e : Desk) → a ≡ b → d ≡ e → f a d ≡ f b e
@@ -29,15 +30,15 @@ go_on_from-gone-requires c =
 pub returns-clause-call : goal.returns-clause-call
 returns-clause-call c =
     subst (λ (s : Step). OnOk c.go_on_from-gone.result (c.go_on_from-gone.new.self ≡ s.call))
-    (both (λ x y. on_end c.args.setting.now (standing c.args.present.now) c.args.caller (option_copied c.args.service) None (decided_after x.opening c.args.present.now.at (is_diverted x) (option_copied c.args.service) (told_end c.args.how.now)) (with_past c.args.callee.leg.meter x) y)
-    c.leave_attempt-left.new.self (with_loose (loose (once_cancelled c.args.invitation)) c.args.self.now) c.cancel-cancelled.new.self (cancelled c.args.setting.now.sip c.args.invitation c.args.desk.now)
-    c.in_ok-left.ensures.done (c.in_ok-cancelled.ensures.done ∙ ap (λ (s : Site). cancelled s.sip c.args.invitation c.args.desk.now) c.setting.view_is))
+    (both (λ x y. on_end c.args.step.now.setting.now (standing c.args.step.now.present) c.args.caller (option_copied c.args.service) None (decided_after x.opening c.args.step.now.present.at (is_diverted x) (option_copied c.args.service) (told_end c.args.how.now)) (with_past c.args.callee.leg.meter x) y)
+    c.leave_attempt-left.new.self (with_loose (loose (once_cancelled c.args.invitation)) c.args.self.now) c.cancel-cancelled.new.self (cancelled c.args.step.now.setting.now.sip c.args.invitation c.args.desk.now)
+    c.in_ok-left.ensures.done (c.in_ok-cancelled.ensures.done ∙ ap (λ (a : Addr). cancelled a c.args.invitation c.args.desk.now) c.sip.ensures))
     c.go_on_from-gone.ensures.call
 
 pub returns-clause-desk : goal.returns-clause-desk
 returns-clause-desk c =
     subst (λ (s : Step). OnOk c.go_on_from-gone.result (c.go_on_from-gone.new.desk ≡ s.desk))
-    (both (λ x y. on_end c.args.setting.now (standing c.args.present.now) c.args.caller (option_copied c.args.service) None (decided_after x.opening c.args.present.now.at (is_diverted x) (option_copied c.args.service) (told_end c.args.how.now)) (with_past c.args.callee.leg.meter x) y)
-    c.leave_attempt-left.new.self (with_loose (loose (once_cancelled c.args.invitation)) c.args.self.now) c.cancel-cancelled.new.self (cancelled c.args.setting.now.sip c.args.invitation c.args.desk.now)
-    c.in_ok-left.ensures.done (c.in_ok-cancelled.ensures.done ∙ ap (λ (s : Site). cancelled s.sip c.args.invitation c.args.desk.now) c.setting.view_is))
+    (both (λ x y. on_end c.args.step.now.setting.now (standing c.args.step.now.present) c.args.caller (option_copied c.args.service) None (decided_after x.opening c.args.step.now.present.at (is_diverted x) (option_copied c.args.service) (told_end c.args.how.now)) (with_past c.args.callee.leg.meter x) y)
+    c.leave_attempt-left.new.self (with_loose (loose (once_cancelled c.args.invitation)) c.args.self.now) c.cancel-cancelled.new.self (cancelled c.args.step.now.setting.now.sip c.args.invitation c.args.desk.now)
+    c.in_ok-left.ensures.done (c.in_ok-cancelled.ensures.done ∙ ap (λ (a : Addr). cancelled a c.args.invitation c.args.desk.now) c.sip.ensures))
     c.go_on_from-gone.ensures.desk

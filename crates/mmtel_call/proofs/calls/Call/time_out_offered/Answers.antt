@@ -9,8 +9,8 @@ use Rattle.mmtel_call.proofs.calls.Call.time_out_offered.Goals as goal
 
 pub returns-clause-call : goal.returns-clause-call
 returns-clause-call c =
-    subst (λ (s : Step). OnOk c.time_out.result (c.time_out.new.self ≡ s.call)) (sym (timed_out_alike c.args.setting.now (standing c.args.present.now) c.args.x (told_end c.args.how.now) (Offered c.args.x) c.args.self.now c.args.desk.now)) c.time_out.ensures.call
+    subst (λ (s : Step). OnOk c.time_out.result (c.time_out.new.self ≡ s.call)) (sym (timed_out_alike c.args.step.now.setting.now (standing c.args.step.now.present) c.args.x (told_end c.args.how.now) (Offered c.args.x) c.args.self.now c.args.desk.now)) c.time_out.ensures.call
 
 pub returns-clause-desk : goal.returns-clause-desk
 returns-clause-desk c =
-    subst (λ (s : Step). OnOk c.time_out.result (c.time_out.new.desk ≡ s.desk)) (sym (timed_out_alike c.args.setting.now (standing c.args.present.now) c.args.x (told_end c.args.how.now) (Offered c.args.x) c.args.self.now c.args.desk.now)) c.time_out.ensures.desk
+    subst (λ (s : Step). OnOk c.time_out.result (c.time_out.new.desk ≡ s.desk)) (sym (timed_out_alike c.args.step.now.setting.now (standing c.args.step.now.present) c.args.x (told_end c.args.how.now) (Offered c.args.x) c.args.self.now c.args.desk.now)) c.time_out.ensures.desk

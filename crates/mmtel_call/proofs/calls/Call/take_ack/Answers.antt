@@ -1,0 +1,57 @@
+-- what is done is told of the stage that the call had
+use Rattle.std.proofs.Common.{◌≡◌, Result, Ok, Err, OnOk, refl, subst, sym}
+use Rattle.mmtel_call.specs.Calls.{Stage, Stood}
+use Rattle.mmtel_call.specs.Stages.{acked_at}
+use Rattle.mmtel_call.proofs.calls.Call.take_ack.Goals as goal
+
+always : {T E P : Type 0} (r : Result T E) → P → OnOk r P
+always (Ok x) p = p
+always (Err e) p = tt
+
+pub returns-in-Answered-clause-call : goal.returns-in-Answered-clause-call
+returns-in-Answered-clause-call c =
+    subst (λ (s : Stage). OnOk c.acknowledge_across-acked.result (c.acknowledge_across-acked.new.self
+    ≡ (acked_at s c.args.step.now.setting.now c.args.step.now.present.at c.args.x c.args.side c.args.m.now (record c.args.self.now { phase = Stood c.args.x s }) c.args.desk.now).call))
+    (sym c.in-Answered.is) c.acknowledge_across-acked.ensures.call
+
+pub returns-in-Answered-clause-desk : goal.returns-in-Answered-clause-desk
+returns-in-Answered-clause-desk c =
+    subst (λ (s : Stage). OnOk c.acknowledge_across-acked.result (c.acknowledge_across-acked.new.desk
+    ≡ (acked_at s c.args.step.now.setting.now c.args.step.now.present.at c.args.x c.args.side c.args.m.now (record c.args.self.now { phase = Stood c.args.x s }) c.args.desk.now).desk))
+    (sym c.in-Answered.is) c.acknowledge_across-acked.ensures.desk
+
+pub returns-in-Parting-clause-call : goal.returns-in-Parting-clause-call
+returns-in-Parting-clause-call c =
+    subst (λ (s : Stage). OnOk c.part.result (c.part.new.self
+    ≡ (acked_at s c.args.step.now.setting.now c.args.step.now.present.at c.args.x c.args.side c.args.m.now (record c.args.self.now { phase = Stood c.args.x s }) c.args.desk.now).call))
+    (sym c.in-Parting.is) c.part.ensures.call
+
+pub returns-in-Parting-clause-desk : goal.returns-in-Parting-clause-desk
+returns-in-Parting-clause-desk c =
+    subst (λ (s : Stage). OnOk c.part.result (c.part.new.desk
+    ≡ (acked_at s c.args.step.now.setting.now c.args.step.now.present.at c.args.x c.args.side c.args.m.now (record c.args.self.now { phase = Stood c.args.x s }) c.args.desk.now).desk))
+    (sym c.in-Parting.is) c.part.ensures.desk
+
+pub returns-in-Talking-clause-call : goal.returns-in-Talking-clause-call
+returns-in-Talking-clause-call c =
+    subst (λ (s : Stage). OnOk c.stay.result (c.stay.new.self
+    ≡ (acked_at s c.args.step.now.setting.now c.args.step.now.present.at c.args.x c.args.side c.args.m.now (record c.args.self.now { phase = Stood c.args.x s }) c.args.desk.now).call))
+    (sym c.in-Talking.is) (always c.stay.result c.stay.ensures)
+
+pub returns-in-Talking-clause-desk : goal.returns-in-Talking-clause-desk
+returns-in-Talking-clause-desk c =
+    subst (λ (s : Stage). OnOk c.stay.result (c.args.desk.now
+    ≡ (acked_at s c.args.step.now.setting.now c.args.step.now.present.at c.args.x c.args.side c.args.m.now (record c.args.self.now { phase = Stood c.args.x s }) c.args.desk.now).desk))
+    (sym c.in-Talking.is) (always c.stay.result refl)
+
+pub returns-in-Asking-clause-call : goal.returns-in-Asking-clause-call
+returns-in-Asking-clause-call c =
+    subst (λ (s : Stage). OnOk c.stay-in-Asking.result (c.stay-in-Asking.new.self
+    ≡ (acked_at s c.args.step.now.setting.now c.args.step.now.present.at c.args.x c.args.side c.args.m.now (record c.args.self.now { phase = Stood c.args.x s }) c.args.desk.now).call))
+    (sym c.in-Asking.is) (always c.stay-in-Asking.result c.stay-in-Asking.ensures)
+
+pub returns-in-Asking-clause-desk : goal.returns-in-Asking-clause-desk
+returns-in-Asking-clause-desk c =
+    subst (λ (s : Stage). OnOk c.stay-in-Asking.result (c.args.desk.now
+    ≡ (acked_at s c.args.step.now.setting.now c.args.step.now.present.at c.args.x c.args.side c.args.m.now (record c.args.self.now { phase = Stood c.args.x s }) c.args.desk.now).desk))
+    (sym c.in-Asking.is) (always c.stay-in-Asking.result refl)

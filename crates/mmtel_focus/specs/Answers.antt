@@ -1,7 +1,7 @@
 -- What comes of the server's INVITE to a seat (RFC 3261 §13.2.2, RFC 3515 §2.4.5): its responses, silence, and its deadlines; and of a 2xx without ACK (RFC 3261 §13.3.1.4).
-use Rattle.std.specs.Prelude.{ℕ, ◌&&◌, not, nat_le, nat_lt, Bool, false, if◌then◌else◌, Option, Some, None, List, [], slice_set}
-use Rattle.std.specs.Option.{unwrap_or}
+use Rattle.std.specs.Prelude.{ℕ, ◌&&◌, not, nat_lt, false, if◌then◌else◌, Option, Some, None, List, slice_set}
 use Rattle.std.specs.Str.{bytes_eq}
+pub use Rattle.mmtel_answers.specs.Said.{tag_given}
 use Rattle.mmtel_answers.specs.Said.{Said, phrase_in, status_of}
 use Rattle.mmtel_desk.specs.Desks.{emitted, token}
 use Rattle.mmtel_desk.specs.Sending.{ack_text, acked}
@@ -20,6 +20,7 @@ use Rattle.mmtel_focus.specs.Site.{Site}
 use Rattle.mmtel_focus.specs.Texts.{own_status, status_line}
 use Rattle.mmtel_seats.specs.Invites.{agreed_by, cancelled_in, failure_acked, is_awaited, noted, once_cancelled_in, seated, waits}
 pub use Rattle.mmtel_seats.specs.Invites.{agreed_by, cancelled_in, failure_acked, is_awaited, noted, once_cancelled_in, seated, stood, waits}
+pub use Rattle.mmtel_sip_rules.specs.Statuses.{is_provisional, is_success}
 
 -- ---- a provisional response
 
@@ -27,10 +28,6 @@ abbrev pub on_provisional : TKey → (place : ℕ) → Seat → Step → Step
 on_provisional key place seat s = put place (record seat { invite = noted key seat.invite }) s
 
 -- ---- a 2xx: its dialog has an ACK, and the one who asked for it is told
-
--- the tag that a response gives
-abbrev pub tag_given : Said → List ℕ
-tag_given m = unwrap_or m.heard.to_tag []
 
 abbrev pub stood_in : RoomNo → (now : ℕ) → Remote → (place : ℕ) → Option Seat → List Seat → List Seat
 stood_in room now remote place None seats = seats
@@ -69,9 +66,6 @@ on_failure site now key m place seat s =
 abbrev pub acked_again : (ack : List ℕ) → Seat → Step → Step
 acked_again ack seat s = with_desk (emitted (emit.Plain (dialogue_of seat).peer ack) s.effects.desk) s
 
-abbrev pub is_success : (code : ℕ) → Bool
-is_success code = nat_le 200 code && nat_lt code 300
-
 abbrev pub on_repeat : Said → (tag ack : List ℕ) → (place : ℕ) → Seat → Step → Step
 on_repeat m tag ack place seat s = if is_success (status_of m.heard.start) && bytes_eq (tag_given m) tag then acked_again ack seat s else s
 
@@ -79,7 +73,7 @@ on_repeat m tag ack place seat s = if is_success (status_of m.heard.start) && by
 
 abbrev pub on_response : Site → (now : ℕ) → TKey → Said → (place : ℕ) → Seat → Step → Step
 on_response site now key m place seat s =
-    if nat_lt (status_of m.heard.start) 200 then on_provisional key place seat s
+    if is_provisional (status_of m.heard.start) then on_provisional key place seat s
     else if nat_lt (status_of m.heard.start) 300 then on_success site now m place seat s
     else on_failure site now key m place seat s
 

@@ -6,8 +6,7 @@ use Rattle.mmtel_desk.specs.Desks.{drew, emitted, token}
 use Rattle.mmtel_desk.specs.Invitations.{sent}
 use Rattle.mmtel_desk.specs.Sending.{answered_at, asked_with}
 use Rattle.mmtel_desk.specs.declared.desks.Desk.{Desk}
-use Rattle.mmtel_leg.specs.Dialogues.{after_request}
-use Rattle.mmtel_leg.specs.Legs.{Leg, with_dialogue}
+pub use Rattle.mmtel_leg.specs.Legs.{having_invited}
 use Rattle.mmtel_leg.specs.Releases.{released_leg}
 use Rattle.mmtel_leg.specs.declared.dialogues.Dialogue.{Dialogue}
 use Rattle.mmtel_leg.specs.declared.legs.Released.{Released}
@@ -34,10 +33,7 @@ pub use Rattle.mmtel_seats.specs.Inviting.{invitation_dialog, invite_sent, longe
 use Rattle.mmtel_seats.specs.Seats.{metered, next_of}
 pub use Rattle.mmtel_seats.specs.Seats.{metered}
 use Rattle.mmtel_seats.specs.declared.numbers.Next.{Next}
-
--- for so long a 2xx waits for its ACK (RFC 3261 §13.3.1.4), in milliseconds
-abbrev pub ack_time : ℕ
-ack_time = 32000
+pub use Rattle.mmtel_sip_rules.specs.Requests.{ack_time}
 
 -- ---- a leg that comes to a room without a meter
 
@@ -109,9 +105,6 @@ bidden site now by None s = told_failure site by 404 s
 bidden site now by (Some u) s = invited_at site now by (route_of u site.peers.routes) u s
 
 -- ---- a leg out of a call is asked in, and has a seat from then on
-
-abbrev pub having_invited : Leg → Leg
-having_invited leg = with_dialogue leg (after_request leg.dialogue (codes "INVITE"))
 
 abbrev pub having_invited_by : Released → Released
 having_invited_by (released.Caller leg) = released.Caller (having_invited leg)

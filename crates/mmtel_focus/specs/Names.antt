@@ -1,8 +1,7 @@
 -- What is asked of the table of rooms: which seat has a dialog (RFC 3261 §12.2.2), how many seats of a room are taken, and the meters of those who have one.
 use Rattle.std.specs.Prelude.{ℕ, ◌&&◌, Bool, Option, Some, None, is_some, List, [], length, map, min, ◌-◌, ◌^◌, position, slice_get}
 use Rattle.std.specs.Option.{option_map}
-use Rattle.std.specs.Str.{bytes_eq}
-use Rattle.mmtel_leg.specs.declared.dialogues.Dialogue.{Dialogue}
+pub use Rattle.mmtel_leg.specs.Names.{has_name}
 use Rattle.mmtel_leg.specs.declared.legs.Ended.{Ended}
 use Rattle.mmtel_types.specs.declared.numbers.RoomNo.{RoomNo}
 use Rattle.mmtel_focus.specs.Rooms.{Room, Seat}
@@ -12,9 +11,6 @@ use Rattle.mmtel_seats.specs.Seats.{ended}
 pub use Rattle.mmtel_seats.specs.Seats.{ended}
 
 -- by Call-ID, the server's tag and the other side's
-abbrev pub has_name : (call_id local remote : List ℕ) → Dialogue → Bool
-has_name call_id local remote d = bytes_eq d.call_id call_id && (bytes_eq d.local_tag local && bytes_eq d.remote_tag remote)
-
 abbrev pub is_named : (call_id local remote : List ℕ) → Seat → Bool
 is_named call_id local remote seat = is_seated seat && has_name call_id local remote (dialogue_of seat)
 

@@ -8,10 +8,10 @@ use Rattle.mmtel_leg.specs.declared.legs.Released.{Released}
 use Rattle.mmtel_leg.specs.declared.legs.Released.TheVariants as released
 use Rattle.mmtel_transaction.specs.declared.words.TKey.{TKey}
 use Rattle.mmtel_types.specs.declared.numbers.Account.{Account}
-use Rattle.mmtel_focus.specs.Histories.{Deed, Opens, no_tokens}
+use Rattle.mmtel_focus.specs.Histories.{Deed, Opens, RoomsView, did, effects_of, no_tokens}
 use Rattle.mmtel_focus.specs.Requests.{busy, heard_seat, says}
 use Rattle.mmtel_focus.specs.Joining.{told_failure, with_new}
-use Rattle.mmtel_focus.specs.Rooms.{Room, Seat, Step, with_desk}
+use Rattle.mmtel_focus.specs.Rooms.{Effects, Room, Seat, Step, with_desk}
 use Rattle.mmtel_focus.specs.Seats.{leg_of}
 use Rattle.mmtel_focus.specs.Site.{Site}
 use Rattle.mmtel_seats.specs.Inviting.{Bidding}
@@ -44,3 +44,10 @@ after_bidding site by b s = after_bid site by b.bid (with_desk b.desk s)
 -- a leg for which a room is opened, by which no token is drawn
 abbrev pub arriving : (at : ℕ) → Released → Option Account → TKey → Said → Deed
 arriving at leg account key m = Opens (record { at = at; tokens = no_tokens; leg = leg; account = account; key = key; invite = m })
+
+-- the rooms after what was done in a step of this configuration, and what that brings forth
+abbrev pub after : Site → Deed → RoomsView → RoomsView
+after site deed rooms = record rooms { table = did site deed rooms.table }
+
+abbrev pub brought : Site → Deed → RoomsView → Effects
+brought site deed rooms = effects_of site deed rooms.table

@@ -1,5 +1,5 @@
 -- What a seat asks in its dialog: INVITE, BYE (RFC 3261 §14, §15), REFER (RFC 3515), OPTIONS (RFC 3261 §11), and what no row lists; and the ACK of a 2xx (§13.2.2.4).
-use Rattle.std.specs.Prelude.{ℕ, ◌==◌, Bool, true, false, if◌then◌else◌, Option, Some, None, List, [], codes, Result, Ok, Err}
+use Rattle.std.specs.Prelude.{ℕ, Bool, true, false, if◌then◌else◌, Option, Some, None, List, [], codes, Result, Ok, Err}
 use Rattle.mmtel_scan.specs.Numbers.{next_number}
 use Rattle.mmtel_answers.specs.Answers.{allowed, retry_after}
 use Rattle.mmtel_answers.specs.Said.{Said}
@@ -21,6 +21,7 @@ use Rattle.mmtel_focus.specs.declared.referrals.Referral.TheVariants as referral
 use Rattle.mmtel_seats.specs.Asking.{awaiting, busy, heard_seat, number_of, says}
 pub use Rattle.mmtel_seats.specs.Asking.{awaiting, busy, busy_by, having_heard, heard_seat, number_of, says}
 pub use Rattle.mmtel_seats.specs.Invites.{is_waiting}
+pub use Rattle.mmtel_sip_rules.specs.Requests.{is_number, is_same_number}
 
 -- ---- answers, with the tag of the seat's dialog
 
@@ -95,14 +96,6 @@ on_request site now key m place seat s =
     else refused site key m 481 place seat s
 
 -- ---- ACK: that of the 2xx that waits for one, which has the number of its INVITE; nothing goes out
-
-abbrev pub is_number : ℕ → Option ℕ → Bool
-is_number n None = false
-is_number n (Some m) = n == m
-
-abbrev pub is_same_number : Option ℕ → Option ℕ → Bool
-is_same_number None other = false
-is_same_number (Some n) other = is_number n other
 
 abbrev pub acknowledges : Said → Option Awaited → Bool
 acknowledges m None = false

@@ -26,5 +26,9 @@ pub record Step : Type 0 where
   pub room : Room
   pub effects : kept_effects.Effects
 
+-- this room, in a step that has brought this forth so far
+abbrev pub in_step : Room → kept_effects.Effects → Step
+in_step room effects = record { room = room; effects = effects }
+
 abbrev pub with_desk : Desk → Step → Step
 with_desk desk s = record s { effects = record s.effects { desk = desk } }

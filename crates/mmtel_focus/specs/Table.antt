@@ -1,11 +1,12 @@
 -- The table of rooms: each signal is of one seat of one room, which takes its row, or of an INVITE that was left; a room is opened, joined, told and left.
-use Rattle.std.specs.Prelude.{ℕ, ◌+◌, ◌==◌, nat_le, nat_lt, Bool, false, if◌then◌else◌, Option, Some, None, List, [], ◌∷◌, ◌++◌, codes, drop, length, option_to_list}
-use Rattle.std.specs.Prelude.{position, remove, slice_get, slice_set, take, Result, Ok, Err}
+use Rattle.std.specs.Prelude.{ℕ, ◌==◌, nat_le, Bool, if◌then◌else◌, Option, Some, None, List, [], ◌∷◌, ◌++◌, length, option_to_list}
+use Rattle.std.specs.Prelude.{position, remove, slice_get, slice_set, Result, Ok, Err}
 use Rattle.std.specs.List.{list_any}
 use Rattle.mmtel_scan.specs.Numbers.{next_number}
 use Rattle.mmtel_answers.specs.Said.{Said}
 use Rattle.mmtel_charging.specs.Meters.{Noted, row_of}
 use Rattle.mmtel_charging.specs.declared.rows.Row.{Row}
+pub use Rattle.mmtel_desk.specs.Invitations.{is_key, is_loose_key, without, without_at}
 use Rattle.mmtel_desk.specs.Invites.{invite_answered, invite_silent}
 use Rattle.mmtel_desk.specs.Loose.{Rest, is_of, on_response}
 use Rattle.mmtel_desk.specs.declared.invitations.Loose.{Loose}
@@ -31,6 +32,7 @@ use Rattle.mmtel_focus.specs.declared.signals.RoomSignal.{RoomSignal}
 use Rattle.mmtel_focus.specs.declared.signals.RoomSignal.TheVariants as signal
 use Rattle.mmtel_seats.specs.Invites.{is_asked}
 pub use Rattle.mmtel_seats.specs.Invites.{is_asked, is_sent}
+pub use Rattle.mmtel_sip_rules.specs.Statuses.{is_provisional}
 
 pub record Table : Type 0 where
   -- the rooms that are live, in the order in which they were opened
@@ -130,13 +132,6 @@ pub record Moved : Type 0 where
 abbrev pub beside : List Loose → Stepped → Moved
 beside loose s = record { live = s.live; loose = loose; effects = s.effects }
 
-abbrev pub without_at : {A : Type 0} → (place : ℕ) → List A → List A
-without_at place items = take place items ++ drop (place + 1) items
-
-abbrev pub without : {A : Type 0} → Option ℕ → List A → List A
-without None items = items
-without (Some place) items = without_at place items
-
 -- what is left of one stands last
 abbrev pub with_rest : (place : ℕ) → Rest → List Room → List Loose → Effects → Moved
 with_rest place rest live loose effects = record { live = live; loose = without_at place loose ++ option_to_list rest.left; effects = record effects { desk = rest.desk } }
@@ -163,14 +158,6 @@ abbrev pub silenced_by : Site → (now : ℕ) → (branch : Option (List ℕ)) �
 silenced_by site now None live loose effects = beside loose (unmoved live effects)
 silenced_by site now (Some branch) live loose effects = silenced_at site now branch (position (is_of branch) loose) live loose effects
 
--- no more is heard of the one whose client transaction has ended
-abbrev pub is_key : TKey → Option TKey → Bool
-is_key key None = false
-is_key key (Some other) = other.0 == key.0
-
-abbrev pub is_loose_key : TKey → Loose → Bool
-is_loose_key key l = is_key key l.invitation.key
-
 -- ---- any signal
 
 unfoldable pub taken : Site → (now : ℕ) → RoomSignal → List Room → List Loose → Effects → Moved
@@ -179,6 +166,7 @@ taken site now (signal.Ack room seat ack) live loose effects = beside loose (hea
 taken site now (signal.Answer key response) live loose effects = answered_by site now key response (invite_answered response) live loose effects
 taken site now (signal.Silent branch method) live loose effects = silenced_by site now (invite_silent branch method) live loose effects
 taken site now (signal.Due room seat what) live loose effects = beside loose (heard_in site now room.0 seat (of_seat.Due what) live effects)
+-- no more is heard of the INVITE whose client transaction has ended
 taken site now (signal.Over key) live loose effects = beside (without (position (is_loose_key key) loose) loose) (unmoved live effects)
 
 -- ---- rooms are opened and joined
@@ -217,9 +205,6 @@ unfoldable pub referred : Site → (now : ℕ) → (room : ℕ) → Released →
 referred site now room leg account by live effects = through (adopted site now leg account by) (access room live) live effects
 
 -- ---- NOTIFY that the server asks for
-
-abbrev pub is_provisional : (code : ℕ) → Bool
-is_provisional code = nat_lt code 200
 
 unfoldable pub notified : Site → (room seat code : ℕ) → List Room → Effects → Stepped
 notified site room seat code live effects = stays_in (told_to site (is_provisional code) (own_status code) seat) (place_of room live) live effects

@@ -4,19 +4,20 @@ ghost use Rattle.mmtel_leg.specs.Releases.{released_leg};
 ghost use Rattle.mmtel_sdp.specs.Offers.{offers_audio};
 ghost use Rattle.mmtel_focus.specs.Joining.{adopted, come, is_same_side};
 ghost use Rattle.mmtel_focus.specs.Seats.{told_to};
-ghost use Rattle.mmtel_focus.specs.Table.{access, is_provisional, notified, stays_at};
+ghost use Rattle.mmtel_focus.specs.Table.{access, notified, stays_at};
 ghost use Rattle.mmtel_focus.specs.Texts.{own_status};
 
 use crate::faults::RoomFault;
-use crate::live::{LiveRooms, beginning, give_up_room};
+use crate::joining::Entrant;
+use crate::live::{LiveRooms, give_up_room};
 use crate::texts::own_status;
 use mmtel_answers::Hearing;
 use mmtel_leg::Released;
 use mmtel_scan::NoMemory;
-use mmtel_seats::{Effects, Setting, has_no_seat};
+use mmtel_seats::{Effects, Step, has_no_seat};
+use mmtel_sip_rules::is_provisional;
 use mmtel_transaction::TKey;
-use mmtel_types::{Account, Moment, RoomNo};
-use std::alloc::Global;
+use mmtel_types::RoomNo;
 
 /// The place of the room of this number, where it takes another seat.
 pub fn access(live: &LiveRooms, room: RoomNo) -> Result<usize, RoomFault>
@@ -43,30 +44,29 @@ pub fn access(live: &LiveRooms, room: RoomNo) -> Result<usize, RoomFault>
 #[tactic(auto, using(crate::proofs::Keeping::put_twice))]
 pub fn join_at(
     live: &mut LiveRooms,
-    alloc: Global,
-    setting: &Setting<'_>,
-    now: Moment,
+    step: &Step<'_>,
     place: usize,
-    leg: Released,
-    account: Option<Account>,
+    entrant: Entrant,
     key: TKey,
     invite: &Hearing,
     effects: &mut Effects,
 ) -> Result<(), Released>
-    requires unmetered { (released_leg leg).meter ≡ None }
+    requires unmetered { (released_leg entrant.leg).meter ≡ None }
     requires audio { offers_audio invite.now.heard.body ≡ true }
     requires place { place < length live.old.items }
     ensures live { OnOk result (live.new ≡ record live.old {
-      items = (stays_at (come setting.now now leg account key invite.now) place (slice_get live.old.items place) live.old.items effects.old).live;
+      items = (stays_at (come step.now.setting step.now.at entrant.leg entrant.account key invite.now)
+          place (slice_get live.old.items place) live.old.items effects.old).live;
     }) }
     ensures effects { OnOk result (effects.new
-        ≡ (stays_at (come setting.now now leg account key invite.now) place (slice_get live.old.items place) live.old.items effects.old).effects) }
+        ≡ (stays_at (come step.now.setting step.now.at entrant.leg entrant.account key invite.now)
+        place (slice_get live.old.items place) live.old.items effects.old).effects) }
     ensures loose { OnOk result (effects.new.loose ≡ effects.old.loose) }
     ensures rows { OnOk result (effects.new.desk.rows ≡ effects.old.desk.rows) }
-    ensures handed_back { IfErr result (λ l. l ≡ leg) }
+    ensures handed_back { IfErr result (λ l. l ≡ entrant.leg) }
 {
-    let mut room = live.take_out(alloc, place);
-    let come = room.come(alloc, setting, now, leg, account, key, invite, effects);
+    let mut room = live.take_out(step.alloc, place);
+    let come = room.come(step, entrant, key, invite, effects);
     live.put_back(place, room);
     come
 }
@@ -79,28 +79,26 @@ pub fn join_at(
 #[tactic(auto, using(crate::proofs::Keeping::put_twice))]
 pub fn adopt_at(
     live: &mut LiveRooms,
-    alloc: Global,
-    setting: &Setting<'_>,
-    now: Moment,
+    step: &Step<'_>,
     place: usize,
-    leg: Released,
-    account: Option<Account>,
+    entrant: Entrant,
     by: u64,
     effects: &mut Effects,
 ) -> Result<(), Released>
-    requires unmetered { (released_leg leg).meter ≡ None }
+    requires unmetered { (released_leg entrant.leg).meter ≡ None }
     requires place { place < length live.old.items }
     ensures live { OnOk result (live.new ≡ record live.old {
-      items = (stays_at (adopted setting.now now leg account by) place (slice_get live.old.items place) live.old.items effects.old).live;
+      items = (stays_at (adopted step.now.setting step.now.at entrant.leg entrant.account by) place (slice_get live.old.items place) live.old.items effects.old).live;
     }) }
-    ensures effects { OnOk result (effects.new ≡ (stays_at (adopted setting.now now leg account by) place (slice_get live.old.items place) live.old.items effects.old).effects) }
+    ensures effects { OnOk result (effects.new
+        ≡ (stays_at (adopted step.now.setting step.now.at entrant.leg entrant.account by) place (slice_get live.old.items place) live.old.items effects.old).effects) }
     ensures loose { OnOk result (effects.new.loose ≡ effects.old.loose) }
     ensures rows { OnOk result (effects.new.desk.rows ≡ effects.old.desk.rows) }
     ensures meter { IfErr result (λ l. (released_leg l).meter ≡ None) }
-    ensures side { IfErr result (λ l. is_same_side l leg ≡ true) }
+    ensures side { IfErr result (λ l. is_same_side l entrant.leg ≡ true) }
 {
-    let mut room = live.take_out(alloc, place);
-    let adopted = room.adopt(alloc, setting, now, leg, account, by, effects);
+    let mut room = live.take_out(step.alloc, place);
+    let adopted = room.adopt(step, entrant, by, effects);
     live.put_back(place, room);
     adopted
 }
@@ -109,8 +107,7 @@ pub fn adopt_at(
 #[tactic(auto, using(crate::proofs::Keeping::put_twice))]
 fn tell_at(
     live: &mut LiveRooms,
-    alloc: Global,
-    setting: &Setting<'_>,
+    step: &Step<'_>,
     place: usize,
     goes_on: bool,
     line: &[u8],
@@ -119,15 +116,15 @@ fn tell_at(
 ) -> Result<(), NoMemory>
     requires { place < length live.old.items }
     ensures live { OnOk result (live.new ≡ record live.old {
-      items = (stays_at (told_to setting.now goes_on line.now seat) place (slice_get live.old.items place) live.old.items effects.old).live;
+      items = (stays_at (told_to step.now.setting goes_on line.now seat) place (slice_get live.old.items place) live.old.items effects.old).live;
     }) }
     ensures effects { OnOk result (effects.new
-        ≡ (stays_at (told_to setting.now goes_on line.now seat) place (slice_get live.old.items place) live.old.items effects.old).effects) }
+        ≡ (stays_at (told_to step.now.setting goes_on line.now seat) place (slice_get live.old.items place) live.old.items effects.old).effects) }
 {
-    let mut room = live.take_out(alloc, place);
-    match room.tell(alloc, setting, goes_on, line, seat, effects) {
+    let mut room = live.take_out(step.alloc, place);
+    match room.tell(step, goes_on, line, seat, effects) {
         Err(error) => {
-            give_up_room(room, beginning());
+            give_up_room(room, step.at);
             Err(error)
         }
         Ok(()) => {
@@ -141,23 +138,24 @@ fn tell_at(
 #[tactic(auto, unfolding(crate::specs::Table::notified))]
 pub fn notify(
     live: &mut LiveRooms,
-    alloc: Global,
-    setting: &Setting<'_>,
+    step: &Step<'_>,
     room: RoomNo,
     seat: u64,
     code: u16,
     effects: &mut Effects,
 ) -> Result<(), NoMemory>
-    ensures live { OnOk result (live.new ≡ record live.old { items = (notified setting.now room.0 seat code live.old.items effects.old).live }) }
-    ensures effects { OnOk result (effects.new ≡ (notified setting.now room.0 seat code live.old.items effects.old).effects) }
+    ensures live { OnOk result (live.new
+        ≡ record live.old { items = (notified step.now.setting room.0 seat code live.old.items effects.old).live }) }
+    ensures effects { OnOk result (effects.new
+        ≡ (notified step.now.setting room.0 seat code live.old.items effects.old).effects) }
 {
-    let line = own_status(alloc, code)?;
+    let line = own_status(step.alloc, code)?;
     match live.place_of(room) {
         None => Ok(()),
         Some(place) => {
-            let goes_on = code < 200;
+            let goes_on = is_provisional(code);
             let line = line.bytes();
-            tell_at(live, alloc, setting, place, goes_on, line, seat, effects)
+            tell_at(live, step, place, goes_on, line, seat, effects)
         }
     }
 }

@@ -1,37 +1,20 @@
 //! Which seat has a dialog, and how many seats of a room are taken.
 ghost use Rattle.std.specs.Prelude.{◌≡◌, Some, position};
 ghost use Rattle.std.specs.Option.{option_copied};
-ghost use Rattle.mmtel_focus.specs.Names.{found, found_in, has_dialog, has_name, is_named, number_at, seat_named, seats_taken};
+ghost use Rattle.mmtel_focus.specs.Names.{found, found_in, has_dialog, is_named, number_at, seat_named, seats_taken};
 
 use crate::live::LiveRooms;
 use crate::rooms::Room;
 use mmtel_desk::{Mark, told};
-use mmtel_leg::Dialogue;
+use mmtel_leg::DialogName;
 use mmtel_seats::Seat;
 use mmtel_types::RoomNo;
-
-/// The names of a dialog: its Call-ID, the server's tag and the other side's.
-#[derive(Clone, Copy)]
-pub struct DialogName<'a> {
-    pub call_id: &'a [u8],
-    pub local: &'a [u8],
-    pub remote: &'a [u8],
-}
-
-/// Whether the dialog has these names.
-fn has_name(dialogue: &Dialogue, name: DialogName<'_>) -> bool
-    ensures { result ≡ has_name name.entry.call_id.now name.entry.local.now name.entry.remote.now dialogue.now }
-{
-    dialogue.call_id.bytes() == name.call_id
-        && dialogue.local_tag.bytes() == name.local
-        && dialogue.remote_tag.bytes() == name.remote
-}
 
 /// Whether somebody is seated there whose dialog has these names.
 fn is_named(seat: &Seat, name: DialogName<'_>) -> bool
     ensures { result ≡ is_named name.entry.call_id.now name.entry.local.now name.entry.remote.now seat.now }
 {
-    seat.is_seated() && has_name(seat.dialogue(), name)
+    seat.is_seated() && name.is_of(seat.dialogue())
 }
 
 fn number_at(seats: &[Seat], place: Option<usize>) -> Option<u64>

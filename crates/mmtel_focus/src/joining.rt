@@ -8,28 +8,44 @@ ghost use Rattle.mmtel_scan.specs.Numbers.{next_number};
 ghost use Rattle.mmtel_sdp.specs.Mixing.{offer_text};
 ghost use Rattle.mmtel_sdp.specs.Offers.{offers_audio};
 ghost use Rattle.mmtel_focus.specs.Joining.{adopted, agreed, come, having_invited, having_invited_by, is_same_side, new_room, new_seat, next_in, party_of};
-ghost use Rattle.mmtel_focus.specs.Rooms.{Waiting};
+ghost use Rattle.mmtel_focus.specs.Rooms.{in_step, Waiting};
 ghost use Rattle.mmtel_focus.specs.Seats.{meter_of};
 ghost use Rattle.mmtel_focus.specs.Texts.{answer_in, contact_value, described, sdp_lines};
 
 use crate::rooms::Room;
 use crate::texts::answer_in;
-use mmtel_answers::Hearing;
+use mmtel_answers::{Hearing, OwnResponse};
 use mmtel_charging::Meter;
 use mmtel_desk::{Desk, Invitation};
 use mmtel_leg::{LegOf, Released, Standing};
 use mmtel_scan::NoMemory;
 use mmtel_sdp::mixer_offer;
 use mmtel_seats::{
-    Awaited, Effects, Invite, Next, Party, Seat, Setting, contact_value, described, meter_of,
-    metered, sdp_lines,
+    Awaited, Effects, Invite, Next, Party, Seat, Step, contact_value, described, meter_of, metered,
+    sdp_lines,
 };
+use mmtel_sip_rules::ACK_TIME;
 use mmtel_transaction::{Emit, RoomWord, TKey};
 use mmtel_types::{Account, Moment, RoomNo};
 use std::alloc::Global;
 
-/// For so long a 2xx waits for its ACK, in milliseconds (RFC 3261 §13.3.1.4).
-const ACK_TIME: u64 = 32_000;
+/// Who enters a room. It must be spent.
+pub struct Entrant {
+    /// The leg, which has no meter.
+    pub leg: Released,
+    /// Whose account is charged for the seat.
+    pub account: Option<Account>,
+}
+
+impl Entrant {
+    /// The leg of somebody who does not enter.
+    pub fn into_leg(self) -> Released
+        ensures leg { result ≡ self.leg }
+    {
+        let Entrant { leg, account: _ } = self;
+        leg
+    }
+}
 
 /// Who a leg is of, with a participant's meter.
 fn party_of(leg: Released, meter: Option<Meter>, now: Moment) -> Party
@@ -43,8 +59,7 @@ fn party_of(leg: Released, meter: Option<Meter>, now: Moment) -> Party
 
 /// Answers an INVITE to a room with the mixer's answer.
 fn answer(
-    alloc: Global,
-    setting: &Setting<'_>,
+    step: &Step<'_>,
     room: RoomNo,
     key: TKey,
     invite: &Hearing,
@@ -53,45 +68,40 @@ fn answer(
 ) -> Result<(), NoMemory>
     requires { offers_audio invite.now.heard.body ≡ true }
     ensures { OnOk result (desk.new
-        ≡ answered_at (contact_value setting.now.sip room) key invite.now tag.now 200 [] sdp_lines (answer_in setting.now.mixer invite.now.heard.body) desk.old) }
+        ≡ answered_at (contact_value step.now.setting.sip room) key invite.now tag.now 200 [] sdp_lines
+        (answer_in step.now.setting.mixer invite.now.heard.body) desk.old) }
 {
-    let contact = contact_value(alloc, setting.sip, room)?;
-    let named = sdp_lines(alloc)?;
-    let body = answer_in(alloc, setting.mixer, invite.message.body())?;
-    desk.answer_at(
-        alloc,
-        contact.bytes(),
-        key,
-        invite,
-        tag,
-        200,
-        &[],
-        named.items(),
-        body.bytes(),
-    )
+    let contact = contact_value(step.alloc, step.setting.sip, room)?;
+    let named = sdp_lines(step.alloc)?;
+    let body = answer_in(step.alloc, step.setting.mixer, invite.message.body())?;
+    let own = OwnResponse {
+        code: 200,
+        passed: &[],
+        named: named.items(),
+        body: body.bytes(),
+    };
+    desk.answer_at(step.alloc, contact.bytes(), key, invite, tag, own)
 }
 
 /// Answers an INVITE to a room with the mixer's answer, and arms the deadline of its ACK.
 pub fn agree(
-    alloc: Global,
-    setting: &Setting<'_>,
-    now: Moment,
-    room: RoomNo,
-    seat: u64,
-    number: u64,
+    step: &Step<'_>,
+    numbers: Next,
     key: TKey,
     invite: &Hearing,
     tag: &[u8],
     desk: &mut Desk,
 ) -> Result<(), NoMemory>
     requires { offers_audio invite.now.heard.body ≡ true }
-    ensures { OnOk result (desk.new ≡ agreed setting.now now room seat number key invite.now tag.now desk.old) }
+    ensures { OnOk result (desk.new
+        ≡ agreed step.now.setting step.now.at numbers.room numbers.seat numbers.number key invite.now tag.now desk.old) }
 {
-    answer(alloc, setting, room, key, invite, tag, desk)?;
-    let at = now.ms() + ACK_TIME;
+    let Next { room, seat, number } = numbers;
+    answer(step, room, key, invite, tag, desk)?;
+    let at = step.at.ms() + ACK_TIME;
     let what = RoomWord::NoAck(number);
     desk.emit(
-        alloc,
+        step.alloc,
         Emit::ArmSeat {
             room,
             seat,
@@ -158,50 +168,59 @@ fn adopted_seat(
 
 /// Asks a leg into a room by an INVITE with the mixer's offer.
 fn ask<P>(
-    alloc: Global,
-    setting: &Setting<'_>,
+    step: &Step<'_>,
     room: RoomNo,
     leg: &mut LegOf<P, Standing>,
     desk: &mut Desk,
 ) -> Result<Invitation, NoMemory>
-    ensures desk { OnOk result (desk.new ≡ asked_with setting.now.sip (codes "INVITE") leg.old.dialogue (described setting.now.sip room) (offer_text setting.now.mixer) desk.old) }
+    ensures desk { OnOk result (desk.new
+        ≡ asked_with step.now.setting.sip (codes "INVITE") leg.old.dialogue (described step.now.setting.sip room) (offer_text step.now.setting.mixer) desk.old) }
     ensures counted { OnOk result (leg.new ≡ having_invited leg.old) }
     ensures meter { leg.new.meter ≡ leg.old.meter }
-    ensures sent { IfOk result (λ i. i ≡ sent (having_invited leg.old).dialogue (next_number leg.old.dialogue.own) (token desk.old)) }
+    ensures sent { IfOk result (λ i. i
+        ≡ sent (having_invited leg.old).dialogue (next_number leg.old.dialogue.own) (token desk.old)) }
 {
-    let named = described(alloc, setting.sip, room)?;
-    let body = mixer_offer(alloc, setting.mixer)?;
-    let branch = desk.ask_with(alloc, setting.sip, b"INVITE", leg, &named, body.bytes())?;
-    let dialogue = leg.dialogue().copied(alloc)?;
+    let named = described(step.alloc, step.setting.sip, room)?;
+    let body = mixer_offer(step.alloc, step.setting.mixer)?;
+    let branch = desk.ask_with(
+        step.alloc,
+        step.setting.sip,
+        b"INVITE",
+        leg,
+        &named,
+        body.bytes(),
+    )?;
+    let dialogue = leg.dialogue().copied(step.alloc)?;
     let number = dialogue.own;
     Ok(Invitation::sent(dialogue, number, branch))
 }
 
 /// The same of a leg that was taken out of a call, which is handed back in any case.
 fn ask_in(
-    alloc: Global,
-    setting: &Setting<'_>,
+    step: &Step<'_>,
     room: RoomNo,
     leg: Released,
     desk: &mut Desk,
 ) -> (Released, Result<Invitation, NoMemory>)
     requires { (released_leg leg).meter ≡ None }
     ensures desk { OnOk result.1 (desk.new
-        ≡ asked_with setting.now.sip (codes "INVITE") (released_leg leg).dialogue (described setting.now.sip room) (offer_text setting.now.mixer) desk.old) }
+        ≡ asked_with step.now.setting.sip (codes "INVITE") (released_leg leg).dialogue
+        (described step.now.setting.sip room) (offer_text step.now.setting.mixer) desk.old) }
     ensures counted { OnOk result.1 (result.0 ≡ having_invited_by leg) }
     ensures meter { (released_leg result.0).meter ≡ None }
     ensures side { is_same_side result.0 leg ≡ true }
-    ensures sent { IfOk result.1 (λ i. i ≡ sent (having_invited (released_leg leg)).dialogue (next_number (released_leg leg).dialogue.own) (token desk.old)) }
+    ensures sent { IfOk result.1 (λ i. i
+        ≡ sent (having_invited (released_leg leg)).dialogue (next_number (released_leg leg).dialogue.own) (token desk.old)) }
 {
     match leg {
         Released::Caller(leg) => {
             let mut leg = leg;
-            let sent = ask(alloc, setting, room, &mut leg, desk);
+            let sent = ask(step, room, &mut leg, desk);
             (Released::Caller(leg), sent)
         }
         Released::Callee(leg) => {
             let mut leg = leg;
-            let sent = ask(alloc, setting, room, &mut leg, desk);
+            let sent = ask(step, room, &mut leg, desk);
             (Released::Callee(leg), sent)
         }
     }
@@ -243,45 +262,33 @@ impl Room {
     #[tactic(auto, unfolding(crate::specs::Joining::come))]
     pub fn come(
         &mut self,
-        alloc: Global,
-        setting: &Setting<'_>,
-        now: Moment,
-        leg: Released,
-        account: Option<Account>,
+        step: &Step<'_>,
+        entrant: Entrant,
         key: TKey,
         invite: &Hearing,
         effects: &mut Effects,
     ) -> Result<(), Released>
-        requires unmetered { (released_leg leg).meter ≡ None }
+        requires unmetered { (released_leg entrant.leg).meter ≡ None }
         requires audio { offers_audio invite.now.heard.body ≡ true }
-        ensures room { OnOk result (self.new ≡ (come setting.now now leg account key invite.now (record { room = self.old; effects = effects.old })).room) }
-        ensures effects { OnOk result (effects.new ≡ (come setting.now now leg account key invite.now (record { room = self.old; effects = effects.old })).effects) }
+        ensures room { OnOk result (self.new
+            ≡ (come step.now.setting step.now.at entrant.leg entrant.account key invite.now (in_step self.old effects.old)).room) }
+        ensures effects { OnOk result (effects.new
+            ≡ (come step.now.setting step.now.at entrant.leg entrant.account key invite.now (in_step self.old effects.old)).effects) }
         ensures loose { OnOk result (effects.new.loose ≡ effects.old.loose) }
         ensures rows { OnOk result (effects.new.desk.rows ≡ effects.old.desk.rows) }
         ensures refused { OnErr result (self.new ≡ self.old) }
-        ensures handed_back { IfErr result (λ l. l ≡ leg) }
+        ensures handed_back { IfErr result (λ l. l ≡ entrant.leg) }
     {
+        let Entrant { leg, account } = entrant;
         if self.seats.reserve(1).is_err() {
             return Err(leg);
         }
         let next = self.next();
         let tag = leg.dialogue().local_tag.bytes();
-        let agreed = agree(
-            alloc,
-            setting,
-            now,
-            next.room,
-            next.seat,
-            next.number,
-            key,
-            invite,
-            tag,
-            &mut effects.desk,
-        );
-        if agreed.is_err() {
+        if agree(step, next, key, invite, tag, &mut effects.desk).is_err() {
             return Err(leg);
         }
-        let seat = new_seat(self, leg, account, now);
+        let seat = new_seat(self, leg, account, step.at);
         self.seats.push_reserved(seat);
         self.count(next);
         Ok(())
@@ -295,31 +302,31 @@ impl Room {
     #[tactic(auto, unfolding(crate::specs::Joining::adopted))]
     pub fn adopt(
         &mut self,
-        alloc: Global,
-        setting: &Setting<'_>,
-        now: Moment,
-        leg: Released,
-        account: Option<Account>,
+        step: &Step<'_>,
+        entrant: Entrant,
         by: u64,
         effects: &mut Effects,
     ) -> Result<(), Released>
-        requires { (released_leg leg).meter ≡ None }
-        ensures room { OnOk result (self.new ≡ (adopted setting.now now leg account by (record { room = self.old; effects = effects.old })).room) }
-        ensures effects { OnOk result (effects.new ≡ (adopted setting.now now leg account by (record { room = self.old; effects = effects.old })).effects) }
+        requires { (released_leg entrant.leg).meter ≡ None }
+        ensures room { OnOk result (self.new
+            ≡ (adopted step.now.setting step.now.at entrant.leg entrant.account by (in_step self.old effects.old)).room) }
+        ensures effects { OnOk result (effects.new
+            ≡ (adopted step.now.setting step.now.at entrant.leg entrant.account by (in_step self.old effects.old)).effects) }
         ensures loose { OnOk result (effects.new.loose ≡ effects.old.loose) }
         ensures rows { OnOk result (effects.new.desk.rows ≡ effects.old.desk.rows) }
         ensures refused { OnErr result (self.new ≡ self.old) }
         ensures meter { IfErr result (λ l. (released_leg l).meter ≡ None) }
-        ensures side { IfErr result (λ l. is_same_side l leg ≡ true) }
+        ensures side { IfErr result (λ l. is_same_side l entrant.leg ≡ true) }
     {
+        let Entrant { leg, account } = entrant;
         if self.seats.reserve(1).is_err() {
             return Err(leg);
         }
-        match ask_in(alloc, setting, self.number, leg, &mut effects.desk) {
+        match ask_in(step, self.number, leg, &mut effects.desk) {
             (leg, Err(_)) => Err(leg),
             (leg, Ok(invitation)) => {
                 let next = self.next();
-                let seat = adopted_seat(self, leg, account, by, invitation, now);
+                let seat = adopted_seat(self, leg, account, by, invitation, step.at);
                 self.seats.push_reserved(seat);
                 self.count(next);
                 Ok(())

@@ -1,29 +1,24 @@
 //! How a room closes.
 ghost use Rattle.std.specs.Prelude.{◌≡◌, OnOk};
+ghost use Rattle.mmtel_focus.specs.Rooms.{in_step};
 ghost use Rattle.mmtel_focus.specs.Seats.{closed, closed_with};
 
 use crate::rooms::Room;
 use mmtel_scan::NoMemory;
-use mmtel_seats::{Effects, Setting, is_creator};
-use mmtel_types::Moment;
-use std::alloc::Global;
+use mmtel_seats::{CREATOR, Effects, Step};
 
 impl Room {
     /// All who are left have BYE and leave, the first one first, and the room closes.
     #[tactic(auto, unfolding(crate::specs::Seats::closed))]
-    fn close(
-        &mut self,
-        alloc: Global,
-        setting: &Setting<'_>,
-        now: Moment,
-        effects: &mut Effects,
-    ) -> Result<(), NoMemory>
-        ensures room { OnOk result (self.new ≡ (closed setting.now now self.old.seats (record { room = self.old; effects = effects.old })).room) }
-        ensures effects { OnOk result (effects.new ≡ (closed setting.now now self.old.seats (record { room = self.old; effects = effects.old })).effects) }
+    fn close_room(&mut self, step: &Step<'_>, effects: &mut Effects) -> Result<(), NoMemory>
+        ensures room { OnOk result (self.new
+            ≡ (closed step.now.setting step.now.at self.old.seats (in_step self.old effects.old)).room) }
+        ensures effects { OnOk result (effects.new
+            ≡ (closed step.now.setting step.now.at self.old.seats (in_step self.old effects.old)).effects) }
     {
         'seats: while !self.seats.is_empty() {
             let seat = self.seats.remove(0);
-            seat.dismiss(alloc, setting, now, effects)?;
+            seat.dismiss(step, effects)?;
         }
         effects.closes = true;
         Ok(())
@@ -32,17 +27,17 @@ impl Room {
     /// The room closes where the seat of its creator was left.
     pub fn close_with(
         &mut self,
-        alloc: Global,
-        setting: &Setting<'_>,
-        now: Moment,
+        step: &Step<'_>,
         number: u64,
         effects: &mut Effects,
     ) -> Result<(), NoMemory>
-        ensures room { OnOk result (self.new ≡ (closed_with setting.now now number (record { room = self.old; effects = effects.old })).room) }
-        ensures effects { OnOk result (effects.new ≡ (closed_with setting.now now number (record { room = self.old; effects = effects.old })).effects) }
+        ensures room { OnOk result (self.new
+            ≡ (closed_with step.now.setting step.now.at number (in_step self.old effects.old)).room) }
+        ensures effects { OnOk result (effects.new
+            ≡ (closed_with step.now.setting step.now.at number (in_step self.old effects.old)).effects) }
     {
-        if is_creator(number) {
-            return self.close(alloc, setting, now, effects);
+        if number == CREATOR {
+            return self.close_room(step, effects);
         }
         Ok(())
     }

@@ -11,15 +11,16 @@ ghost use Rattle.mmtel_focus.specs.Joining.{new_room};
 ghost use Rattle.mmtel_focus.specs.Marks.{marks_of, number_of};
 ghost use Rattle.mmtel_focus.specs.Table.{opened, place_of, room_left, row_in_room};
 
+use crate::joining::Entrant;
 use crate::marks::put_room;
 use crate::rooms::Room;
 use mmtel_answers::Hearing;
 use mmtel_charging::Row;
 use mmtel_desk::{Index, Mark};
 use mmtel_leg::Released;
-use mmtel_seats::{Effects, Setting};
+use mmtel_seats::{Effects, Step};
 use mmtel_transaction::TKey;
-use mmtel_types::{Account, Moment, RoomNo};
+use mmtel_types::{Moment, RoomNo};
 use std::alloc::Global;
 use std::marker::Model;
 use std::mem;
@@ -108,27 +109,26 @@ fn after(from: usize, places: usize, count: usize) -> Option<usize>
 /// Want of memory alone; the leg is handed back.
 #[tactic(auto, unfolding(crate::specs::Joining::come))]
 fn open(
-    alloc: Global,
-    setting: &Setting<'_>,
-    now: Moment,
+    step: &Step<'_>,
     number: RoomNo,
-    leg: Released,
-    account: Option<Account>,
+    entrant: Entrant,
     key: TKey,
     invite: &Hearing,
     effects: &mut Effects,
 ) -> Result<Room, Released>
-    requires unmetered { (released_leg leg).meter ≡ None }
+    requires unmetered { (released_leg entrant.leg).meter ≡ None }
     requires audio { offers_audio invite.now.heard.body ≡ true }
-    ensures room { IfOk result (λ room. room ≡ (opened setting.now now leg account key invite.now number effects.old).room) }
-    ensures effects { OnOk result (effects.new ≡ (opened setting.now now leg account key invite.now number effects.old).effects) }
-    ensures handed_back { IfErr result (λ l. l ≡ leg) }
+    ensures room { IfOk result (λ room. room
+        ≡ (opened step.now.setting step.now.at entrant.leg entrant.account key invite.now number effects.old).room) }
+    ensures effects { OnOk result (effects.new
+        ≡ (opened step.now.setting step.now.at entrant.leg entrant.account key invite.now number effects.old).effects) }
+    ensures handed_back { IfErr result (λ l. l ≡ entrant.leg) }
 {
-    let mut room = Room::new(alloc, number);
-    match room.come(alloc, setting, now, leg, account, key, invite, effects) {
+    let mut room = Room::new(step.alloc, number);
+    match room.come(step, entrant, key, invite, effects) {
         Ok(()) => Ok(room),
         Err(leg) => {
-            give_up_room(room, now);
+            give_up_room(room, step.at);
             Err(leg)
         }
     }
@@ -198,37 +198,33 @@ impl LiveRooms {
     /// Want of memory alone, for the room or for its number: 2^64 - 1 are opened in all; the leg is handed back.
     pub fn open(
         &mut self,
-        alloc: Global,
-        setting: &Setting<'_>,
-        now: Moment,
-        leg: Released,
-        account: Option<Account>,
+        step: &Step<'_>,
+        entrant: Entrant,
         key: TKey,
         invite: &Hearing,
         effects: &mut Effects,
     ) -> Result<RoomNo, Released>
-        requires unmetered { (released_leg leg).meter ≡ None }
+        requires unmetered { (released_leg entrant.leg).meter ≡ None }
         requires audio { offers_audio invite.now.heard.body ≡ true }
         ensures number { IfOk result (λ number. number.0 ≡ next_number self.old.opened) }
         ensures live { OnOk result (self.new ≡ record {
-          items = self.old.items ++ (opened setting.now now leg account key invite.now (record { 0 = next_number self.old.opened }) effects.old).room ∷ [];
+          items = self.old.items ++ (opened step.now.setting step.now.at entrant.leg entrant.account key invite.now
+              (record { 0 = next_number self.old.opened }) effects.old).room ∷ [];
           opened = next_number self.old.opened;
         }) }
         ensures effects { OnOk result (effects.new
-            ≡ (opened setting.now now leg account key invite.now (record { 0 = next_number self.old.opened }) effects.old).effects) }
+            ≡ (opened step.now.setting step.now.at entrant.leg entrant.account key invite.now (record { 0 = next_number self.old.opened }) effects.old).effects) }
         ensures refused { OnErr result (self.new ≡ self.old) }
-        ensures handed_back { IfErr result (λ l. l ≡ leg) }
+        ensures handed_back { IfErr result (λ l. l ≡ entrant.leg) }
     {
         if self.opened == u64::MAX {
-            return Err(leg);
+            return Err(entrant.into_leg());
         }
         if self.rooms.reserve(1).is_err() {
-            return Err(leg);
+            return Err(entrant.into_leg());
         }
         let number = RoomNo(self.opened.saturating_add(1));
-        match open(
-            alloc, setting, now, number, leg, account, key, invite, effects,
-        ) {
+        match open(step, number, entrant, key, invite, effects) {
             Err(leg) => Err(leg),
             Ok(room) => {
                 put_room(&mut self.index, &room, true);
@@ -275,7 +271,8 @@ impl LiveRooms {
     /// Leaves a seat of the room at this place.
     pub fn leave_at(&mut self, place: usize, seat: u64, now: Moment) -> Option<Row>
         requires { place < length self.old.items }
-        ensures live { self.new ≡ record self.old { items = room_left seat place (slice_get self.old.items place) self.old.items } }
+        ensures live { self.new
+            ≡ record self.old { items = room_left seat place (slice_get self.old.items place) self.old.items } }
         ensures row { result ≡ row_in_room now seat (slice_get self.old.items place) }
     {
         let room = &mut self.rooms[place];

@@ -2,21 +2,23 @@
 ghost use Rattle.std.specs.Prelude.{◌≡◌, ◌<◌, ℕ, List, OnOk, Some, length, position, slice_get};
 ghost use Rattle.mmtel_desk.specs.Loose.{is_of};
 ghost use Rattle.mmtel_focus.specs.Lent.{lent};
-ghost use Rattle.mmtel_focus.specs.Rooms.{Room};
+ghost use Rattle.mmtel_focus.specs.Rooms.{in_step, Room};
 ghost use Rattle.mmtel_focus.specs.Seats.{at_place, at_seat};
 ghost use Rattle.mmtel_desk.specs.Invites.{invite_answered, invite_silent};
 ghost use Rattle.mmtel_focus.specs.Table.{answered_at, answered_by, answered_loose, asks, heard_by, heard_in, heard_of, hears};
-ghost use Rattle.mmtel_focus.specs.Table.{is_asked, is_key, is_loose_key, silenced_at, silenced_by, stepped_at, stepped_in, taken, without};
+ghost use Rattle.mmtel_focus.specs.Table.{is_asked, is_loose_key, silenced_at, silenced_by, stepped_at, stepped_in, taken, without};
 
 use crate::live::{LiveRooms, give_up_room};
 use crate::rooms::Room;
 use crate::signals::{LentSignal, RoomSignal};
 use mmtel_answers::Hearing;
-use mmtel_desk::{Loose, Mark, file, invite_answered, invite_silent, loose_at, told};
+use mmtel_desk::{
+    Loose, Mark, drop_at, file, invite_answered, invite_silent, loose_at, loose_of, told,
+};
 use mmtel_scan::{List, NoMemory};
-use mmtel_seats::{self as seats, Effects, Seat, Setting};
+use mmtel_seats::{self as seats, Effects, Seat, Step};
 use mmtel_transaction::TKey;
-use mmtel_types::{Addr, Moment, RoomNo};
+use mmtel_types::{Addr, RoomNo};
 use std::alloc::Global;
 
 /// The place of the seat of a room to which the INVITE of this branch went.
@@ -38,47 +40,47 @@ impl Room {
     #[tactic(auto, unfolding(crate::specs::Table::hears))]
     fn hear_at(
         &mut self,
-        alloc: Global,
-        setting: &Setting<'_>,
-        now: Moment,
+        step: &Step<'_>,
         signal: LentSignal<'_>,
         place: usize,
         effects: &mut Effects,
     ) -> Result<(), NoMemory>
         requires { place < length self.old.seats }
-        ensures room { OnOk result (self.new ≡ (at_seat (hears setting.now now (lent signal.entry)) place (record { room = self.old; effects = effects.old })).room) }
-        ensures effects { OnOk result (effects.new ≡ (at_seat (hears setting.now now (lent signal.entry)) place (record { room = self.old; effects = effects.old })).effects) }
+        ensures room { OnOk result (self.new
+            ≡ (at_seat (hears step.now.setting step.now.at (lent signal.entry)) place (in_step self.old effects.old)).room) }
+        ensures effects { OnOk result (effects.new
+            ≡ (at_seat (hears step.now.setting step.now.at (lent signal.entry)) place (in_step self.old effects.old)).effects) }
     {
         match signal {
             LentSignal::Request { key, request } => {
-                self.hear_request(alloc, setting, now, key, request, place, effects)
+                self.hear_request(step, key, request, place, effects)
             }
-            LentSignal::Ack { ack } => self.hear_ack(alloc, ack, place, effects),
+            LentSignal::Ack { ack } => self.hear_ack(ack, place, effects),
             LentSignal::Answer { key, response } => {
-                self.hear_answer(alloc, setting, now, key, response, place, effects)
+                self.hear_answer(step, key, response, place, effects)
             }
-            LentSignal::Silent => self.hear_silence(alloc, setting, now, place, effects),
-            LentSignal::Due { what } => self.hear_due(alloc, setting, now, what, place, effects),
+            LentSignal::Silent => self.hear_silence(step, place, effects),
+            LentSignal::Due { what } => self.hear_due(step, what, place, effects),
         }
     }
 
     /// The seat at a place hears, if there is one.
     fn hear(
         &mut self,
-        alloc: Global,
-        setting: &Setting<'_>,
-        now: Moment,
+        step: &Step<'_>,
         signal: LentSignal<'_>,
         place: Option<usize>,
         effects: &mut Effects,
     ) -> Result<(), NoMemory>
         requires { (n : ℕ) → place ≡ Some n → n < length self.old.seats }
-        ensures room { OnOk result (self.new ≡ (at_place (hears setting.now now (lent signal.entry)) place (record { room = self.old; effects = effects.old })).room) }
-        ensures effects { OnOk result (effects.new ≡ (at_place (hears setting.now now (lent signal.entry)) place (record { room = self.old; effects = effects.old })).effects) }
+        ensures room { OnOk result (self.new
+            ≡ (at_place (hears step.now.setting step.now.at (lent signal.entry)) place (in_step self.old effects.old)).room) }
+        ensures effects { OnOk result (effects.new
+            ≡ (at_place (hears step.now.setting step.now.at (lent signal.entry)) place (in_step self.old effects.old)).effects) }
     {
         match place {
             None => Ok(()),
-            Some(place) => self.hear_at(alloc, setting, now, signal, place, effects),
+            Some(place) => self.hear_at(step, signal, place, effects),
         }
     }
 }
@@ -87,32 +89,33 @@ impl Room {
 #[tactic(auto, using(crate::proofs::Keeping::put_twice))]
 fn step_at(
     live: &mut LiveRooms,
-    alloc: Global,
-    setting: &Setting<'_>,
-    now: Moment,
+    step: &Step<'_>,
     signal: LentSignal<'_>,
     place: usize,
     seat: Option<usize>,
     effects: &mut Effects,
 ) -> Result<(), NoMemory>
     requires place { place < length live.old.items }
-    requires seat { (room : Room) → slice_get live.old.items place ≡ Some room → (n : ℕ) → seat ≡ Some n → n < length room.seats }
+    requires seat { (room : Room) → slice_get live.old.items place ≡ Some room →
+        (n : ℕ) → seat ≡ Some n → n < length room.seats }
     ensures live { OnOk result (live.new ≡ record live.old {
-      items = (stepped_at (at_place (hears setting.now now (lent signal.entry)) seat) place (slice_get live.old.items place) live.old.items effects.old).live;
+      items = (stepped_at (at_place (hears step.now.setting step.now.at (lent signal.entry)) seat)
+          place (slice_get live.old.items place) live.old.items effects.old).live;
     }) }
     ensures effects { OnOk result (effects.new
-        ≡ (stepped_at (at_place (hears setting.now now (lent signal.entry)) seat) place (slice_get live.old.items place) live.old.items effects.old).effects) }
+        ≡ (stepped_at (at_place (hears step.now.setting step.now.at (lent signal.entry)) seat)
+        place (slice_get live.old.items place) live.old.items effects.old).effects) }
 {
-    let mut room = live.take_out(alloc, place);
-    match room.hear(alloc, setting, now, signal, seat, effects) {
+    let mut room = live.take_out(step.alloc, place);
+    match room.hear(step, signal, seat, effects) {
         Err(error) => {
-            give_up_room(room, now);
+            give_up_room(room, step.at);
             Err(error)
         }
         Ok(()) => {
             live.put_back(place, room);
             if effects.closes {
-                give_up_room(live.remove(place), now);
+                give_up_room(live.remove(place), step.at);
             }
             Ok(())
         }
@@ -122,23 +125,23 @@ fn step_at(
 /// The seat of this number in the room of this number hears.
 fn hear_in(
     live: &mut LiveRooms,
-    alloc: Global,
-    setting: &Setting<'_>,
-    now: Moment,
+    step: &Step<'_>,
     room: RoomNo,
     seat: u64,
     signal: LentSignal<'_>,
     effects: &mut Effects,
 ) -> Result<(), NoMemory>
-    ensures live { OnOk result (live.new ≡ record live.old { items = (heard_in setting.now now room.0 seat (lent signal.entry) live.old.items effects.old).live }) }
-    ensures effects { OnOk result (effects.new ≡ (heard_in setting.now now room.0 seat (lent signal.entry) live.old.items effects.old).effects) }
+    ensures live { OnOk result (live.new
+        ≡ record live.old { items = (heard_in step.now.setting step.now.at room.0 seat (lent signal.entry) live.old.items effects.old).live }) }
+    ensures effects { OnOk result (effects.new
+        ≡ (heard_in step.now.setting step.now.at room.0 seat (lent signal.entry) live.old.items effects.old).effects) }
 {
     match live.place_of(room) {
         None => Ok(()),
         Some(place) => {
             let asked = &live.rooms()[place];
             let seat = seats::place_of(&asked.seats, seat);
-            step_at(live, alloc, setting, now, signal, place, seat, effects)
+            step_at(live, step, signal, place, seat, effects)
         }
     }
 }
@@ -162,22 +165,22 @@ fn asking_at(live: &LiveRooms, branch: &[u8]) -> Option<usize>
 /// The seat to which the INVITE of this branch went hears.
 fn hear_of(
     live: &mut LiveRooms,
-    alloc: Global,
-    setting: &Setting<'_>,
-    now: Moment,
+    step: &Step<'_>,
     branch: &[u8],
     signal: LentSignal<'_>,
     effects: &mut Effects,
 ) -> Result<(), NoMemory>
-    ensures live { OnOk result (live.new ≡ record live.old { items = (heard_of setting.now now branch.now (lent signal.entry) live.old.items effects.old).live }) }
-    ensures effects { OnOk result (effects.new ≡ (heard_of setting.now now branch.now (lent signal.entry) live.old.items effects.old).effects) }
+    ensures live { OnOk result (live.new
+        ≡ record live.old { items = (heard_of step.now.setting step.now.at branch.now (lent signal.entry) live.old.items effects.old).live }) }
+    ensures effects { OnOk result (effects.new
+        ≡ (heard_of step.now.setting step.now.at branch.now (lent signal.entry) live.old.items effects.old).effects) }
 {
     match asking_at(live, branch) {
         None => Ok(()),
         Some(place) => {
             let asking = &live.rooms()[place];
             let seat = asked_at(&asking.seats, branch);
-            step_at(live, alloc, setting, now, signal, place, seat, effects)
+            step_at(live, step, signal, place, seat, effects)
         }
     }
 }
@@ -188,16 +191,18 @@ fn hear_loose_at(
     alloc: Global,
     sip: Addr,
     key: TKey,
-    m: &Hearing,
+    response: &Hearing,
     place: usize,
     effects: &mut Effects,
 ) -> Result<(), NoMemory>
     requires { place < length loose.old }
-    ensures loose { OnOk result ((live : List Room) → loose.new ≡ (answered_loose sip key m.now place (slice_get loose.old place) live loose.old effects.old).loose) }
-    ensures effects { OnOk result ((live : List Room) → effects.new ≡ (answered_loose sip key m.now place (slice_get loose.old place) live loose.old effects.old).effects) }
+    ensures loose { OnOk result ((live : List Room) →
+        loose.new ≡ (answered_loose sip key response.now place (slice_get loose.old place) live loose.old effects.old).loose) }
+    ensures effects { OnOk result ((live : List Room) →
+        effects.new ≡ (answered_loose sip key response.now place (slice_get loose.old place) live loose.old effects.old).effects) }
 {
     let one = loose.remove(place);
-    match effects.desk.hear_loose(alloc, sip, key, one, m)? {
+    match effects.desk.hear_loose(alloc, sip, key, one, response)? {
         None => Ok(()),
         Some(left) => file(alloc, loose, left),
     }
@@ -207,27 +212,33 @@ fn hear_loose_at(
 fn hear_answer(
     live: &mut LiveRooms,
     loose: &mut List<Loose>,
-    alloc: Global,
-    setting: &Setting<'_>,
-    now: Moment,
+    step: &Step<'_>,
     key: TKey,
-    m: &Hearing,
+    response: &Hearing,
     branch: &[u8],
     effects: &mut Effects,
 ) -> Result<(), NoMemory>
     ensures live { OnOk result (live.new ≡ record live.old {
-      items = (answered_at setting.now now key m.now branch.now (position (is_of branch.now) loose.old) live.old.items loose.old effects.old).live;
+      items = (answered_at step.now.setting step.now.at key response.now branch.now (position (is_of branch.now) loose.old) live.old.items loose.old effects.old).live;
     }) }
     ensures loose { OnOk result (loose.new
-        ≡ (answered_at setting.now now key m.now branch.now (position (is_of branch.now) loose.old) live.old.items loose.old effects.old).loose) }
+        ≡ (answered_at step.now.setting step.now.at key response.now branch.now (position (is_of branch.now) loose.old) live.old.items loose.old effects.old).loose) }
     ensures effects { OnOk result (effects.new
-        ≡ (answered_at setting.now now key m.now branch.now (position (is_of branch.now) loose.old) live.old.items loose.old effects.old).effects) }
+        ≡ (answered_at step.now.setting step.now.at key response.now branch.now (position (is_of branch.now) loose.old) live.old.items loose.old effects.old).effects) }
 {
     match loose_at(loose.items(), branch) {
-        Some(place) => hear_loose_at(loose, alloc, setting.sip, key, m, place, effects),
+        Some(place) => hear_loose_at(
+            loose,
+            step.alloc,
+            step.setting.sip,
+            key,
+            response,
+            place,
+            effects,
+        ),
         None => {
-            let signal = LentSignal::Answer { key, response: m };
-            hear_of(live, alloc, setting, now, branch, signal, effects)
+            let signal = LentSignal::Answer { key, response };
+            hear_of(live, step, branch, signal, effects)
         }
     }
 }
@@ -236,32 +247,24 @@ fn hear_answer(
 fn hear_silence(
     live: &mut LiveRooms,
     loose: &mut List<Loose>,
-    alloc: Global,
-    setting: &Setting<'_>,
-    now: Moment,
+    step: &Step<'_>,
     branch: &[u8],
     effects: &mut Effects,
 ) -> Result<(), NoMemory>
     ensures live { OnOk result (live.new ≡ record live.old {
-      items = (silenced_at setting.now now branch.now (position (is_of branch.now) loose.old) live.old.items loose.old effects.old).live;
+      items = (silenced_at step.now.setting step.now.at branch.now (position (is_of branch.now) loose.old) live.old.items loose.old effects.old).live;
     }) }
-    ensures loose { OnOk result (loose.new ≡ (silenced_at setting.now now branch.now (position (is_of branch.now) loose.old) live.old.items loose.old effects.old).loose) }
-    ensures effects { OnOk result (effects.new ≡ (silenced_at setting.now now branch.now (position (is_of branch.now) loose.old) live.old.items loose.old effects.old).effects) }
+    ensures loose { OnOk result (loose.new
+        ≡ (silenced_at step.now.setting step.now.at branch.now (position (is_of branch.now) loose.old) live.old.items loose.old effects.old).loose) }
+    ensures effects { OnOk result (effects.new
+        ≡ (silenced_at step.now.setting step.now.at branch.now (position (is_of branch.now) loose.old) live.old.items loose.old effects.old).effects) }
 {
     match loose_at(loose.items(), branch) {
         Some(place) => {
             drop(loose.remove(place));
             Ok(())
         }
-        None => hear_of(
-            live,
-            alloc,
-            setting,
-            now,
-            branch,
-            LentSignal::Silent,
-            effects,
-        ),
+        None => hear_of(live, step, branch, LentSignal::Silent, effects),
     }
 }
 
@@ -269,24 +272,24 @@ fn hear_silence(
 fn hear_response(
     live: &mut LiveRooms,
     loose: &mut List<Loose>,
-    alloc: Global,
-    setting: &Setting<'_>,
-    now: Moment,
+    step: &Step<'_>,
     key: TKey,
-    m: &Hearing,
+    response: &Hearing,
     effects: &mut Effects,
 ) -> Result<(), NoMemory>
     ensures live { OnOk result (live.new ≡ record live.old {
-      items = (answered_by setting.now now key m.now (invite_answered m.now) live.old.items loose.old effects.old).live;
+      items = (answered_by step.now.setting step.now.at key response.now (invite_answered response.now) live.old.items loose.old effects.old).live;
     }) }
-    ensures loose { OnOk result (loose.new ≡ (answered_by setting.now now key m.now (invite_answered m.now) live.old.items loose.old effects.old).loose) }
-    ensures effects { OnOk result (effects.new ≡ (answered_by setting.now now key m.now (invite_answered m.now) live.old.items loose.old effects.old).effects) }
+    ensures loose { OnOk result (loose.new
+        ≡ (answered_by step.now.setting step.now.at key response.now (invite_answered response.now) live.old.items loose.old effects.old).loose) }
+    ensures effects { OnOk result (effects.new
+        ≡ (answered_by step.now.setting step.now.at key response.now (invite_answered response.now) live.old.items loose.old effects.old).effects) }
 {
-    match invite_answered(alloc, m)? {
+    match invite_answered(step.alloc, response)? {
         None => Ok(()),
         Some(branch) => {
             let branch = branch.bytes();
-            hear_answer(live, loose, alloc, setting, now, key, m, branch, effects)
+            hear_answer(live, loose, step, key, response, branch, effects)
         }
     }
 }
@@ -295,51 +298,22 @@ fn hear_response(
 fn hear_silent(
     live: &mut LiveRooms,
     loose: &mut List<Loose>,
-    alloc: Global,
-    setting: &Setting<'_>,
-    now: Moment,
+    step: &Step<'_>,
     branch: &[u8],
     method: &[u8],
     effects: &mut Effects,
 ) -> Result<(), NoMemory>
     ensures live { OnOk result (live.new ≡ record live.old {
-      items = (silenced_by setting.now now (invite_silent branch.now method.now) live.old.items loose.old effects.old).live;
+      items = (silenced_by step.now.setting step.now.at (invite_silent branch.now method.now) live.old.items loose.old effects.old).live;
     }) }
-    ensures loose { OnOk result (loose.new ≡ (silenced_by setting.now now (invite_silent branch.now method.now) live.old.items loose.old effects.old).loose) }
+    ensures loose { OnOk result (loose.new
+        ≡ (silenced_by step.now.setting step.now.at (invite_silent branch.now method.now) live.old.items loose.old effects.old).loose) }
     ensures effects { OnOk result (effects.new
-        ≡ (silenced_by setting.now now (invite_silent branch.now method.now) live.old.items loose.old effects.old).effects) }
+        ≡ (silenced_by step.now.setting step.now.at (invite_silent branch.now method.now) live.old.items loose.old effects.old).effects) }
 {
     match invite_silent(branch, method) {
         None => Ok(()),
-        Some(branch) => hear_silence(live, loose, alloc, setting, now, branch, effects),
-    }
-}
-
-/// Whether it is an INVITE of this client transaction.
-fn is_key(key: TKey, other: Option<TKey>) -> bool
-    ensures { result ≡ is_key key other }
-{
-    match other {
-        None => false,
-        Some(other) => other.0 == key.0,
-    }
-}
-
-/// The place of the one of this client transaction.
-fn loose_of(loose: &[Loose], key: TKey) -> Option<usize>
-    ensures { result ≡ position (is_loose_key key) loose.now }
-{
-    loose.iter().position(|one| is_key(key, one.invitation.key))
-}
-
-/// The items without the one at a place.
-fn without<T: Drop>(items: &mut List<T>, place: Option<usize>)
-    requires { (n : ℕ) → place ≡ Some n → n < length items.old }
-    ensures { items.new ≡ without place items.old }
-{
-    match place {
-        None => {}
-        Some(place) => drop(items.remove(place)),
+        Some(branch) => hear_silence(live, loose, step, branch, effects),
     }
 }
 
@@ -348,7 +322,7 @@ fn drop_ended(loose: &mut List<Loose>, key: TKey)
     ensures { loose.new ≡ without (position (is_loose_key key) loose.old) loose.old }
 {
     let place = loose_of(loose.items(), key);
-    without(loose, place);
+    drop_at(loose, place);
 }
 
 /// The rooms once they heard a signal, and the INVITEs that were left.
@@ -356,15 +330,16 @@ fn drop_ended(loose: &mut List<Loose>, key: TKey)
 pub fn take(
     live: &mut LiveRooms,
     loose: &mut List<Loose>,
-    alloc: Global,
-    setting: &Setting<'_>,
-    now: Moment,
+    step: &Step<'_>,
     signal: &RoomSignal,
     effects: &mut Effects,
 ) -> Result<(), NoMemory>
-    ensures live { OnOk result (live.new ≡ record live.old { items = (taken setting.now now signal.now live.old.items loose.old effects.old).live }) }
-    ensures loose { OnOk result (loose.new ≡ (taken setting.now now signal.now live.old.items loose.old effects.old).loose) }
-    ensures effects { OnOk result (effects.new ≡ (taken setting.now now signal.now live.old.items loose.old effects.old).effects) }
+    ensures live { OnOk result (live.new
+        ≡ record live.old { items = (taken step.now.setting step.now.at signal.now live.old.items loose.old effects.old).live }) }
+    ensures loose { OnOk result (loose.new
+        ≡ (taken step.now.setting step.now.at signal.now live.old.items loose.old effects.old).loose) }
+    ensures effects { OnOk result (effects.new
+        ≡ (taken step.now.setting step.now.at signal.now live.old.items loose.old effects.old).effects) }
 {
     match signal {
         RoomSignal::Request {
@@ -374,23 +349,23 @@ pub fn take(
             request,
         } => {
             let signal = LentSignal::Request { key: *key, request };
-            hear_in(live, alloc, setting, now, *room, *seat, signal, effects)
+            hear_in(live, step, *room, *seat, signal, effects)
         }
         RoomSignal::Ack { room, seat, ack } => {
             let signal = LentSignal::Ack { ack };
-            hear_in(live, alloc, setting, now, *room, *seat, signal, effects)
+            hear_in(live, step, *room, *seat, signal, effects)
         }
         RoomSignal::Answer { key, response } => hear_response(
-            live, loose, alloc, setting, now, *key, response, effects,
+            live, loose, step, *key, response, effects,
         ),
         RoomSignal::Silent { branch, method } => {
             let branch = branch.bytes();
             let method = method.bytes();
-            hear_silent(live, loose, alloc, setting, now, branch, method, effects)
+            hear_silent(live, loose, step, branch, method, effects)
         }
         RoomSignal::Due { room, seat, what } => {
             let signal = LentSignal::Due { what: *what };
-            hear_in(live, alloc, setting, now, *room, *seat, signal, effects)
+            hear_in(live, step, *room, *seat, signal, effects)
         }
         RoomSignal::Over { key } => {
             drop_ended(loose, *key);

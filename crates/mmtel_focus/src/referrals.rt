@@ -2,18 +2,14 @@
 ghost use Rattle.std.specs.Prelude.{◌≡◌, IfOk, None, Some, find};
 ghost use Rattle.std.specs.Option.{option_copied, option_map};
 ghost use Rattle.mmtel_lex.specs.UriPlaces.{behind, is_named, parts};
-ghost use Rattle.mmtel_lex.specs.Reading.{uri_of};
-ghost use Rattle.mmtel_trust.specs.Asserted.{or_no_uri, uri_in};
 ghost use Rattle.mmtel_focus.specs.Referrals.{asks_invite, is_invite, is_method, referral_in, referral_to, replaces_at, replaces_by, replaces_in, replaces_of, value_named};
 
 use mmtel_answers::Hearing;
-use mmtel_lex::{
-    LexFault, Param, Uri, UriFault, cut, find_named, first_part, percent_decoded, read_name_addr,
-    read_uri,
-};
+use mmtel_lex::{Param, Uri, cut, find_named, first_part, percent_decoded};
 use mmtel_message::line_texts;
 use mmtel_scan::{NoMemory, Text};
 use mmtel_seats::is_method;
+use mmtel_trust::uri_in;
 use std::alloc::Global;
 
 /// The dialog that is to be replaced (RFC 3891 §3), its escapes read.
@@ -131,28 +127,6 @@ fn asks_invite(uri: &Uri) -> bool
     match uri {
         Uri::Sip { params, .. } => is_invite(method_of(params.items())),
         Uri::Tel { params, .. } => is_invite(method_of(params.items())),
-    }
-}
-
-fn uri_of(alloc: Global, bytes: &[u8]) -> Result<Option<Uri>, NoMemory>
-    ensures { IfOk result (λ u. u ≡ or_no_uri (uri_of bytes.now)) }
-{
-    match read_uri(alloc, bytes) {
-        Ok(uri) => Ok(Some(uri)),
-        Err(UriFault::Malformed) => Ok(None),
-        Err(UriFault::Scheme) => Ok(None),
-        Err(UriFault::NoMemory) => Err(NoMemory),
-    }
-}
-
-/// The URI of a name-addr; None where it cannot be read, or is of a scheme that the server does not know.
-fn uri_in(alloc: Global, value: &[u8]) -> Result<Option<Uri>, NoMemory>
-    ensures { IfOk result (λ u. u ≡ uri_in value.now) }
-{
-    match read_name_addr(alloc, value) {
-        Ok(name) => uri_of(alloc, name.uri.bytes()),
-        Err(LexFault::Malformed) => Ok(None),
-        Err(LexFault::NoMemory) => Err(NoMemory),
     }
 }
 

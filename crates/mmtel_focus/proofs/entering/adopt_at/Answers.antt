@@ -13,6 +13,6 @@ put_back-requires c =
     let x = c.take_out-room.result in
     let y = c.adopt-adopted.new.self in
     let s : Step = record { room = x; effects = c.args.effects.now } in
-    let after = adopted c.args.setting.now c.args.now c.args.leg c.args.account c.args.by s in
-    let same = same_number c.adopt-adopted.result y x after.room c.adopt-adopted.ensures.room c.adopt-adopted.ensures.refused (adopted_keeps c.args.setting.now c.args.now c.args.leg c.args.account c.args.by s) in
+    let after = adopted c.args.step.now.setting c.args.step.now.at c.args.entrant.leg c.args.entrant.account c.args.by s in
+    let same = same_number c.adopt-adopted.result y x after.room c.adopt-adopted.ensures.room c.adopt-adopted.ensures.refused (adopted_keeps c.args.step.now.setting c.args.step.now.at c.args.entrant.leg c.args.entrant.account c.args.by s) in
     subst (λ (t : Kept). slice_get t.items k ≡ Some (new_room y.number)) (sym c.take_out-room.ensures.live) (waits c.args.live.now.items k x y c.take_out-room.ensures.room same)

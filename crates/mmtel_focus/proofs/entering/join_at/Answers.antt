@@ -13,6 +13,6 @@ put_back-requires c =
     let x = c.take_out-room.result in
     let y = c.come-come.new.self in
     let s : Step = record { room = x; effects = c.args.effects.now } in
-    let after = come c.args.setting.now c.args.now c.args.leg c.args.account c.args.key c.args.invite.now s in
-    let same = same_number c.come-come.result y x after.room c.come-come.ensures.room c.come-come.ensures.refused (come_keeps c.args.setting.now c.args.now c.args.leg c.args.account c.args.key c.args.invite.now s) in
+    let after = come c.args.step.now.setting c.args.step.now.at c.args.entrant.leg c.args.entrant.account c.args.key c.args.invite.now s in
+    let same = same_number c.come-come.result y x after.room c.come-come.ensures.room c.come-come.ensures.refused (come_keeps c.args.step.now.setting c.args.step.now.at c.args.entrant.leg c.args.entrant.account c.args.key c.args.invite.now s) in
     subst (λ (t : Kept). slice_get t.items k ≡ Some (new_room y.number)) (sym c.take_out-room.ensures.live) (waits c.args.live.now.items k x y c.take_out-room.ensures.room same)

@@ -12,5 +12,5 @@ put_back-requires c =
     let k = c.args.place in
     let x = c.take_out-room.result in
     let y = c.tell.new.self in
-    let same = ap (λ (r : Room). r.number) c.in-Ok.ensures.room ∙ told_to_keeps c.args.setting.now 0 c.args.goes_on c.args.line.now c.args.seat (record { room = x; effects = c.args.effects.now }) in
+    let same = ap (λ (r : Room). r.number) c.in-Ok.ensures.room ∙ told_to_keeps c.args.step.now.setting 0 c.args.goes_on c.args.line.now c.args.seat (record { room = x; effects = c.args.effects.now }) in
     subst (λ (t : Kept). slice_get t.items k ≡ Some (new_room y.number)) (sym c.take_out-room.ensures.live) (waits c.args.live.now.items k x y c.take_out-room.ensures.room same)

@@ -13,5 +13,5 @@ put_back-requires c =
     let k = c.args.place in
     let x = c.take_out-room.result in
     let y = c.hear.new.self in
-    let same = ap (λ (r : Room). r.number) c.in-Ok.ensures.room ∙ signal_keeps c.args.setting.now c.args.now (lent c.args.signal) c.args.seat (record { room = x; effects = c.args.effects.now }) in
+    let same = ap (λ (r : Room). r.number) c.in-Ok.ensures.room ∙ signal_keeps c.args.step.now.setting c.args.step.now.at (lent c.args.signal) c.args.seat (record { room = x; effects = c.args.effects.now }) in
     subst (λ (t : Kept). slice_get t.items k ≡ Some (new_room y.number)) (sym c.take_out-room.ensures.live) (waits c.args.live.now.items k x y c.take_out-room.ensures.room same)

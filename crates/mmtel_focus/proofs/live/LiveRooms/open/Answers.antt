@@ -14,7 +14,7 @@ invariant_of-self-in-Ok c =
     let n = c.saturating_add.result in
     let numbered : number_of x ≡ n =
     ap number_of c.in-Ok.ensures.room
-    ∙ ap (λ (r : RoomNo). r.0) (come_keeps c.args.setting.now c.args.now c.args.leg c.args.account c.args.key c.args.invite.now (record { room = new_room (record { 0 = n }); effects = c.args.effects.now })) in
+    ∙ ap (λ (r : RoomNo). r.0) (come_keeps c.args.step.now.setting c.args.step.now.at c.args.entrant.leg c.args.entrant.account c.args.key c.args.invite.now (record { room = new_room (record { 0 = n }); effects = c.args.effects.now })) in
     let more : n ≡ opened + 1 = let f = c.if-self.false in let g = c.saturating_add.ensures in omega (arith, c.self.ranges.1.0.1, f, g) in
     subst (λ (m : ℕ). AreKept c.push_reserved.new.self.items m c.put_room.new.index) numbered
     (subst (λ (l : List Room). AreKept l (number_of x) c.put_room.new.index) (sym c.push_reserved.ensures.items)

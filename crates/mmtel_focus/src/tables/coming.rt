@@ -1,0 +1,216 @@
+//! How a leg comes to the rooms: a room is opened for it, or it has a seat in one.
+ghost use Rattle.std.specs.Prelude.{◌≡◌, ◌<◌, ◌∷◌, ℕ, false, true, length, List, Err, IfErr, IfOk, IsSome, None, Ok, OnErr, OnOk, Some};
+ghost use Rattle.mmtel_leg.specs.Releases.{released_leg};
+ghost use Rattle.mmtel_scan.specs.Numbers.{next_number};
+ghost use Rattle.mmtel_sdp.specs.Offers.{offers_audio};
+ghost use Rattle.mmtel_trust.specs.Peers.{Peers};
+ghost use Rattle.mmtel_trust.specs.declared.accounts.AccountIdentity.{AccountIdentity};
+ghost use Rattle.mmtel_focus.specs.Histories.{Deed, Opens, Stands, brought_after, coming, entering, is_offer, site_of};
+ghost use Rattle.mmtel_focus.specs.Joining.{is_same_side};
+ghost use Rattle.mmtel_focus.specs.Private.{after, arriving, brought, caller_in};
+ghost use Rattle.mmtel_focus.specs.Table.{access, has_no_room};
+ghost use Rattle.mmtel_focus.specs.declared.faults.RoomFault.TheVariants as fault;
+
+use super::{Rooms, no_tokens};
+use crate::entering::{access, adopt_at, join_at};
+use crate::faults::RoomFault;
+use crate::joining::Entrant;
+use crate::signals::Joining;
+use mmtel_answers::Hearing;
+use mmtel_leg::{CallerLeg, Released, Standing};
+use mmtel_seats::{Effects, Step};
+use mmtel_transaction::{Emits, TKey, Tokens};
+use mmtel_trust::{Accounts, PeerTable};
+use mmtel_types::limits::ROOMS;
+use mmtel_types::{Account, Moment, RoomNo};
+use std::alloc::Global;
+use std::mem;
+
+/// A caller's leg.
+fn callers(leg: Released) -> CallerLeg<Standing>
+    requires { IsSome (caller_in leg) }
+    ensures { caller_in leg ≡ Some result }
+{
+    match leg {
+        Released::Caller(leg) => leg,
+        _ => unreachable!(),
+    }
+}
+
+impl Rooms {
+    /// Opens a room for whoever comes by an INVITE that offers audio.
+    ///
+    /// # Errors
+    ///
+    /// Want of memory alone; the leg is handed back, and the rooms are as before.
+    fn begin(
+        &mut self,
+        step: &Step<'_>,
+        entrant: Entrant,
+        key: TKey,
+        invite: &Hearing,
+    ) -> Result<(RoomNo, Emits), Released>
+        requires unmetered { (released_leg entrant.leg).meter ≡ None }
+        requires audio { offers_audio invite.now.heard.body ≡ true }
+        ensures done { OnOk result (self.new
+            ≡ after step.now.setting (arriving step.now.at entrant.leg entrant.account key invite.now) self.old) }
+        ensures emits { IfOk result (λ made. made.1
+            ≡ (brought step.now.setting (arriving step.now.at entrant.leg entrant.account key invite.now) self.old).desk.out) }
+        ensures number { IfOk result (λ made. made.0.0 ≡ next_number self.old.table.opened) }
+        ensures refused { OnErr result (self.new ≡ self.old) }
+        ensures handed_back { IfErr result (λ l. l ≡ entrant.leg) }
+    {
+        let mut effects = Effects::new(no_tokens());
+        match self.live.open(step, entrant, key, invite, &mut effects) {
+            Err(leg) => Err(leg),
+            Ok(number) => Ok((number, effects.into_emits())),
+        }
+    }
+
+    /// Opens a room for a caller whose INVITE offers audio, who has its first seat (RFC 4579 §5.4). No token is drawn.
+    ///
+    /// # Errors
+    ///
+    /// `NoRoom` exactly where 1,024 rooms are live, and `NoMemory` for want of memory. The leg is handed back, and the rooms are as before.
+    pub fn create<'a>(
+        &mut self,
+        alloc: Global,
+        leg: CallerLeg<Standing>,
+        account: Option<Account>,
+        key: TKey,
+        invite: &Hearing,
+        peers: &'a PeerTable,
+        accounts: &'a Accounts,
+        now: Moment,
+    ) -> Result<(RoomNo, Emits), (CallerLeg<Standing>, RoomFault)>
+        requires unmetered { leg.meter ≡ None }
+        requires audio { offers_audio invite.now.heard.body ≡ true }
+        ensures done { OnOk result ((deeds : List Deed) → Stands peers.now accounts.now self.old deeds →
+            Stands peers.now accounts.now self.new (Opens (coming now leg account key invite.now) ∷ deeds)) }
+        ensures emits { IfOk result (λ made. (deeds : List Deed) → Stands peers.now accounts.now self.old deeds →
+            made.1 ≡ (brought_after (site_of self.old peers.now accounts.now) deeds (Opens (coming now leg account key invite.now))).desk.out) }
+        ensures number { IfOk result (λ made. made.0.0 ≡ next_number self.old.table.opened) }
+        ensures site { OnOk result ((peers : Peers) (accounts : List AccountIdentity) →
+            site_of self.new peers accounts ≡ site_of self.old peers accounts) }
+        ensures refused { OnErr result (self.new ≡ self.old) }
+        ensures handed_back { IfErr result (λ e. e.0 ≡ leg) }
+        ensures no_room { self.old.has_failed ≡ false → has_no_room self.old.table.live ≡ true →
+            result ≡ Err (leg, fault.NoRoom) }
+        ensures memory { self.old.has_failed ≡ false → has_no_room self.old.table.live ≡ false →
+            IfErr result (λ e. e.1 ≡ fault.NoMemory) }
+        ensures stuck { self.old.has_failed ≡ true → result ≡ Err (leg, fault.NoMemory) }
+    {
+        if self.has_failed {
+            return Err((leg, RoomFault::NoMemory));
+        }
+        if self.live.rooms().len() >= ROOMS {
+            return Err((leg, RoomFault::NoRoom));
+        }
+        let step = self.step(alloc, peers, accounts, now);
+        let leg = Released::Caller(leg);
+        match self.begin(&step, Entrant { leg, account }, key, invite) {
+            Ok(made) => Ok(made),
+            Err(leg) => Err((callers(leg), RoomFault::NoMemory)),
+        }
+    }
+
+    /// A leg enters the room at this place.
+    ///
+    /// # Errors
+    ///
+    /// Want of memory alone; a leg of the same side without a meter is handed back.
+    #[tactic(auto, using(crate::proofs::Places::and_nothing), unfolding(crate::specs::Table::joined, crate::specs::Table::referred))]
+    fn enter(
+        &mut self,
+        step: &Step<'_>,
+        room: RoomNo,
+        place: usize,
+        entrant: Entrant,
+        how: Joining<'_>,
+        tokens: &mut Tokens,
+    ) -> Result<Emits, Released>
+        requires unmetered { (released_leg entrant.leg).meter ≡ None }
+        requires audio { is_offer how ≡ true }
+        requires place { access room.0 self.old.table.live ≡ Ok place }
+        requires within { place < length self.old.table.live }
+        ensures done { OnOk result (self.new
+            ≡ after step.now.setting (entering room.0 step.now.at tokens.old entrant.leg entrant.account how.entry) self.old) }
+        ensures emits { IfOk result (λ out. out
+            ≡ (brought step.now.setting (entering room.0 step.now.at tokens.old entrant.leg entrant.account how.entry) self.old).desk.out) }
+        ensures tokens { OnOk result (tokens.new
+            ≡ (brought step.now.setting (entering room.0 step.now.at tokens.old entrant.leg entrant.account how.entry) self.old).desk.tokens) }
+        ensures meter { IfErr result (λ l. (released_leg l).meter ≡ None) }
+        ensures side { IfErr result (λ l. is_same_side l entrant.leg ≡ true) }
+    {
+        let live = &mut self.live;
+        let mut effects = Effects::new(mem::replace(tokens, no_tokens()));
+        let entered = match how {
+            Joining::Invited { key, invite } => {
+                join_at(live, step, place, entrant, key, invite, &mut effects)
+            }
+            Joining::Referred { by } => adopt_at(live, step, place, entrant, by, &mut effects),
+        };
+        mem::swap(tokens, &mut effects.desk.tokens);
+        entered?;
+        Ok(effects.into_emits())
+    }
+
+    /// Gives a leg a seat in a room: one that comes by an INVITE (RFC 4579 §5.1), or one out of a call by the REFER of a seat (§5.6), which is
+    /// asked in by an INVITE.
+    ///
+    /// # Errors
+    ///
+    /// `Gone` exactly where the room is not live, and `RoomFull` exactly where 32 of its seats are taken, pending invitations among them: the leg is handed back, and
+    /// nothing has changed. `NoMemory` for want of memory: a leg of the same side without a meter is handed back, and the rooms have failed then; each later call answers
+    /// it and changes nothing; of the tokens nothing is said then.
+    pub fn adopt(
+        &mut self,
+        alloc: Global,
+        room: RoomNo,
+        entrant: Entrant,
+        how: Joining<'_>,
+        peers: &PeerTable,
+        accounts: &Accounts,
+        tokens: &mut Tokens,
+        now: Moment,
+    ) -> Result<Emits, (Released, RoomFault)>
+        requires unmetered { (released_leg entrant.leg).meter ≡ None }
+        requires audio { is_offer how ≡ true }
+        ensures done { OnOk result ((deeds : List Deed) → Stands peers.now accounts.now self.old deeds →
+            Stands peers.now accounts.now self.new (entering room.0 now tokens.old entrant.leg entrant.account how.entry ∷ deeds)) }
+        ensures emits { IfOk result (λ out. (deeds : List Deed) → Stands peers.now accounts.now self.old deeds →
+            out ≡ (brought_after (site_of self.old peers.now accounts.now) deeds (entering room.0 now tokens.old entrant.leg entrant.account how.entry)).desk.out) }
+        ensures tokens { OnOk result ((deeds : List Deed) → Stands peers.now accounts.now self.old deeds →
+            tokens.new ≡ (brought_after (site_of self.old peers.now accounts.now) deeds
+            (entering room.0 now tokens.old entrant.leg entrant.account how.entry)).desk.tokens) }
+        ensures site { OnOk result ((peers : Peers) (accounts : List AccountIdentity) →
+            site_of self.new peers accounts ≡ site_of self.old peers accounts) }
+        ensures gone { self.old.has_failed ≡ false → access room.0 self.old.table.live ≡ Err fault.Gone →
+            (result ≡ Err (entrant.leg, fault.Gone)) × ((self.new ≡ self.old) × (tokens.new ≡ tokens.old)) }
+        ensures full { self.old.has_failed ≡ false → access room.0 self.old.table.live ≡ Err fault.RoomFull →
+            (result ≡ Err (entrant.leg, fault.RoomFull)) × ((self.new ≡ self.old) × (tokens.new ≡ tokens.old)) }
+        ensures fails { self.old.has_failed ≡ false → (place : ℕ) → access room.0 self.old.table.live ≡ Ok place →
+            IfErr result (λ e. (e.1 ≡ fault.NoMemory) × (self.new.has_failed ≡ true)) }
+        ensures meter { IfErr result (λ e. (released_leg e.0).meter ≡ None) }
+        ensures side { IfErr result (λ e. is_same_side e.0 entrant.leg ≡ true) }
+        ensures stuck { self.old.has_failed ≡ true →
+            (result ≡ Err (entrant.leg, fault.NoMemory)) × ((self.new ≡ self.old) × (tokens.new ≡ tokens.old)) }
+    {
+        if self.has_failed {
+            return Err((entrant.into_leg(), RoomFault::NoMemory));
+        }
+        match access(&self.live, room) {
+            Err(fault) => Err((entrant.into_leg(), fault)),
+            Ok(place) => {
+                let step = self.step(alloc, peers, accounts, now);
+                match self.enter(&step, room, place, entrant, how, tokens) {
+                    Ok(out) => Ok(out),
+                    Err(leg) => {
+                        self.has_failed = true;
+                        Err((leg, RoomFault::NoMemory))
+                    }
+                }
+            }
+        }
+    }
+}

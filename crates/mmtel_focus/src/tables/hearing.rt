@@ -1,0 +1,143 @@
+//! The rooms hear a signal, and a seat of one is told a status.
+ghost use Rattle.std.specs.Prelude.{◌≡◌, ◌∷◌, false, true, List, IfErr, IfOk, IsErr, OnOk};
+ghost use Rattle.mmtel_trust.specs.Peers.{Peers};
+ghost use Rattle.mmtel_trust.specs.declared.accounts.AccountIdentity.{AccountIdentity};
+ghost use Rattle.mmtel_focus.specs.Histories.{Deed, Hears, Notifies, Stands, brought_after, site_of};
+ghost use Rattle.mmtel_focus.specs.Private.{after, brought};
+
+use super::{Rooms, no_tokens};
+use crate::entering::notify;
+use crate::live::beginning;
+use crate::moves::take;
+use crate::signals::RoomSignal;
+use mmtel_scan::NoMemory;
+use mmtel_seats::{Effects, Step};
+use mmtel_transaction::{Emits, Tokens};
+use mmtel_trust::{Accounts, PeerTable};
+use mmtel_types::{Moment, RoomNo};
+use std::alloc::Global;
+use std::mem;
+
+impl Rooms {
+    /// The rooms hear a signal and keep what it left and closed.
+    fn hear(
+        &mut self,
+        step: &Step<'_>,
+        signal: &RoomSignal,
+        tokens: &mut Tokens,
+    ) -> Result<Emits, NoMemory>
+        ensures done { OnOk result (self.new
+            ≡ after step.now.setting (Hears (record { at = step.now.at; tokens = tokens.old; signal = signal.now })) self.old) }
+        ensures emits { IfOk result (λ out. out
+            ≡ (brought step.now.setting (Hears (record { at = step.now.at; tokens = tokens.old; signal = signal.now })) self.old).desk.out) }
+        ensures tokens { OnOk result (tokens.new
+            ≡ (brought step.now.setting (Hears (record { at = step.now.at; tokens = tokens.old; signal = signal.now })) self.old).desk.tokens) }
+    {
+        let mut effects = Effects::new(mem::replace(tokens, no_tokens()));
+        let heard = take(&mut self.live, &mut self.loose, step, signal, &mut effects);
+        mem::swap(tokens, &mut effects.desk.tokens);
+        heard?;
+        self.settle(step.alloc, effects)
+    }
+
+    /// The rooms hear a signal: the seat that it is of takes its row of the room table, or what was left of an INVITE goes on (RFC 4579 §5, RFC 3515 §2.4, RFC 3261 §12 to §15).
+    ///
+    /// # Errors
+    ///
+    /// Want of memory alone: the rooms have failed then, and each later signal answers it and changes nothing; of the tokens nothing is said then.
+    pub fn signal(
+        &mut self,
+        alloc: Global,
+        signal: RoomSignal,
+        peers: &PeerTable,
+        accounts: &Accounts,
+        tokens: &mut Tokens,
+        now: Moment,
+    ) -> Result<Emits, NoMemory>
+        ensures done { OnOk result ((deeds : List Deed) → Stands peers.now accounts.now self.old deeds →
+            Stands peers.now accounts.now self.new (Hears (record { at = now; tokens = tokens.old; signal = signal }) ∷ deeds)) }
+        ensures emits { IfOk result (λ out. (deeds : List Deed) → Stands peers.now accounts.now self.old deeds →
+            out ≡ (brought_after (site_of self.old peers.now accounts.now) deeds (Hears (record { at = now; tokens = tokens.old; signal = signal }))).desk.out) }
+        ensures tokens { OnOk result ((deeds : List Deed) → Stands peers.now accounts.now self.old deeds →
+            tokens.new ≡ (brought_after (site_of self.old peers.now accounts.now) deeds
+            (Hears (record { at = now; tokens = tokens.old; signal = signal }))).desk.tokens) }
+        ensures site { OnOk result ((peers : Peers) (accounts : List AccountIdentity) →
+            site_of self.new peers accounts ≡ site_of self.old peers accounts) }
+        ensures fails { IfErr result (λ e. (self.old.has_failed ≡ false → self.new.has_failed ≡ true)) }
+        ensures stuck { self.old.has_failed ≡ true →
+            IsErr result × ((self.new ≡ self.old) × (tokens.new ≡ tokens.old)) }
+    {
+        if self.has_failed {
+            drop(signal);
+            return Err(NoMemory);
+        }
+        let step = self.step(alloc, peers, accounts, now);
+        let heard = self.hear(&step, &signal, tokens);
+        drop(signal);
+        if heard.is_err() {
+            self.has_failed = true;
+        }
+        heard
+    }
+
+    /// Tells a seat the status of this code, and keeps what comes of it.
+    fn tell(
+        &mut self,
+        step: &Step<'_>,
+        room: RoomNo,
+        seat: u64,
+        code: u16,
+        tokens: &mut Tokens,
+    ) -> Result<Emits, NoMemory>
+        ensures done { OnOk result (self.new ≡ after step.now.setting (Notifies room.0 seat code tokens.old) self.old) }
+        ensures emits { IfOk result (λ out. out
+            ≡ (brought step.now.setting (Notifies room.0 seat code tokens.old) self.old).desk.out) }
+        ensures tokens { OnOk result (tokens.new
+            ≡ (brought step.now.setting (Notifies room.0 seat code tokens.old) self.old).desk.tokens) }
+    {
+        let mut effects = Effects::new(mem::replace(tokens, no_tokens()));
+        let told = notify(&mut self.live, step, room, seat, code, &mut effects);
+        mem::swap(tokens, &mut effects.desk.tokens);
+        told?;
+        self.settle(step.alloc, effects)
+    }
+
+    /// Tells a seat what became of its REFER, by the status line of this code; nothing goes out once it has left (RFC 3515 §2.4.4). The code has a phrase among those of
+    /// the server's own statuses.
+    ///
+    /// # Errors
+    ///
+    /// Want of memory alone: the rooms have failed then, and each later call answers it and changes nothing; of the tokens nothing is said then.
+    pub fn notify(
+        &mut self,
+        alloc: Global,
+        room: RoomNo,
+        seat: u64,
+        code: u16,
+        peers: &PeerTable,
+        accounts: &Accounts,
+        tokens: &mut Tokens,
+    ) -> Result<Emits, NoMemory>
+        ensures done { OnOk result ((deeds : List Deed) → Stands peers.now accounts.now self.old deeds →
+            Stands peers.now accounts.now self.new (Notifies room.0 seat code tokens.old ∷ deeds)) }
+        ensures emits { IfOk result (λ out. (deeds : List Deed) → Stands peers.now accounts.now self.old deeds →
+            out ≡ (brought_after (site_of self.old peers.now accounts.now) deeds (Notifies room.0 seat code tokens.old)).desk.out) }
+        ensures tokens { OnOk result ((deeds : List Deed) → Stands peers.now accounts.now self.old deeds →
+            tokens.new ≡ (brought_after (site_of self.old peers.now accounts.now) deeds (Notifies room.0 seat code tokens.old)).desk.tokens) }
+        ensures site { OnOk result ((peers : Peers) (accounts : List AccountIdentity) →
+            site_of self.new peers accounts ≡ site_of self.old peers accounts) }
+        ensures fails { IfErr result (λ e. (self.old.has_failed ≡ false → self.new.has_failed ≡ true)) }
+        ensures stuck { self.old.has_failed ≡ true →
+            IsErr result × ((self.new ≡ self.old) × (tokens.new ≡ tokens.old)) }
+    {
+        if self.has_failed {
+            return Err(NoMemory);
+        }
+        let step = self.step(alloc, peers, accounts, beginning());
+        let told = self.tell(&step, room, seat, code, tokens);
+        if told.is_err() {
+            self.has_failed = true;
+        }
+        told
+    }
+}

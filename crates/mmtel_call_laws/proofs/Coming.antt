@@ -3,12 +3,11 @@ use Rattle.std.proofs.Common.{◌==◌, append_assoc, ◌≡◌, ℕ, zero, suc,
 use Rattle.std.proofs.lemmas.Bool.Decides.{nat_tests}
 use Rattle.std.proofs.lemmas.List.{append-nil, length-append}
 use Rattle.std.proofs.lemmas.List.Sums.{sum_by_push}
-use Rattle.std.specs.Prelude.{Option, Some, None, count_by, if◌then◌else◌, min, nat_le, nat_lt, not, option_to_list, is_none}
+use Rattle.std.specs.Prelude.{Option, Some, None, count_by, if◌then◌else◌, nat_lt, option_to_list}
 use Rattle.std.specs.Option.{option_map}
 use Rattle.mmtel_charging.specs.declared.rows.Row.{Row}
 use Rattle.mmtel_charging.specs.declared.rows.Kind.TheVariants.{Diversion, Terminating}
 use Rattle.mmtel_desk.specs.declared.desks.Desk.{Desk}
-use Rattle.mmtel_diversion.specs.Bound.{is_within}
 use Rattle.mmtel_leg.specs.Legs.{Leg}
 use Rattle.mmtel_lex.specs.declared.values.Uri.{Uri}
 use Rattle.mmtel_precedence.specs.Calls as precedence
@@ -16,20 +15,19 @@ use Rattle.mmtel_precedence.specs.Calls.{Final, NotOffered, Offer, Offered, Reac
 use Rattle.mmtel_precedence.specs.Laws.{is_diverted_to}
 use Rattle.mmtel_precedence.specs.Moves as moves
 use Rattle.mmtel_precedence.specs.Moves.{Kept, Reaching, account_at, at_phase, gone_on, move_in, on_reaching, with_target}
-use Rattle.mmtel_precedence.specs.Services.{DueDiversion, bound_of, is_reached, own_bound}
+use Rattle.mmtel_precedence.specs.Services.{DueDiversion}
 use Rattle.mmtel_precedence.specs.Targets as targets
 use Rattle.mmtel_precedence.specs.Targets.{is_by_number, reach_of}
 use Rattle.mmtel_precedence.specs.Turns as turns
-use Rattle.mmtel_precedence.specs.Turns.{Turn, TurnDivert, TurnOffer, TurnRefuse, TurnsAreMoves, kept_at_turn, offer_turn, turn_at, turn_by}
-use Rattle.mmtel_precedence.specs.Verdicts.{Decision, Ends, Forwards, Offers, verdict_of}
-use Rattle.mmtel_precedence.specs.declared.endings.Ending.TheVariants as ending
+use Rattle.mmtel_precedence.specs.Turns.{Turn, TurnDivert, TurnOffer, TurnRefuse, TurnsAreMoves, kept_at_turn, turn_at}
+use Rattle.mmtel_precedence.specs.Verdicts.{too_many}
 use Rattle.mmtel_rules.specs.Circumstances.{Circumstances}
 use Rattle.mmtel_targets.specs.declared.targets.Target.{Target}
 use Rattle.mmtel_types.specs.declared.causes.Cause.{Cause}
 use Rattle.mmtel_types.specs.declared.causes.Cause.TheVariants as causes
 use Rattle.mmtel_types.specs.declared.numbers.Peer.{Peer}
 use Rattle.mmtel_call_decisions.specs.Decisions as decisions
-use Rattle.mmtel_call_decisions.specs.Decisions.{aim_at, decided_at, is_barred, its_sheet, peer_for, reach_at, service_at, target_of}
+use Rattle.mmtel_call_decisions.specs.Decisions.{aim_at, decided_at, its_sheet, peer_for, reach_at, service_at, target_of}
 use Rattle.mmtel_call_decisions.specs.Rows.{cause_by, rows_by}
 use Rattle.mmtel_call_decisions.specs.Showing.{shown_to}
 use Rattle.mmtel_call_decisions.specs.Site.{Site}
@@ -37,7 +35,7 @@ use Rattle.mmtel_call_decisions.specs.declared.openings.Opening.{Opening}
 use Rattle.mmtel_call_decisions.specs.declared.openings.Service.{Service}
 use Rattle.mmtel_call_decisions.specs.declared.rows.Ending.{Ending}
 use Rattle.mmtel_call.specs.Closing.{Step, account_in, begun, meter_for, over}
-use Rattle.mmtel_call.specs.Diverting.{at_target, divert, diverted, is_diverted, made, on_turn, passed_by, refused, told_of, too_many, unless_barred, unless_reached}
+use Rattle.mmtel_call.specs.Diverting.{at_target, divert, diverted, is_diverted, made, on_turn, made_unless, passed_by, refusal_by, refused, told_of}
 use Rattle.mmtel_call.specs.Sending.{relayed_to_caller, told_caller, told_diversion}
 use Rattle.mmtel_types.specs.Causes.{status_of}
 use Rattle.mmtel_call.specs.declared.calls.Call.{Call}
@@ -58,7 +56,7 @@ use Rattle.mmtel_call.specs.Offering.{longest_time, next_attempt, sent_to}
 use Rattle.mmtel_call_laws.specs.Known.{known_as, last_record, over_by, received_in}
 use Rattle.mmtel_call_laws.proofs.Agreeing.{Comes, Ends, IsReady, Rings, by-answer, total}
 use Rattle.mmtel_call_laws.proofs.Falling.{divert-leaves, target-leaves}
-use Rattle.mmtel_call_laws.proofs.Knowing.{IsKnown, barred-known, cause_of, of_caller-known, reach_of-known, served-known, sheet-known, target_uri}
+use Rattle.mmtel_call_laws.proofs.Knowing.{IsKnown, cause_of, none-left, of_caller-known, reach_of-known, refusal-known, served-known, sheet-known, target_uri}
 use Rattle.mmtel_call_laws.proofs.Parts.{all_parts, last_part-more, last_record-more, last_served, last_served-more, past_parts-more, rows-unanswered}
 
 -- ---- what is shown
@@ -230,17 +228,16 @@ record-last site now first later caller c kept by target offer coming =
     ∙ ap turns.sheet_of (sym (reach_of-known site now first c.opening later kept.done by target coming.number coming.stands))
     ∙ sym (last_record-more call 0 kept.done kept.targets (target_as target.uri by offer) place)
 
--- by the turn there; an offer only where a peer leads to it
+-- by the turn there
 turn-comes : (left : ℕ) (site : Site) (now first : Standing) (later : ℕ → Standing) (caller : Leg) → (P : Type 0) → DivertComes left site now first later caller P →
-    (reach : Reach) (peer : Option Peer) (by : Option DueDiversion) (target : Target) (turn : Turn) (c : Call) (desk : Desk) (rows : List Row) (old : List Sign) (kept : Kept) →
+    (reach : Reach) (by : Option DueDiversion) (target : Target) (turn : Turn) (c : Call) (desk : Desk) (rows : List Row) (old : List Sign) (kept : Kept) →
     IsKnown first c.opening → IsComing site now first later caller c kept by target → turns.sheet_of reach ≡ its_sheet (service_at site now c.opening (cause_of by) target) →
-    ((waiting : Bool) → turn ≡ TurnOffer waiting → is_none peer ≡ false) → c.diversions.left ≡ left → desk.rows ≡ rows → (P → signs_of c.opening.key desk.out ≡ old) →
-    StandsThen site now c.opening later kept (on_turn (divert left site now caller) site now.at caller (service_at site now c.opening (cause_of by) target) peer (cause_of by) target turn c desk) →
+    c.diversions.left ≡ left → desk.rows ≡ rows → (P → signs_of c.opening.key desk.out ≡ old) →
+    StandsThen site now c.opening later kept (on_turn (divert left site now caller) site now.at caller (service_at site now c.opening (cause_of by) target) (cause_of by) target turn c desk) →
     Comes site first c.opening later P kept.targets (kept_at_turn (known_as site first c.opening later) (account_at reach) now.at kept target.uri by turn) rows old
-    (on_turn (divert left site now caller) site now.at caller (service_at site now c.opening (cause_of by) target) peer (cause_of by) target turn c desk) now.at
+    (on_turn (divert left site now caller) site now.at caller (service_at site now c.opening (cause_of by) target) (cause_of by) target turn c desk) now.at
 unfolding moves.moves
-turn-comes left site now first later caller P goes reach None by target (TurnOffer waiting) c desk rows old kept known coming sheet led few same shown stands = absurd (let e : true ≡ false = led waiting refl in cc)
-turn-comes left site now first later caller P goes reach (Some peer) by target (TurnOffer waiting) c desk rows old kept known coming sheet led few same shown stands =
+turn-comes left site now first later caller P goes reach by target (TurnOffer peer waiting) c desk rows old kept known coming sheet few same shown stands =
     let service = service_at site now c.opening (cause_of by) target in (
       0,
       [],
@@ -267,7 +264,7 @@ turn-comes left site now first later caller P goes reach (Some peer) by target (
       },
       (target_as target.uri by (Offered waiting) ∷ [], refl, λ p. offer-signs site now.at service waiting peer by target c desk ∙ ap (λ l. l ++ Invited (asked_uri c.opening by target.uri) ∷ []) (shown p)),
     )
-turn-comes left site now first later caller P goes reach peer by target (TurnDivert due) c desk rows old kept known coming sheet led few same shown stands =
+turn-comes left site now first later caller P goes reach by target (TurnDivert due) c desk rows old kept known coming sheet few same shown stands =
     let service = service_at site now c.opening (cause_of by) target in
     reached-before site first c.opening later P kept.targets (target_as target.uri by NotOffered) _ rows old (divert left site now caller service due (passed_by now.at service c) desk) now.at refl
     (goes service reach due (passed_by now.at service c) desk rows old (with_target kept target.uri by NotOffered) known (passed-ready site now first later caller c kept by target coming)
@@ -277,23 +274,11 @@ turn-comes left site now first later caller P goes reach peer by target (TurnDiv
       reached = more-length kept.targets (target_as target.uri by NotOffered) kept.done coming.reached;
     })
     few same shown stands)
-turn-comes left site now first later caller P goes reach peer by target (TurnRefuse why) c desk rows old kept known coming sheet led few same shown stands =
+turn-comes left site now first later caller P goes reach by target (TurnRefuse why) c desk rows old kept known coming sheet few same shown stands =
     let passed = passed_by now.at (service_at site now c.opening (cause_of by) target) c in
     reached-before site first c.opening later P kept.targets (target_as target.uri by NotOffered) _ rows old (over now.at why caller.meter None passed (told_caller site passed (status_of why) desk)) now.at refl
     (refused-comes site first later now.at caller why passed (told_caller site passed (status_of why) desk) rows P old (with_target kept target.uri by NotOffered)
     (passed-ready site now first later caller c kept by target coming) same (λ p. told-shown site passed (status_of why) desk ∙ ap (λ l. l ++ final_sign (status_of why)) (shown p)))
-
--- an offer is made only where a peer leads to the target
-offers-led : (unknown no_peer w waiting : Bool) → offer_turn unknown no_peer w ≡ TurnOffer waiting → no_peer ≡ false
-offers-led true no_peer w waiting e = absurd cc
-offers-led false true w waiting e = absurd cc
-offers-led false false w waiting e = refl
-
-decision-led : (decision : Decision) (bound : Option ℕ) (unknown no_peer waiting : Bool) → turn_by decision bound unknown no_peer ≡ TurnOffer waiting → no_peer ≡ false
-decision-led (Offers w) bound unknown no_peer waiting e = offers-led unknown no_peer w waiting e
-decision-led (Forwards None cause) bound unknown no_peer waiting e = absurd cc
-decision-led (Forwards (Some forward) cause) bound unknown no_peer waiting e = absurd cc
-decision-led (Ends cause) bound unknown no_peer waiting e = absurd cc
 
 -- one move, and then those
 pub came-after : (site : Site) (first : Standing) (o : Opening) (later : ℕ → Standing) (P : Type 0) (before : List precedence.Target) (kept : Kept) (rows : List Row) (old : List Sign) (s : Step) (at : ℕ) →
@@ -328,7 +313,7 @@ target-comes law left site now first later caller P goes by target c desk rows o
     let s = at_target (divert left site now caller) site now caller (cause_of by) target c desk in
     came-after site first o later P kept.targets (at_phase kept (Reaching target.uri by)) rows old s now.at
     (subst (λ (k : Kept). Comes site first o later P kept.targets k rows old s now.at) (sym (move-known law site now first o later by target (at_phase kept (Reaching target.uri by)) c.diversions.count known coming.count coming.number coming.stands))
-    (turn-comes left site now first later caller P goes reach peer by target (decided_at site now o (is_diverted c) (cause_of by) target service peer) c desk rows old (at_phase kept (Reaching target.uri by)) known
+    (turn-comes left site now first later caller P goes reach by target (decided_at site now o (is_diverted c) (cause_of by) target service peer) c desk rows old (at_phase kept (Reaching target.uri by)) known
     (record {
       answered = coming.answered;
       left = coming.left;
@@ -341,42 +326,21 @@ target-comes law left site now first later caller P goes by target c desk rows o
       stands = coming.stands;
       number = coming.number;
     })
-    (sheet-known site now o (cause_of by) target service peer)
-    (λ waiting e. decision-led (verdict_of (decisions.of_caller o now.at (is_diverted c)) (account_at reach) ending.Arrived) (own_bound (account_at reach).sheet) reach.is_unknown reach.has_no_peer waiting e)
-    few same shown stands))
+    (sheet-known site now o (cause_of by) target service peer) few same shown stands))
 
 -- ---- a diversion
 
 -- what stands before a diversion refuses it, or it goes on
-unless-comes : (site : Site) (now first : Standing) (later : ℕ → Standing) (caller : Leg) (refuses : Bool) (why : Cause) (onward : Call → Desk → Step) (rest : Option Cause) (uri : Uri) (due : DueDiversion)
+unless-comes : (site : Site) (now first : Standing) (later : ℕ → Standing) (caller : Leg) (refusal : Option Cause) (onward : Call → Desk → Step) (uri : Uri) (due : DueDiversion)
     (c : Call) (desk : Desk) (rows : List Row) (P : Type 0) (old : List Sign) (kept : Kept) →
     IsReady site first later caller c kept → desk.rows ≡ rows → (P → signs_of c.opening.key desk.out ≡ old) →
-    StandsThen site now c.opening later kept (if refuses then refused site now.at caller why c desk else onward c desk) →
-    (StandsThen site now c.opening later kept (onward c desk) → Comes site first c.opening later P kept.targets (gone_on rest kept uri due) rows old (onward c desk) now.at) →
-    Comes site first c.opening later P kept.targets (gone_on (if refuses then Some why else rest) kept uri due) rows old (if refuses then refused site now.at caller why c desk else onward c desk) now.at
-unless-comes site now first later caller true why onward rest uri due c desk rows P old kept ready same shown stands comes =
+    StandsThen site now c.opening later kept (made_unless refusal onward site now.at caller c desk) →
+    (refusal ≡ None → StandsThen site now c.opening later kept (onward c desk) → Comes site first c.opening later P kept.targets (gone_on None kept uri due) rows old (onward c desk) now.at) →
+    Comes site first c.opening later P kept.targets (gone_on refusal kept uri due) rows old (made_unless refusal onward site now.at caller c desk) now.at
+unless-comes site now first later caller (Some why) onward uri due c desk rows P old kept ready same shown stands comes =
     refused-comes site first later now.at caller why c (told_caller site c (status_of why) desk) rows P old kept ready same
     (λ p. told-shown site c (status_of why) desk ∙ ap (λ l. l ++ final_sign (status_of why)) (shown p))
-unless-comes site now first later caller false why onward rest uri due c desk rows P old kept ready same shown stands comes = comes stands
-
--- the bound of a diversion, at which nothing is left, or which the account sets
-within-none : (received done bound : ℕ) (own : Option ℕ) → 0 + done ≡ bound - received → nat_lt (received + done) (bound_of bound own) ≡ false
-within-none received done bound None e = grind (arith, nat_tests)
-within-none received done bound (Some own) e = let most : min bound own ≤ bound = omega arith in grind (arith, nat_tests, most)
-
-below-own : (n bound own : ℕ) → n < bound → nat_lt n (min bound own) ≡ not (nat_le own n)
-below-own n bound own below = go (nat_le own n) refl
-  where
-    go : (b : Bool) → nat_le own n ≡ b → nat_lt n (min bound own) ≡ not b
-    go true e = let least : own ≤ n = grind (arith, nat_tests) in let most : min bound own ≤ n = omega arith in grind (arith, nat_tests, most)
-    go false e = let less : n < own = grind (arith, nat_tests) in let most : n < min bound own = omega arith in grind (arith, nat_tests, most)
-
-within-some : (received done bound left : ℕ) (own : Option ℕ) → suc left + done ≡ bound - received → nat_lt (received + done) (bound_of bound own) ≡ not (is_reached own (received + done))
-within-some received done bound left None e = grind (arith, nat_tests)
-within-some received done bound left (Some own) e = below-own (received + done) bound own (omega arith)
-
-abbrev pub by_bound : (received done bound : ℕ) → Cause → Option Cause
-by_bound received done bound why = if is_within received done bound then None else Some why
+unless-comes site now first later caller None onward uri due c desk rows P old kept ready same shown stands comes = comes refl stands
 
 told-quiet : (site : Site) (due : DueDiversion) (c : Call) (desk : Desk) → Quiet c.opening.key desk (told_of site due c desk)
 told-quiet site due c desk =
@@ -429,62 +393,31 @@ stands-next left site now later c kept s e few leaves stands = stands kept.done 
 pub stands-on : (site : Site) (now : Standing) (later : ℕ → Standing) (c : Call) (kept : Kept) (s : Step) → StandsThen site now c.opening later kept s → StandsThen site now c.opening later (more kept) s
 stands-on site now later c kept s stands j least most = stands j (omega arith) most
 
-pub at-bound : (received done bound : ℕ) (own : Option ℕ) (why : Cause) → 0 + done ≡ bound - received → by_bound received done (bound_of bound own) why ≡ Some why
-at-bound received done bound own why e = rw (within-none received done bound own e) refl
-
-by-own : (b : Bool) (why : Cause) → (if not b then None else Some why) ≡ (if b then Some why else None)
-by-own true why = refl
-by-own false why = refl
-
--- below the configured one it is the account's own bound that refuses
-pub below-bound : (received done bound left count : ℕ) (own : Option ℕ) (why : Cause) → suc left + done ≡ bound - received → count ≡ received + done →
-    by_bound received done (bound_of bound own) why ≡ (if is_reached own count then Some why else None)
-below-bound received done bound left count own why e counted =
-    ap (λ b. if b then None else Some why) (within-some received done bound left own e) ∙ by-own (is_reached own (received + done)) why
-    ∙ ap (λ n. if is_reached own n then Some why else None) (sym counted)
-
-abbrev pub go_on_if : Bool → Option Cause → Option Cause
-go_on_if bars rest = if bars then Some causes.OutgoingBarred else rest
-
 pub divert-comes : (law : TurnsAreMoves) (left : ℕ) (site : Site) (now first : Standing) (later : ℕ → Standing) (caller : Leg) (P : Type 0) → DivertComes left site now first later caller P
 unfolding divert
 divert-comes law zero site now first later caller P service reach due c desk rows old kept known ready diverts few same shown stands =
-    let call = known_as site first c.opening later in
     let o = c.opening in
-    let barred = is_barred site o now.at service due in
-    let onward = refused site now.at caller (too_many due) in
-    let s = unless_barred barred onward site now.at caller c desk in
-    let bound = bound_of site.bound due.bound in
+    let onward = refused site now.at caller (too_many due.cause) in
+    let s = made_unless (refusal_by 0 site now.at service due c) onward site now.at caller c desk in
     let e = ready.left in
     let none : 0 + kept.done ≡ site.bound - received_in o = omega arith in
-    subst (λ bars. Comes site first o later P kept.targets (gone_on (go_on_if bars (by_bound (received_in o) kept.done bound (too_many due))) kept (target_uri site due) due) rows old s now.at)
-    (barred-known site first o later now.at reach service due known diverts.sheet)
-    (subst (λ rest. Comes site first o later P kept.targets (gone_on (go_on_if barred rest) kept (target_uri site due) due) rows old s now.at)
-    (sym (at-bound (received_in o) kept.done site.bound due.bound (too_many due) none))
-    (unless-comes site now first later caller barred causes.OutgoingBarred onward (Some (too_many due)) (target_uri site due) due c desk rows P old kept ready same shown stands
-    (λ after. refused-comes site first later now.at caller (too_many due) c (told_caller site c (status_of (too_many due)) desk) rows P old kept ready same
-    (λ p. told-shown site c (status_of (too_many due)) desk ∙ ap (λ l. l ++ final_sign (status_of (too_many due))) (shown p)))))
+    subst (λ (refusal : Option Cause). Comes site first o later P kept.targets (gone_on refusal kept (target_uri site due) due) rows old s now.at)
+    (refusal-known site first o later now.at kept.done 0 c.diversions.count reach service due known diverts.sheet none ready.count)
+    (unless-comes site now first later caller (refusal_by 0 site now.at service due c) onward (target_uri site due) due c desk rows P old kept ready same shown stands
+    (λ lets after. absurd (none-left (decisions.of_target site o now.at (target_uri site due)) (its_sheet service) c.diversions.count due lets)))
 divert-comes law (suc left) site now first later caller P service reach due c desk rows old kept known ready diverts few same shown stands =
-    let call = known_as site first c.opening later in
     let o = c.opening in
-    let barred = is_barred site o now.at service due in
-    let reached = is_reached due.bound c.diversions.count in
     let target = target_of site due in
     let next = diverted target now.at left service due c in
     let inner = at_target (divert left site now caller) site now caller (Some due.cause) target next (told_of site due next desk) in
     let onward = made (at_target (divert left site now caller) site now caller (Some due.cause) target) site target now.at left service due in
-    let unless = unless_reached due onward site now.at caller in
-    let s = unless_barred barred unless site now.at caller c desk in
-    let bound = bound_of site.bound due.bound in
+    let s = made_unless (refusal_by (suc left) site now.at service due c) onward site now.at caller c desk in
     let e = ready.left in
     let some : suc left + kept.done ≡ site.bound - received_in o = omega arith in
     let leaves : inner.call.diversions.left ≤ left = target-leaves left site now caller (divert-leaves left site now caller) (Some due.cause) target next (told_of site due next desk) refl in
-    subst (λ bars. Comes site first o later P kept.targets (gone_on (go_on_if bars (by_bound (received_in o) kept.done bound (too_many due))) kept (target_uri site due) due) rows old s now.at)
-    (barred-known site first o later now.at reach service due known diverts.sheet)
-    (subst (λ rest. Comes site first o later P kept.targets (gone_on (go_on_if barred rest) kept (target_uri site due) due) rows old s now.at)
-    (sym (below-bound (received_in o) kept.done site.bound left c.diversions.count due.bound (too_many due) some ready.count))
-    (unless-comes site now first later caller barred causes.OutgoingBarred unless (if reached then Some (too_many due) else None) (target_uri site due) due c desk rows P old kept ready same shown stands
-    (λ unbarred. unless-comes site now first later caller reached (too_many due) onward None (target_uri site due) due c desk rows P old kept ready same shown unbarred
-    (λ after. target-comes law left site now first later caller P (divert-comes law left site now first later caller P) (Some due) target next (told_of site due next desk) rows old (more kept) known
+    subst (λ (refusal : Option Cause). Comes site first o later P kept.targets (gone_on refusal kept (target_uri site due) due) rows old s now.at)
+    (refusal-known site first o later now.at kept.done (suc left) c.diversions.count reach service due known diverts.sheet some ready.count)
+    (unless-comes site now first later caller (refusal_by (suc left) site now.at service due c) onward (target_uri site due) due c desk rows P old kept ready same shown stands
+    (λ lets after. target-comes law left site now first later caller P (divert-comes law left site now first later caller P) (Some due) target next (told_of site due next desk) rows old (more kept) known
     (coming-by left site now first later caller c kept service reach due ready diverts few (stands-next left site now later c kept inner ready.left few leaves after))
-    refl ((told-quiet site due next desk).rows ∙ same) (λ p. (told-quiet site due next desk).signs ∙ shown p) (stands-on site now later c kept inner after)))))
+    refl ((told-quiet site due next desk).rows ∙ same) (λ p. (told-quiet site due next desk).signs ∙ shown p) (stands-on site now later c kept inner after)))

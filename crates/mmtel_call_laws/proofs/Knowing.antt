@@ -1,22 +1,26 @@
 -- What the call knows at a target and after an attempt is what the precedence of services knows of it.
-use Rattle.std.proofs.Common.{◌≡◌, ℕ, ◌+◌, Bool, false, refl, ap, sym, ◌∙◌}
-use Rattle.std.specs.Prelude.{Option, Some, None, is_none, is_some, nat_lt, not, ◌&&◌, Result, Ok, Err, unwrap_or}
-use Rattle.std.specs.Option.{option_map, option_map_or}
+use Rattle.std.proofs.Common.{◌≡◌, ℕ, ◌+◌, ◌-◌, ◌≤◌, ◌<◌, Bool, true, false, arith, refl, ap, sym, ◌∙◌}
+use Rattle.std.proofs.lemmas.Bool.Decides.{nat_tests}
+use Rattle.std.specs.Prelude.{Option, Some, None, is_none, min, nat_lt, not, ◌&&◌, if◌then◌else◌, Result, Ok, Err, unwrap_or}
+use Rattle.std.specs.Option.{option_map}
 use Rattle.mmtel_leg.specs.Dialogues.{request_uri}
 use Rattle.mmtel_lex.specs.Reading.{Refusal, uri_of}
 use Rattle.mmtel_lex.specs.declared.values.Uri.{Uri}
 use Rattle.mmtel_lex.specs.declared.values.Uri.TheVariants.{Sip, Tel}
 use Rattle.mmtel_precedence.specs.Calls.{Reach, Standing, account_in, sheet_at, standing_after}
 use Rattle.mmtel_precedence.specs.Moves.{account_at}
-use Rattle.mmtel_precedence.specs.Services.{AccountState, DueDiversion, bars_outgoing}
+use Rattle.mmtel_precedence.specs.Services.{AccountState, DueDiversion, bars_outgoing, bound_of}
 use Rattle.mmtel_precedence.specs.Targets as targets
 use Rattle.mmtel_precedence.specs.Targets.{is_by_number, reach_in, reach_of}
 use Rattle.mmtel_precedence.specs.Turns as turns
+use Rattle.mmtel_precedence.specs.Verdicts.{refusal_at_bound, refusal_before_diversion, too_many}
+use Rattle.mmtel_sheet_values.specs.declared.values.Sheet.{Sheet}
 use Rattle.mmtel_identity.specs.Restriction.{is_caller_restricted}
 use Rattle.mmtel_rules.specs.Circumstances.{Circumstances}
 use Rattle.mmtel_targets.specs.Targets.{as_requested, is_at_home, new_target}
 use Rattle.mmtel_targets.specs.declared.served.RegistrationState.{RegistrationState}
 use Rattle.mmtel_targets.specs.declared.targets.Target.{Target}
+use Rattle.mmtel_types.specs.declared.causes.Cause.TheVariants as causes
 use Rattle.mmtel_types.specs.declared.numbers.Account.{Account}
 use Rattle.mmtel_types.specs.declared.numbers.Peer.{Peer}
 use Rattle.mmtel_call_decisions.specs.Decisions as decisions
@@ -60,17 +64,12 @@ account-known : (now : Standing) (told : Option RegistrationState) (served : Opt
 account-known now told None = refl
 account-known now told (Some account) = refl
 
-peer-known : (peer : Option Peer) → not (is_some peer) ≡ is_none peer
-peer-known None = refl
-peer-known (Some peer) = refl
+abbrev reach : (at : ℕ) → Option AccountState → (unknown : Bool) → Option Peer → Reach
+reach at served unknown peer = record { at = at; served = served; is_unknown = unknown; peer = peer }
 
-abbrev reach : (at : ℕ) → Option AccountState → (unknown no_peer : Bool) → Reach
-reach at served unknown no_peer = record { at = at; served = served; is_unknown = unknown; has_no_peer = no_peer }
-
-reach-same : (at : ℕ) (served served2 : Option AccountState) (unknown unknown2 no_peer no_peer2 : Bool) → served ≡ served2 → unknown ≡ unknown2 → no_peer ≡ no_peer2 →
-    reach at served unknown no_peer ≡ reach at served2 unknown2 no_peer2
-reach-same at served served2 unknown unknown2 no_peer no_peer2 e f g =
-    ap (λ s. reach at s unknown no_peer) e ∙ ap (λ u. reach at served2 u no_peer) f ∙ ap (λ p. reach at served2 unknown2 p) g
+reach-same : (at : ℕ) (served served2 : Option AccountState) (unknown unknown2 : Bool) (peer : Option Peer) → served ≡ served2 → unknown ≡ unknown2 →
+    reach at served unknown peer ≡ reach at served2 unknown2 peer
+reach-same at served served2 unknown unknown2 peer e f = ap (λ s. reach at s unknown peer) e ∙ ap (λ u. reach at served2 u peer) f
 
 -- nobody's, by the mark of a number
 abbrev nobodys : Site → Option Account → Uri → Bool → Bool
@@ -79,15 +78,13 @@ nobodys site account uri number = is_none account && (is_at_home site.home uri &
 reach-known : (site : Site) (now first : Standing) (o : Opening) (later : ℕ → Standing) (by : Option DueDiversion) (target : Target) → target.of_number ≡ is_by_number by →
     reach_in now (known_as site first o later) target.uri by ≡ reach_at site now o (cause_of by) target (service_at site now o (cause_of by) target) (peer_for site o target)
 reach-known site now first o later None target number =
-    reach-same now.at _ _ _ _ _ _
+    reach-same now.at _ _ _ _ (peer_for site o target)
     (account-known now (told_at o None) (served_at site o None target))
     (ap (nobodys site (account_for site o None target) target.uri) (sym number))
-    (peer-known (peer_for site o target))
 reach-known site now first o later (Some due) target number =
-    reach-same now.at _ _ _ _ _ _
+    reach-same now.at _ _ _ _ (peer_for site o target)
     (account-known now (told_at o (Some due.cause)) (served_at site o (Some due.cause) target))
     (ap (nobodys site (account_for site o (Some due.cause) target) target.uri) (sym number))
-    (peer-known (peer_for site o target))
 
 -- the target that the call reaches now, after k diversions
 pub reach_of-known : (site : Site) (now first : Standing) (o : Opening) (later : ℕ → Standing) (k : ℕ) (by : Option DueDiversion) (target : Target) → target.of_number ≡ is_by_number by →
@@ -120,19 +117,62 @@ plain (Err refusal) = refl
 pub first-known : (o : Opening) → (first_of o).of_number ≡ false
 first-known o = plain (uri_of (request_uri o.invite.heard.start))
 
--- ---- outgoing barring
+-- ---- what stands before a diversion
 
-barred-by : (c : Circumstances) (served : Option AccountState) (reach : Reach) → reach.served ≡ served →
-    bars_outgoing c (account_at reach).sheet ≡ option_map_or (bars_outgoing c) (turns.sheet_of reach) false
-barred-by c None reach e = rw e refl
-barred-by c (Some account) reach e = rw e refl
+-- the two bounds are reached together: what is left, and the count itself
+both-below : (a b c d : ℕ) → (a < b → c < d) → (c < d → a < b) → nat_lt a b ≡ nat_lt c d
+both-below a b c d to from = go (nat_lt a b) (nat_lt c d) refl refl
+  where
+    go : (p q : Bool) → nat_lt a b ≡ p → nat_lt c d ≡ q → nat_lt a b ≡ nat_lt c d
+    go true true e f = e ∙ sym f
+    go false false e f = e ∙ sym f
+    go true false e f = let less : c < d = to (grind (arith, nat_tests, e)) in absurd (grind (arith, nat_tests, less, f))
+    go false true e f = let less : a < b = from (grind (arith, nat_tests, f)) in absurd (grind (arith, nat_tests, less, e))
 
--- of the account that is served at a target, for the target of a diversion
-pub barred-known : (site : Site) (first : Standing) (o : Opening) (later : ℕ → Standing) (at : ℕ) (reach : Reach) (service : Option Service) (due : DueDiversion) → IsKnown first o →
-    turns.sheet_of reach ≡ its_sheet service →
-    decisions.is_barred site o at service due
-    ≡ bars_outgoing (targets.of_target (known_as site first o later) at (target_uri site due)) (account_at reach).sheet
-barred-known site first o later at reach service due known e =
-    ap (λ sheet. option_map_or (decisions.bars_target site o at due) sheet false) (sym e)
-    ∙ ap (λ (c : Circumstances). option_map_or (bars_outgoing c) (turns.sheet_of reach) false) (of_target-known site first o later at (target_uri site due) known)
-    ∙ sym (barred-by (targets.of_target (known_as site first o later) at (target_uri site due)) reach.served reach refl)
+bound-same : (received done bound left count : ℕ) (own : Option ℕ) → left + done ≡ bound - received → count ≡ received + done →
+    nat_lt (count + 0) (bound_of (count + left) own) ≡ nat_lt (received + done) (bound_of bound own)
+bound-same received done bound left count None e counted = both-below _ _ _ _ (λ less. omega (arith, less, e, counted)) (λ less. omega (arith, less, e, counted))
+bound-same received done bound left count (Some own) e counted = both-below _ _ _ _ (λ less. omega (arith, less, e, counted)) (λ less. omega (arith, less, e, counted))
+
+at-bound : (received done bound left count : ℕ) (own : Option ℕ) (cause : ℕ) → left + done ≡ bound - received → count ≡ received + done →
+    refusal_at_bound count 0 (bound_of (count + left) own) cause ≡ refusal_at_bound received done (bound_of bound own) cause
+at-bound received done bound left count own cause e counted = ap (λ b. if b then None else Some (too_many cause)) (bound-same received done bound left count own e counted)
+
+-- an account that is not served bars nothing
+barred-by : (c : Circumstances) (served : Option AccountState) (reach : Reach) (received done bound : ℕ) (due : DueDiversion) → reach.served ≡ served →
+    refusal_before_diversion c (turns.sheet_of reach) received done bound due ≡ refusal_before_diversion c (Some (account_at reach).sheet) received done bound due
+barred-by c None reach received done bound due e = rw e refl
+barred-by c (Some account) reach received done bound due e = rw e refl
+
+either-bound : (c : Circumstances) (sheet : Option Sheet) (received done bound left count : ℕ) (due : DueDiversion) → left + done ≡ bound - received → count ≡ received + done →
+    refusal_before_diversion c sheet count 0 (count + left) due ≡ refusal_before_diversion c sheet received done bound due
+either-bound c None received done bound left count due e counted = at-bound received done bound left count due.bound due.cause e counted
+either-bound c (Some sheet) received done bound left count due e counted =
+    ap (λ rest. if bars_outgoing c sheet then Some causes.OutgoingBarred else rest) (at-bound received done bound left count due.bound due.cause e counted)
+
+-- where none is left the bound refuses it
+none-within : (count : ℕ) (own : Option ℕ) → nat_lt (count + 0) (bound_of (count + 0) own) ≡ false
+none-within count None = grind (arith, nat_tests)
+none-within count (Some own) = let least : min (count + 0) own ≤ count + 0 = omega arith in grind (arith, nat_tests, least)
+
+bound-refuses : (count cause : ℕ) (own : Option ℕ) → refusal_at_bound count 0 (bound_of (count + 0) own) cause ≡ Some (too_many cause)
+bound-refuses count cause own = ap (λ b. if b then None else Some (too_many cause)) (none-within count own)
+
+pub none-left : (c : Circumstances) (sheet : Option Sheet) (count : ℕ) (due : DueDiversion) → refusal_before_diversion c sheet count 0 (count + 0) due ≡ None → ⊥
+none-left c None count due e = let same : Some (too_many due.cause) ≡ None = sym (bound-refuses count due.cause due.bound) ∙ e in cc
+none-left c (Some sheet) count due e = go (bars_outgoing c sheet) e
+  where
+    go : (b : Bool) → (if b then Some causes.OutgoingBarred else refusal_at_bound count 0 (bound_of (count + 0) due.bound) due.cause) ≡ None → ⊥
+    go true same = cc
+    go false same = let is : Some (too_many due.cause) ≡ None = sym (bound-refuses count due.cause due.bound) ∙ same in cc
+
+-- by the account that is served at a target, where so many were made and so many are left
+pub refusal-known : (site : Site) (first : Standing) (o : Opening) (later : ℕ → Standing) (at done left count : ℕ) (reach : Reach) (service : Option Service) (due : DueDiversion) → IsKnown first o →
+    turns.sheet_of reach ≡ its_sheet service → left + done ≡ site.bound - received_in o → count ≡ received_in o + done →
+    decisions.refusal_of_diversion site o at count left service due
+    ≡ refusal_before_diversion (targets.of_target (known_as site first o later) at (target_uri site due)) (Some (account_at reach).sheet) (received_in o) done site.bound due
+refusal-known site first o later at done left count reach service due known e few counted =
+    either-bound (decisions.of_target site o at (target_uri site due)) (its_sheet service) (received_in o) done site.bound left count due few counted
+    ∙ ap (λ sheet. refusal_before_diversion (decisions.of_target site o at (target_uri site due)) sheet (received_in o) done site.bound due) (sym e)
+    ∙ ap (λ (c : Circumstances). refusal_before_diversion c (turns.sheet_of reach) (received_in o) done site.bound due) (of_target-known site first o later at (target_uri site due) known)
+    ∙ barred-by (targets.of_target (known_as site first o later) at (target_uri site due)) reach.served reach (received_in o) done site.bound due refl

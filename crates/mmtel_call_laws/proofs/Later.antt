@@ -24,8 +24,9 @@ use Rattle.mmtel_message.specs.Faults.{is_method}
 use Rattle.mmtel_message.specs.Message.{Message}
 use Rattle.mmtel_message.specs.declared.messages.Start.{Start as StartLine}
 use Rattle.mmtel_precedence.specs.Calls.{End, Standing}
-use Rattle.mmtel_precedence.specs.Services.{DueDiversion, is_reached}
+use Rattle.mmtel_precedence.specs.Services.{DueDiversion}
 use Rattle.mmtel_precedence.specs.Turns.{AfterEnd, EndAnswered, EndDivert, EndRefuse, Turn, TurnDivert, TurnOffer, TurnRefuse}
+use Rattle.mmtel_precedence.specs.Verdicts.{too_many}
 use Rattle.mmtel_targets.specs.declared.targets.Target.{Target}
 use Rattle.mmtel_transaction.specs.declared.words.Emit.{Emit}
 use Rattle.mmtel_transaction.specs.declared.words.Emit.TheVariants as emit
@@ -35,17 +36,16 @@ use Rattle.mmtel_types.specs.Sides.{other_of}
 use Rattle.mmtel_types.specs.declared.addrs.Addr.{Addr}
 use Rattle.mmtel_types.specs.declared.causes.Cause.{Cause}
 use Rattle.mmtel_types.specs.declared.causes.Cause.TheVariants as causes
-use Rattle.mmtel_types.specs.declared.numbers.Peer.{Peer}
 use Rattle.mmtel_types.specs.declared.sides.Side.{Side}
 use Rattle.mmtel_types.specs.declared.sides.Side.TheVariants.{Caller, Callee}
-use Rattle.mmtel_call_decisions.specs.Decisions.{decided_after, decided_at, handed_on, is_barred, is_status, peer_for, service_at, target_of}
+use Rattle.mmtel_call_decisions.specs.Decisions.{decided_after, decided_at, handed_on, is_status, peer_for, service_at, target_of}
 use Rattle.mmtel_call_decisions.specs.Opening.{first_of, refusal_of}
 use Rattle.mmtel_call_decisions.specs.Requests.{is_same_side}
 use Rattle.mmtel_call_decisions.specs.Site.{Site}
 use Rattle.mmtel_call_decisions.specs.declared.openings.Service.{Service}
 use Rattle.mmtel_call.specs.Answered.{acked_and_left, acknowledges, at_stage, bye_to, leg_of, with_leg}
 use Rattle.mmtel_call.specs.Closing.{Step, onward, over, over_stood, with_past}
-use Rattle.mmtel_call.specs.Diverting.{at_target, divert, diverted, is_diverted, made, on_end, on_turn, passed_by, refused, refused_by, told_of, too_many, unless_reached}
+use Rattle.mmtel_call.specs.Diverting.{at_target, divert, diverted, is_diverted, made, made_unless, on_end, on_turn, passed_by, refusal_by, refused, refused_by, told_of}
 use Rattle.mmtel_call.specs.Leaving.{acked_again, answered_at, answered_loose, answered_other, answered_taken, answered_taken_at, as_loose, is_fork, is_success, is_taken, is_talking}
 use Rattle.mmtel_call.specs.Lending.{finished, finished_in}
 use Rattle.mmtel_call.specs.Opening.{caller_of, new_call, opened, unless_refused}
@@ -584,34 +584,32 @@ abbrev DivertAsks : TKey → ℕ → Site → Standing → Leg → Type 0
 DivertAsks key left site now caller = (service : Option Service) (due : DueDiversion) (c : Call) (desk : Desk) → Asks key (divert left site now caller service due c desk)
 
 turn-asks : (key : TKey) (left : ℕ) (site : Site) (now : Standing) (caller : Leg) → DivertAsks key left site now caller →
-    (service : Option Service) (peer : Option Peer) (cause : Option ℕ) (target : Target) (turn : Turn) (c : Call) (desk : Desk) →
-    Asks key (on_turn (divert left site now caller) site now.at caller service peer cause target turn c desk)
-turn-asks key left site now caller later service None cause target (TurnOffer waiting) c desk = tt
-turn-asks key left site now caller later service (Some peer) cause target (TurnOffer waiting) c desk = tt
-turn-asks key left site now caller later service peer cause target (TurnDivert due) c desk = later service due (passed_by now.at service c) desk
-turn-asks key left site now caller later service peer cause target (TurnRefuse why) c desk = tt
+    (service : Option Service) (cause : Option ℕ) (target : Target) (turn : Turn) (c : Call) (desk : Desk) →
+    Asks key (on_turn (divert left site now caller) site now.at caller service cause target turn c desk)
+turn-asks key left site now caller later service cause target (TurnOffer peer waiting) c desk = tt
+turn-asks key left site now caller later service cause target (TurnDivert due) c desk = later service due (passed_by now.at service c) desk
+turn-asks key left site now caller later service cause target (TurnRefuse why) c desk = tt
 
-unless-asks : (key : TKey) (refuses : Bool) (why : Cause) (go : Call → Desk → Step) (site : Site) (at : ℕ) (caller : Leg) (c : Call) (desk : Desk) → Asks key (go c desk) →
-    Asks key (if refuses then refused site at caller why c desk else go c desk)
-unless-asks key true why go site at caller c desk a = tt
-unless-asks key false why go site at caller c desk a = a
+unless-asks : (key : TKey) (refusal : Option Cause) (go : Call → Desk → Step) (site : Site) (at : ℕ) (caller : Leg) (c : Call) (desk : Desk) → Asks key (go c desk) →
+    Asks key (made_unless refusal go site at caller c desk)
+unless-asks key (Some why) go site at caller c desk a = tt
+unless-asks key None go site at caller c desk a = a
 
 target-asks : (key : TKey) (left : ℕ) (site : Site) (now : Standing) (caller : Leg) → DivertAsks key left site now caller → (cause : Option ℕ) (target : Target) (c : Call) (desk : Desk) →
     Asks key (at_target (divert left site now caller) site now caller cause target c desk)
 target-asks key left site now caller later cause target c desk =
-    turn-asks key left site now caller later (service_at site now c.opening cause target) (peer_for site c.opening target) cause target
+    turn-asks key left site now caller later (service_at site now c.opening cause target) cause target
     (decided_at site now c.opening (is_diverted c) cause target (service_at site now c.opening cause target) (peer_for site c.opening target)) c desk
 
 divert-asks : (key : TKey) (left : ℕ) (site : Site) (now : Standing) (caller : Leg) → DivertAsks key left site now caller
 unfolding divert
-divert-asks key zero site now caller service due c desk = unless-asks key (is_barred site c.opening now.at service due) causes.OutgoingBarred (refused site now.at caller (too_many due)) site now.at caller c desk tt
+divert-asks key zero site now caller service due c desk = unless-asks key (refusal_by 0 site now.at service due c) (refused site now.at caller (too_many due.cause)) site now.at caller c desk tt
 divert-asks key (suc left) site now caller service due c desk =
     let target = target_of site due in
     let next = diverted target now.at left service due c in
     let onward = made (at_target (divert left site now caller) site now caller (Some due.cause) target) site target now.at left service due in
-    unless-asks key (is_barred site c.opening now.at service due) causes.OutgoingBarred (unless_reached due onward site now.at caller) site now.at caller c desk
-    (unless-asks key (is_reached due.bound c.diversions.count) (too_many due) onward site now.at caller c desk
-    (target-asks key left site now caller (divert-asks key left site now caller) (Some due.cause) target next (told_of site due next desk)))
+    unless-asks key (refusal_by (suc left) site now.at service due c) onward site now.at caller c desk
+    (target-asks key left site now caller (divert-asks key left site now caller) (Some due.cause) target next (told_of site due next desk))
 
 refused-asks : (key : TKey) (site : Site) (at : ℕ) (caller : Leg) (service : Option Service) (m : Option Said) (cause : Cause) (c : Call) (desk : Desk) → Asks key (refused_by site at caller service m cause c desk)
 refused-asks key site at caller service None cause c desk = tt

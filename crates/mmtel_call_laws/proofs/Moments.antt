@@ -6,18 +6,18 @@ use Rattle.mmtel_answers.specs.Said.{Said, status_of}
 use Rattle.mmtel_desk.specs.declared.desks.Desk.{Desk}
 use Rattle.mmtel_leg.specs.Legs.{Leg}
 use Rattle.mmtel_precedence.specs.Calls.{Answer, Cancel, Deflection, End, Ended, NoReply, NotReachable, Other, Standing, UserBusy}
-use Rattle.mmtel_precedence.specs.Services.{DueDiversion, is_reached}
+use Rattle.mmtel_precedence.specs.Services.{DueDiversion}
 use Rattle.mmtel_precedence.specs.Turns.{AfterEnd, EndAnswered, EndDivert, EndRefuse, Turn, TurnDivert, TurnOffer, TurnRefuse}
+use Rattle.mmtel_precedence.specs.Verdicts.{too_many}
 use Rattle.mmtel_targets.specs.declared.targets.Target.{Target}
 use Rattle.mmtel_types.specs.declared.causes.Cause.{Cause}
 use Rattle.mmtel_types.specs.declared.causes.Cause.TheVariants as causes
-use Rattle.mmtel_types.specs.declared.numbers.Peer.{Peer}
-use Rattle.mmtel_call_decisions.specs.Decisions.{decided_after, decided_at, handed_on, is_barred, is_status, peer_for, service_at, target_of}
+use Rattle.mmtel_call_decisions.specs.Decisions.{decided_after, decided_at, handed_on, is_status, peer_for, service_at, target_of}
 use Rattle.mmtel_call_decisions.specs.Opening.{first_of, refusal_of}
 use Rattle.mmtel_call_decisions.specs.Site.{Site}
 use Rattle.mmtel_call_decisions.specs.declared.openings.Service.{Service}
 use Rattle.mmtel_call.specs.Closing.{Step, over, with_past}
-use Rattle.mmtel_call.specs.Diverting.{at_target, divert, diverted, goes_on, is_diverted, made, on_end, on_turn, passed_by, refused, refused_by, told_of, too_many, unless_reached}
+use Rattle.mmtel_call.specs.Diverting.{at_target, divert, diverted, goes_on, is_diverted, made, made_unless, on_end, on_turn, passed_by, refusal_by, refused, refused_by, told_of}
 use Rattle.mmtel_call.specs.Opening.{caller_of, new_call, opened, unless_refused}
 use Rattle.mmtel_call.specs.Sending.{relayed_to_caller, told_caller}
 use Rattle.mmtel_call.specs.declared.calls.Call.{Call}
@@ -40,32 +40,30 @@ abbrev DivertKeeps : ℕ → Site → Standing → Leg → Type 0
 DivertKeeps left site now caller = (service : Option Service) (due : DueDiversion) (c : Call) (desk : Desk) → Keeps c.answered (divert left site now caller service due c desk)
 
 turn-keeps : (left : ℕ) (site : Site) (now : Standing) (caller : Leg) → DivertKeeps left site now caller →
-    (service : Option Service) (peer : Option Peer) (cause : Option ℕ) (target : Target) (turn : Turn) (c : Call) (desk : Desk) → Keeps c.answered (on_turn (divert left site now caller) site now.at caller service peer cause target turn c desk)
-turn-keeps left site now caller later service None cause target (TurnOffer waiting) c desk = refl
-turn-keeps left site now caller later service (Some peer) cause target (TurnOffer waiting) c desk = refl
-turn-keeps left site now caller later service peer cause target (TurnDivert due) c desk = later service due (passed_by now.at service c) desk
-turn-keeps left site now caller later service peer cause target (TurnRefuse why) c desk = refl
+    (service : Option Service) (cause : Option ℕ) (target : Target) (turn : Turn) (c : Call) (desk : Desk) → Keeps c.answered (on_turn (divert left site now caller) site now.at caller service cause target turn c desk)
+turn-keeps left site now caller later service cause target (TurnOffer peer waiting) c desk = refl
+turn-keeps left site now caller later service cause target (TurnDivert due) c desk = later service due (passed_by now.at service c) desk
+turn-keeps left site now caller later service cause target (TurnRefuse why) c desk = refl
 
-unless-keeps : (answered : Option ℕ) (refuses : Bool) (why : Cause) (onward : Call → Desk → Step) (site : Site) (at : ℕ) (caller : Leg) (c : Call) (desk : Desk) → c.answered ≡ answered → Keeps answered (onward c desk) →
-    Keeps answered (if refuses then refused site at caller why c desk else onward c desk)
-unless-keeps answered true why onward site at caller c desk e keeps = e
-unless-keeps answered false why onward site at caller c desk e keeps = keeps
+unless-keeps : (answered : Option ℕ) (refusal : Option Cause) (onward : Call → Desk → Step) (site : Site) (at : ℕ) (caller : Leg) (c : Call) (desk : Desk) → c.answered ≡ answered → Keeps answered (onward c desk) →
+    Keeps answered (made_unless refusal onward site at caller c desk)
+unless-keeps answered (Some why) onward site at caller c desk e keeps = e
+unless-keeps answered None onward site at caller c desk e keeps = keeps
 
 target-keeps : (left : ℕ) (site : Site) (now : Standing) (caller : Leg) → DivertKeeps left site now caller → (cause : Option ℕ) (target : Target) (c : Call) (desk : Desk) → Keeps c.answered (at_target (divert left site now caller) site now caller cause target c desk)
 target-keeps left site now caller later cause target c desk =
-    turn-keeps left site now caller later (service_at site now c.opening cause target) (peer_for site c.opening target) cause target
+    turn-keeps left site now caller later (service_at site now c.opening cause target) cause target
     (decided_at site now c.opening (is_diverted c) cause target (service_at site now c.opening cause target) (peer_for site c.opening target)) c desk
 
 divert-keeps : (left : ℕ) (site : Site) (now : Standing) (caller : Leg) → DivertKeeps left site now caller
 unfolding divert
-divert-keeps zero site now caller service due c desk = unless-keeps c.answered (is_barred site c.opening now.at service due) causes.OutgoingBarred (refused site now.at caller (too_many due)) site now.at caller c desk refl refl
+divert-keeps zero site now caller service due c desk = unless-keeps c.answered (refusal_by 0 site now.at service due c) (refused site now.at caller (too_many due.cause)) site now.at caller c desk refl refl
 divert-keeps (suc left) site now caller service due c desk =
     let target = target_of site due in
     let next = diverted target now.at left service due c in
     let onward = made (at_target (divert left site now caller) site now caller (Some due.cause) target) site target now.at left service due in
-    unless-keeps c.answered (is_barred site c.opening now.at service due) causes.OutgoingBarred (unless_reached due onward site now.at caller) site now.at caller c desk refl
-    (unless-keeps c.answered (is_reached due.bound c.diversions.count) (too_many due) onward site now.at caller c desk refl
-    (target-keeps left site now caller (divert-keeps left site now caller) (Some due.cause) target next (told_of site due next desk)))
+    unless-keeps c.answered (refusal_by (suc left) site now.at service due c) onward site now.at caller c desk refl
+    (target-keeps left site now caller (divert-keeps left site now caller) (Some due.cause) target next (told_of site due next desk))
 
 refused-keeps : (site : Site) (at : ℕ) (caller : Leg) (service : Option Service) (m : Option Said) (cause : Cause) (c : Call) (desk : Desk) → Keeps c.answered (refused_by site at caller service m cause c desk)
 refused-keeps site at caller service None cause c desk = refl

@@ -6,7 +6,7 @@ use Rattle.mmtel_answers.specs.Said.{Said, status_of}
 use Rattle.mmtel_leg.specs.declared.dialogues.InFlight.TheVariants as in_flight
 use Rattle.mmtel_precedence.specs.Attempts.{end_by, end_by_response}
 use Rattle.mmtel_precedence.specs.Calls.{Answer, Cancel, Deflection, End, Ended, NoReply, NotReachable, Other, UserBusy}
-use Rattle.mmtel_precedence.specs.declared.attempts.AttemptEvent.TheVariants as events
+use Rattle.mmtel_precedence.specs.Attempts as events
 use Rattle.mmtel_transaction.specs.declared.words.DueWord.{DueWord}
 use Rattle.mmtel_transaction.specs.declared.words.DueWord.TheVariants as due
 use Rattle.mmtel_types.specs.declared.sides.Side.{Side}

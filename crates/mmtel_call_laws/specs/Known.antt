@@ -11,6 +11,7 @@ use Rattle.mmtel_precedence.specs.Turns.{sheet_of}
 use Rattle.mmtel_rules.specs.Identities.{has_identity, identity_holds}
 use Rattle.mmtel_sheet_values.specs.declared.values.Sheet.{Sheet}
 use Rattle.mmtel_trust.specs.Accounts.{account_of}
+use Rattle.mmtel_types.specs.declared.numbers.Peer.{Peer}
 use Rattle.mmtel_call_decisions.specs.Opening.{first_of, received_list}
 use Rattle.mmtel_call_decisions.specs.Site.{Site}
 use Rattle.mmtel_call_decisions.specs.declared.openings.Opening.{Opening}
@@ -22,9 +23,9 @@ use Rattle.mmtel_call_laws.specs.Story.{Heard, Start, call_after, opening_in}
 
 -- ---- the call
 
--- a peer leads to a target
-abbrev pub leads_to : Site → Opening → Uri → Bool
-leads_to site o uri = is_some (next_hop site.peers.routes o.routes uri)
+-- the peer that leads to a target
+abbrev pub peer_to : Site → Opening → Uri → Option Peer
+peer_to site o uri = next_hop site.peers.routes o.routes uri
 
 -- the diversions that its History-Info told when it came in
 abbrev pub received_in : Opening → ℕ
@@ -44,7 +45,7 @@ known_as site first o later = record {
   country = site.country;
   home = site.home;
   account_of = account_of site.accounts;
-  leads = leads_to site o;
+  peer_of = peer_to site o;
   first = (first_of o).uri;
   opening = first;
   later = later;

@@ -1,6 +1,6 @@
 -- To whom each seat of a conference room is charged (TS 32.260 §5): the account of whoever came, was adopted or was invited, which the deed tells that gave the seat; and
 -- since when: since the deed by which somebody was seated.
-use Rattle.std.specs.Prelude.{◌≡◌, ◌⊎◌, ℕ, ◌&&◌, nat_le, nat_lt, Bool, true, false, List, [], ◌∷◌, map, Option, Some, None, codes}
+use Rattle.std.specs.Prelude.{◌≡◌, ◌⊎◌, ℕ, Bool, true, false, List, [], ◌∷◌, map, Option, Some, None, codes}
 use Rattle.std.specs.List.{flat_map}
 use Rattle.mmtel_answers.specs.Said.{status_of}
 use Rattle.mmtel_call_laws.specs.Heads.Emits.{Each}
@@ -19,6 +19,7 @@ use Rattle.mmtel_lex.specs.declared.values.Uri.{Uri}
 use Rattle.mmtel_message.specs.Faults.{is_method}
 use Rattle.mmtel_scan.specs.Numbers.{next_number}
 use Rattle.mmtel_seats.specs.declared.seats.Seat.{Seat}
+use Rattle.mmtel_sip_rules.specs.Statuses.{is_success}
 use Rattle.mmtel_trust.specs.Accounts.{account_of}
 use Rattle.mmtel_types.specs.declared.numbers.Account.{Account}
 use Rattle.mmtel_types.specs.declared.numbers.RoomNo.{RoomNo}
@@ -112,7 +113,7 @@ Gives site (Drops count) before place = ⊥
 abbrev pub is_agreement : RoomSignal → Bool
 is_agreement (signal.Request room seat key request) = false
 is_agreement (signal.Ack room seat ack) = false
-is_agreement (signal.Answer key response) = nat_le 200 (status_of response.heard.start) && nat_lt (status_of response.heard.start) 300
+is_agreement (signal.Answer key response) = is_success (status_of response.heard.start)
 is_agreement (signal.Silent branch method) = false
 is_agreement (signal.Due room seat what) = false
 is_agreement (signal.Over key) = false

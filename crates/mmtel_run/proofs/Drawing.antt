@@ -10,7 +10,7 @@ use Rattle.mmtel_b2bua.specs.declared.entries.Entry.{Entry}
 use Rattle.mmtel_b2bua.specs.declared.entries.InviteKey.{InviteKey}
 use Rattle.mmtel_b2bua.specs.declared.signals.Signal as table
 use Rattle.mmtel_b2bua.specs.declared.signals.Signal.TheVariants as of_table
-use Rattle.mmtel_call_decisions.specs.Decisions.{decided_after, decided_at, handed_on, is_barred, is_status, its_sheet, peer_for, service_at, target_of, time_of}
+use Rattle.mmtel_call_decisions.specs.Decisions.{decided_after, decided_at, handed_on, is_status, its_sheet, peer_for, service_at, target_of, time_of}
 use Rattle.mmtel_desk.specs.Invites.{invite_answered, invite_silent}
 use Rattle.mmtel_call_decisions.specs.Opening.{first_of, opening_of, refusal_of}
 use Rattle.mmtel_call_decisions.specs.Requests.{is_same_side}
@@ -19,7 +19,7 @@ use Rattle.mmtel_call_decisions.specs.declared.openings.Arrival.{Arrival}
 use Rattle.mmtel_call_decisions.specs.declared.openings.Service.{Service}
 use Rattle.mmtel_call.specs.Answered.{acknowledges, acked_across, parted}
 use Rattle.mmtel_call.specs.Closing.{Step, onward, over, with_past}
-use Rattle.mmtel_call.specs.Diverting.{at_target, divert, diverted, goes_on, is_diverted, made, on_end, on_turn, passed_by, refused, refused_by, told_of, too_many, unless_barred, unless_reached}
+use Rattle.mmtel_call.specs.Diverting.{at_target, divert, diverted, goes_on, is_diverted, made, made_unless, on_end, on_turn, passed_by, refusal_by, refused, refused_by, told_of}
 use Rattle.mmtel_call.specs.Leaving.{acked_again, answered_at, answered_loose, answered_other, answered_taken, answered_taken_at, as_loose, forked, is_fork, is_success, is_taken, is_talking, repeated, without_silent}
 use Rattle.mmtel_call.specs.Lending.{finished, finished_in}
 use Rattle.mmtel_call.specs.Opening.{caller_of, new_call, opened, unless_refused}
@@ -57,8 +57,9 @@ use Rattle.mmtel_leg.specs.declared.remotes.Remote.{Remote}
 use Rattle.mmtel_message.specs.Faults.{is_method}
 use Rattle.mmtel_precedence.specs.Attempts.{end_by_time, rings}
 use Rattle.mmtel_precedence.specs.Calls.{End, NoReply, NotReachable, Standing}
-use Rattle.mmtel_precedence.specs.Services.{DueDiversion, is_reached}
+use Rattle.mmtel_precedence.specs.Services.{DueDiversion}
 use Rattle.mmtel_precedence.specs.Turns.{AfterEnd, EndAnswered, EndDivert, EndRefuse, Turn, TurnDivert, TurnOffer, TurnRefuse}
+use Rattle.mmtel_precedence.specs.Verdicts.{too_many}
 use Rattle.mmtel_sheet_values.specs.View.{InForce}
 use Rattle.mmtel_targets.specs.declared.targets.Target.{Target}
 use Rattle.mmtel_transaction.specs.declared.words.DueWord.{DueWord}
@@ -68,7 +69,6 @@ use Rattle.mmtel_trust.specs.Digest.{HeardMessage}
 use Rattle.mmtel_types.specs.declared.addrs.Addr.{Addr}
 use Rattle.mmtel_types.specs.declared.causes.Cause.{Cause}
 use Rattle.mmtel_types.specs.declared.numbers.Account.{Account}
-use Rattle.mmtel_types.specs.declared.numbers.Peer.{Peer}
 use Rattle.mmtel_types.specs.declared.sides.Side.{Side}
 use Rattle.mmtel_types.specs.declared.sides.Side.TheVariants.{Caller, Callee}
 use Rattle.mmtel_run.specs.Short.{CallsDrawOn, CallsEndOn, DrawsOn}
@@ -138,27 +138,26 @@ abbrev DivertsOn : (left : ℕ) → Site → Standing → Leg → Type 0
 DivertsOn left site now caller = (service : Option Service) (due : DueDiversion) (c : Call) (d : Desk) → On d (divert left site now caller service due c d).desk
 
 turn-on : (left : ℕ) (site : Site) (now : Standing) (caller : Leg) → DivertsOn left site now caller →
-    (service : Option Service) (peer : Option Peer) (cause : Option ℕ) (target : Target) (turn : Turn) (c : Call) (d : Desk) →
-    On d (on_turn (divert left site now caller) site now.at caller service peer cause target turn c d).desk
-turn-on left site now caller later service None cause target (TurnOffer waiting) c d = none d
-turn-on left site now caller later service (Some peer) cause target (TurnOffer waiting) c d = thrice d
-turn-on left site now caller later service peer cause target (TurnDivert due) c d = later service due (passed_by now.at service c) d
-turn-on left site now caller later service peer cause target (TurnRefuse why) c d = none d
+    (service : Option Service) (cause : Option ℕ) (target : Target) (turn : Turn) (c : Call) (d : Desk) →
+    On d (on_turn (divert left site now caller) site now.at caller service cause target turn c d).desk
+turn-on left site now caller later service cause target (TurnOffer peer waiting) c d = thrice d
+turn-on left site now caller later service cause target (TurnDivert due) c d = later service due (passed_by now.at service c) d
+turn-on left site now caller later service cause target (TurnRefuse why) c d = none d
 
 target-on : (left : ℕ) (site : Site) (now : Standing) (caller : Leg) → DivertsOn left site now caller →
     (cause : Option ℕ) (target : Target) (c : Call) (d : Desk) → On d (at_target (divert left site now caller) site now caller cause target c d).desk
 target-on left site now caller later cause target c d =
-    turn-on left site now caller later (service_at site now c.opening cause target) (peer_for site c.opening target) cause target
+    turn-on left site now caller later (service_at site now c.opening cause target) cause target
     (decided_at site now c.opening (is_diverted c) cause target (service_at site now c.opening cause target) (peer_for site c.opening target)) c d
 
-unless-on : (barred : Bool) (onward : Call → Desk → Step) (site : Site) (at : ℕ) (caller : Leg) (c : Call) (d : Desk) → On d (onward c d).desk → On d (unless_barred barred onward site at caller c d).desk
-unless-on true onward site at caller c d on = none d
-unless-on false onward site at caller c d on = on
+unless-on : (refusal : Option Cause) (onward : Call → Desk → Step) (site : Site) (at : ℕ) (caller : Leg) (c : Call) (d : Desk) → On d (onward c d).desk → On d (made_unless refusal onward site at caller c d).desk
+unless-on (Some cause) onward site at caller c d on = none d
+unless-on None onward site at caller c d on = on
 
 divert-on : (left : ℕ) (site : Site) (now : Standing) (caller : Leg) → DivertsOn left site now caller
 unfolding divert
 divert-on zero site now caller service due c d =
-    unless-on (is_barred site c.opening now.at service due) (refused site now.at caller (too_many due)) site now.at caller c d (none d)
+    unless-on (refusal_by 0 site now.at service due c) (refused site now.at caller (too_many due.cause)) site now.at caller c d (none d)
 divert-on (suc left) site now caller service due c d =
     let target = target_of site due in
     let next = diverted target now.at left service due c in
@@ -166,9 +165,8 @@ divert-on (suc left) site now caller service due c d =
     let inner : On (told_of site due next d) (at_target (divert left site now caller) site now caller (Some due.cause) target next (told_of site due next d)).desk =
     target-on left site now caller (divert-on left site now caller) (Some due.cause) target next (told_of site due next d) in
     let onward : Call → Desk → Step = made (at_target (divert left site now caller) site now caller (Some due.cause) target) site target now.at left service due in
-    unless-on (is_barred site c.opening now.at service due) (unless_reached due onward site now.at caller) site now.at caller c d
-    (either_step (is_reached due.bound c.diversions.count) d (refused site now.at caller (too_many due) c d) (onward c d) (none d)
-    (then_on d (told_of site due next d) (at_target (divert left site now caller) site now caller (Some due.cause) target next (told_of site due next d)).desk told inner))
+    unless-on (refusal_by (suc left) site now.at service due c) onward site now.at caller c d
+    (then_on d (told_of site due next d) (at_target (divert left site now caller) site now caller (Some due.cause) target next (told_of site due next d)).desk told inner)
 
 refused-on : (site : Site) (at : ℕ) (caller : Leg) (service : Option Service) (m : Option Said) (cause : Cause) (c : Call) (d : Desk) → On d (refused_by site at caller service m cause c d).desk
 refused-on site at caller service None cause c d = none d

@@ -2,7 +2,7 @@
 use Rattle.std.proofs.Common.{◌≡◌, ℕ, zero, suc, ◌+◌, ◌≤◌, List, refl, ap, Bool, true, false, Option, Some, None, inl, inr, arith}
 use Rattle.std.specs.Prelude.{◌⊎◌, ◌==◌, if◌then◌else◌}
 use Rattle.mmtel_answers.specs.Said.{Said}
-use Rattle.mmtel_call_decisions.specs.Decisions.{decided_after, decided_at, handed_on, is_barred, is_status, peer_for, service_at, target_of}
+use Rattle.mmtel_call_decisions.specs.Decisions.{decided_after, decided_at, handed_on, is_status, peer_for, service_at, target_of}
 use Rattle.mmtel_desk.specs.Invites.{invite_silent}
 use Rattle.mmtel_call_decisions.specs.Site.{Site}
 use Rattle.mmtel_call_decisions.specs.declared.openings.Service.{Service}
@@ -15,7 +15,7 @@ use Rattle.mmtel_call.specs.declared.calls.Stage.TheVariants.{Answered, Asking, 
 use Rattle.mmtel_call.specs.declared.calls.Trial.{Trial}
 use Rattle.mmtel_call.specs.Closing.{Step, onward, over, with_past}
 use Rattle.mmtel_call.specs.Sending.{relayed_to_caller}
-use Rattle.mmtel_call.specs.Diverting.{at_target, divert, diverted, goes_on, is_diverted, made, on_end, on_turn, passed_by, refused, refused_by, told_of, too_many, unless_barred, unless_reached}
+use Rattle.mmtel_call.specs.Diverting.{at_target, divert, diverted, goes_on, is_diverted, made, made_unless, on_end, on_turn, passed_by, refusal_by, refused, refused_by, told_of}
 use Rattle.mmtel_call.specs.Leaving.{without_key, without_silent}
 use Rattle.mmtel_call.specs.Ringing.{cancelled_attempt, left, on_due, timed_out}
 use Rattle.mmtel_call.specs.Stages.{is_due_at, on_silence_at, rung_out}
@@ -27,13 +27,13 @@ use Rattle.mmtel_desk.specs.declared.desks.Desk.{Desk}
 use Rattle.mmtel_leg.specs.Legs.{Leg}
 use Rattle.mmtel_precedence.specs.Attempts.{end_by_time}
 use Rattle.mmtel_precedence.specs.Calls.{End, NoReply, NotReachable, Standing}
-use Rattle.mmtel_precedence.specs.Services.{DueDiversion, is_reached}
+use Rattle.mmtel_precedence.specs.Services.{DueDiversion}
 use Rattle.mmtel_precedence.specs.Turns.{AfterEnd, EndAnswered, EndDivert, EndRefuse, Turn, TurnDivert, TurnOffer, TurnRefuse}
+use Rattle.mmtel_precedence.specs.Verdicts.{too_many}
 use Rattle.mmtel_targets.specs.declared.targets.Target.{Target}
 use Rattle.mmtel_transaction.specs.declared.words.DueWord.{DueWord}
 use Rattle.mmtel_transaction.specs.declared.words.DueWord.TheVariants as due
 use Rattle.mmtel_types.specs.declared.causes.Cause.{Cause}
-use Rattle.mmtel_types.specs.declared.numbers.Peer.{Peer}
 
 -- so many ways to go a call has: while it is offered as many as diversions are left, and two; once it is answered one; once it is over none
 abbrev pub ways_in : Phase → (left : ℕ) → ℕ
@@ -56,43 +56,36 @@ abbrev DivertLeaves : (left : ℕ) → Site → Standing → Leg → Type 0
 DivertLeaves left site now caller = (service : Option Service) (due : DueDiversion) (c : Call) (desk : Desk) → Leaves (1 + left) (divert left site now caller service due c desk)
 
 turn-leaves : (left : ℕ) (site : Site) (now : Standing) (caller : Leg) → DivertLeaves left site now caller →
-    (service : Option Service) (peer : Option Peer) (cause : Option ℕ) (target : Target) (turn : Turn) (c : Call) (desk : Desk) → c.diversions.left ≡ left →
-    Leaves (2 + left) (on_turn (divert left site now caller) site now.at caller service peer cause target turn c desk)
-turn-leaves left site now caller later service None cause target (TurnOffer waiting) c desk e = omega arith
-turn-leaves left site now caller later service (Some peer) cause target (TurnOffer waiting) c desk e = omega (arith, e)
-turn-leaves left site now caller later service peer cause target (TurnDivert due) c desk e =
+    (service : Option Service) (cause : Option ℕ) (target : Target) (turn : Turn) (c : Call) (desk : Desk) → c.diversions.left ≡ left →
+    Leaves (2 + left) (on_turn (divert left site now caller) site now.at caller service cause target turn c desk)
+turn-leaves left site now caller later service cause target (TurnOffer peer waiting) c desk e = omega (arith, e)
+turn-leaves left site now caller later service cause target (TurnDivert due) c desk e =
     let less : ways (divert left site now caller service due (passed_by now.at service c) desk).call ≤ 1 + left = later service due (passed_by now.at service c) desk in
     omega (arith, less)
-turn-leaves left site now caller later service peer cause target (TurnRefuse why) c desk e = omega arith
+turn-leaves left site now caller later service cause target (TurnRefuse why) c desk e = omega arith
 
 target-leaves : (left : ℕ) (site : Site) (now : Standing) (caller : Leg) → DivertLeaves left site now caller →
     (cause : Option ℕ) (target : Target) (c : Call) (desk : Desk) → c.diversions.left ≡ left → Leaves (2 + left) (at_target (divert left site now caller) site now caller cause target c desk)
 target-leaves left site now caller later cause target c desk e =
-    turn-leaves left site now caller later (service_at site now c.opening cause target) (peer_for site c.opening target) cause target
+    turn-leaves left site now caller later (service_at site now c.opening cause target) cause target
     (decided_at site now c.opening (is_diverted c) cause target (service_at site now c.opening cause target) (peer_for site c.opening target)) c desk e
 
-unless-leaves : (most : ℕ) (barred : Bool) (onward : Call → Desk → Step) (site : Site) (at : ℕ) (caller : Leg) (c : Call) (desk : Desk) →
-    Leaves most (onward c desk) → Leaves most (unless_barred barred onward site at caller c desk)
-unless-leaves most true onward site at caller c desk leaves = omega arith
-unless-leaves most false onward site at caller c desk leaves = leaves
-
-reached-leaves : (most : ℕ) (reached : Bool) (made refused : Call → Desk → Step) (c : Call) (desk : Desk) →
-    Leaves most (refused c desk) → Leaves most (made c desk) → Leaves most (if reached then refused c desk else made c desk)
-reached-leaves most true made refused c desk x y = x
-reached-leaves most false made refused c desk x y = y
+unless-leaves : (most : ℕ) (refusal : Option Cause) (onward : Call → Desk → Step) (site : Site) (at : ℕ) (caller : Leg) (c : Call) (desk : Desk) →
+    Leaves most (onward c desk) → Leaves most (made_unless refusal onward site at caller c desk)
+unless-leaves most (Some cause) onward site at caller c desk leaves = omega arith
+unless-leaves most None onward site at caller c desk leaves = leaves
 
 divert-leaves : (left : ℕ) (site : Site) (now : Standing) (caller : Leg) → DivertLeaves left site now caller
 unfolding divert
 divert-leaves zero site now caller service due c desk =
-    unless-leaves 1 (is_barred site c.opening now.at service due) (refused site now.at caller (too_many due)) site now.at caller c desk (omega arith)
+    unless-leaves 1 (refusal_by 0 site now.at service due c) (refused site now.at caller (too_many due.cause)) site now.at caller c desk (omega arith)
 divert-leaves (suc left) site now caller service due c desk =
     let target = target_of site due in
     let next = diverted target now.at left service due c in
     let inner : Leaves (2 + left) (at_target (divert left site now caller) site now caller (Some due.cause) target next (told_of site due next desk)) =
     target-leaves left site now caller (divert-leaves left site now caller) (Some due.cause) target next (told_of site due next desk) refl in
     let onward : Call → Desk → Step = made (at_target (divert left site now caller) site now caller (Some due.cause) target) site target now.at left service due in
-    unless-leaves (1 + suc left) (is_barred site c.opening now.at service due) (unless_reached due onward site now.at caller) site now.at caller c desk
-    (reached-leaves (1 + suc left) (is_reached due.bound c.diversions.count) onward (refused site now.at caller (too_many due)) c desk (omega arith) (omega (arith, inner)))
+    unless-leaves (1 + suc left) (refusal_by (suc left) site now.at service due c) onward site now.at caller c desk (omega (arith, inner))
 
 -- ---- after an attempt
 

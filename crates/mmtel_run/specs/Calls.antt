@@ -10,6 +10,7 @@ use Rattle.mmtel_b2bua.specs.declared.signals.Signal.{Signal}
 use Rattle.mmtel_b2bua.specs.declared.signals.Signal.TheVariants as signal
 use Rattle.mmtel_call_decisions.specs.Site.{Site}
 use Rattle.mmtel_directory.specs.declared.directories.Directory.{Directory}
+pub use Rattle.mmtel_leg.specs.Names.{DialogName}
 use Rattle.mmtel_parties.specs.Parties.{parties_of, served_accounts}
 use Rattle.mmtel_parties.specs.declared.parties.Parties.{Parties}
 use Rattle.mmtel_rules.specs.declared.values.Identities2.{Identities2}
@@ -38,12 +39,7 @@ calls_after directory deeds = table_after (site_of directory) deeds
 
 -- ---- to which call a message belongs
 
--- the name of a dialog: its Call-ID, the server's tag, and that of the other side (§12)
-pub record DialogName : Type 0 where
-  pub call_id : List ℕ
-  pub local : List ℕ
-  pub remote : List ℕ
-
+-- the name of a dialog (§12), of its Call-ID, the server's tag and that of the other side
 abbrev pub name_by : Option (List ℕ) → Option (List ℕ) → Option (List ℕ) → Option DialogName
 name_by None local remote = None
 name_by (Some call_id) None remote = None

@@ -14,7 +14,7 @@ use Rattle.mmtel_transaction.specs.Answers.{Next, due_one, is_before, is_client_
 use Rattle.mmtel_transaction.specs.Calls.{Done, DidAck, DidAsk, DidBegin, DidFire, DidHear, DidReply, change, entry_of, heard_change, heard_opens, is_live, live, offers, opened, opens, step_of}
 use Rattle.mmtel_transaction.specs.Changes.{acked, answered, finished, fired, hit, is_ack_of, kept, rang, replied}
 use Rattle.mmtel_transaction.specs.Deadlines.{deadline, resend_at}
-use Rattle.mmtel_transaction.specs.Heads.{head_of, is_2xx, is_ack, is_invite, is_provisional, is_refusal, is_same_call}
+use Rattle.mmtel_transaction.specs.Heads.{head_of, is_success, is_ack, is_invite, is_provisional, is_refusal, is_same_call}
 use Rattle.mmtel_transaction.specs.Runs.{IsNextOf, IsRun}
 use Rattle.mmtel_transaction.specs.declared.entries.Entry.{Entry}
 use Rattle.mmtel_transaction.specs.declared.entries.Plan.TheVariants.{Idle}
@@ -306,7 +306,7 @@ module _ (p : Peer) (h : List Done) (x : Entry) (n : ℕ) (key : x.key ≡ n) (a
   heard-waits step m now (part.Acked k) to = unless-hit k (acked step now) (λ same. acked-none k to same)
   heard-waits step m now part.AckOf2xx to =
       let none : is_ack_of (head_of m) x ≡ false =
-      ap (λ done. x.is_server && is_invite x.asked && is_2xx done && not x.is_acked && is_same_call x.asked (head_of m) && bytes_eq x.to_tag (head_of m).to_tag) w.done
+      ap (λ done. x.is_server && is_invite x.asked && is_success done && not x.is_acked && is_same_call x.asked (head_of m) && bytes_eq x.to_tag (head_of m).to_tag) w.done
       ∙ no-2xx x.is_server (is_invite x.asked) (not x.is_acked) (is_same_call x.asked (head_of m)) (bytes_eq x.to_tag (head_of m).to_tag) in
       subst (IsWaiting p) (sym (if-false (is_ack_of (head_of m) x) _ x none)) w
   heard-waits step m now part.Stray to = w

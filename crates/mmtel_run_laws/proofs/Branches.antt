@@ -1,40 +1,37 @@
 -- The branch of an INVITE that the server sent is read back as it was written, and a response names the branch of the INVITE that it answers (RFC 3261 §8.1.1.7, §17.1.3).
-use Rattle.std.proofs.Common.{◌≡◌, ◌∙◌, ◌^◌, ◌<◌, ◌≤◌, ◌+◌, ◌-◌, Bool, true, false, inl, inr, ℕ, List, [], ◌∷◌, ◌++◌, Ok, Option, Some, None, append-nil, ap, arith, codes, decimal, drop, get_or, length, refl, subst, sym, take, nat_lt}
+use Rattle.std.proofs.Common.{◌≡◌, ◌∙◌, ◌^◌, ◌<◌, ◌+◌, ◌-◌, Bool, true, false, inl, inr, ℕ, List, [], ◌∷◌, ◌++◌, Ok, Option, Some, None, ap, arith, codes, decimal, drop, length, refl, subst, sym, take, nat_lt}
 use Rattle.std.specs.Prelude.{◌⊎◌, if◌then◌else◌}
 use Rattle.std.specs.Option.{unwrap_or}
 use Rattle.std.specs.Str.{bytes_eq}
 use Rattle.std.proofs.lemmas.Bool.{cases_Bool}
 use Rattle.std.proofs.lemmas.Bool.Decides.{nat_tests}
-use Rattle.std.proofs.lemmas.Fmt.{length-decimal-le}
 use Rattle.std.proofs.lemmas.List.{append_cancel_left, length-append, take-append-drop}
 use Rattle.std.proofs.lemmas.Slice.Eq.{bytes_eq-Decides}
 use Rattle.mmtel_answers.specs.Said.{Said}
 use Rattle.mmtel_desk.specs.Invites.{answers_invite, behind, branch_in, first_via, invite_answered, is_invite_method, of_invite, via_branch}
 use Rattle.mmtel_call_laws.specs.Branches.Sent.{IsInvite, IsNoInvite}
 use Rattle.mmtel_leg.specs.Readings.{via_of}
-use Rattle.mmtel_leg.specs.Requests.{Given, numbered}
-use Rattle.mmtel_leg.specs.declared.dialogues.Dialogue.{Dialogue}
-use Rattle.mmtel_lex.specs.Grammar.{AreParams, IsToken}
+use Rattle.mmtel_leg.specs.Requests.{Given}
+use Rattle.mmtel_leg.proofs.FiveLaws.{via_read}
+use Rattle.mmtel_lex.specs.Grammar.{IsToken}
 use Rattle.mmtel_lex.specs.declared.values.NameAddr.{NameAddr}
-use Rattle.mmtel_lex.specs.declared.values.Param.{Param}
-use Rattle.mmtel_message.specs.Addresses.{addr_text, ip_text, via_text}
+use Rattle.mmtel_message.specs.Addresses.{addr_text, via_text}
 use Rattle.mmtel_message.specs.Faults.{is_request}
 use Rattle.mmtel_message.specs.Fields.{call_in, cseq_at, five_at, parties_in, via_at, via_in}
 use Rattle.mmtel_message.specs.Message.{Line, Message, first_value, is_line, line, line_texts}
 use Rattle.mmtel_message.specs.Promises.{IsOnly}
 use Rattle.mmtel_message.specs.Reads.{reads}
-use Rattle.mmtel_message.specs.Vias.{IsSource, via_value}
+use Rattle.mmtel_message.specs.Vias.{IsSource}
 use Rattle.mmtel_message.specs.declared.fields.CSeq.{CSeq}
 use Rattle.mmtel_message.specs.declared.fields.Five.{Five}
 use Rattle.mmtel_message.specs.declared.fields.Via.{Via}
 use Rattle.mmtel_message.specs.declared.messages.Start.{Start}
 use Rattle.mmtel_message.specs.declared.messages.Start.TheVariants.{Request, Status}
-use Rattle.mmtel_message.proofs.ViaLaws.{ip_in, via_is_one, written_reads}
 use Rattle.mmtel_scan.specs.Chain.{◌>>=◌}
-use Rattle.mmtel_scan.specs.Classes.{IsAll, IsOneOrMore, in_class}
+use Rattle.mmtel_scan.specs.Classes.{IsAll, in_class}
 use Rattle.mmtel_scan.specs.Numbers.{next_number, token_text}
 use Rattle.mmtel_scan.specs.Scanning.{after_text}
-use Rattle.mmtel_scan.specs.declared.classes.Class.TheVariants.{Digit, Host, Token}
+use Rattle.mmtel_scan.specs.declared.classes.Class.TheVariants.{Digit, Token}
 use Rattle.mmtel_scan.proofs.Numerals.{decimal_writes}
 use Rattle.mmtel_scan.proofs.Runs.{wider}
 use Rattle.mmtel_scan.proofs.Trims.{all_append}
@@ -79,65 +76,7 @@ numbers_same differ text m n up high less small same =
     (ap (token_text text) (next_of m up less) ∙ (same ∙ ap (token_text text) (sym (next_of n high small)))) in
     omega (arith, before, up, high)
 
--- ---- an address is a host
-
-digit_host : (b : ℕ) → in_class Digit b ≡ true → in_class Host b ≡ true
-unfolding in_class
-digit_host b e = grind (arith, nat_tests)
-
-dot_host : in_class Host 46 ≡ true
-unfolding in_class
-dot_host = refl
-
--- two parts of an address, a dot between them
-dotted_length : (a b : List ℕ) (n m : ℕ) → length a ≤ n → length b ≤ m → length (a ++ 46 ∷ b) ≤ n + m + 1
-dotted_length a b n m x y = omega (arith, length-append a (46 ∷ b))
-
-byte_length : (ip : List ℕ) → ((i : ℕ) → get_or ip i 0 < 2 ^ 8) → (i : ℕ) → length (decimal (get_or ip i 0)) ≤ 3
-byte_length ip small i = let lt = small i in length-decimal-le 3 (get_or ip i 0) (omega arith) (omega (arith, lt)) (omega (arith, lt))
-
-ip_length : (ip : List ℕ) → ((i : ℕ) → get_or ip i 0 < 2 ^ 8) → length (ip_text ip) < 256
-ip_length ip small =
-    let d : ℕ → List ℕ = λ i. decimal (get_or ip i 0) in
-    let last : length (d 2 ++ 46 ∷ d 3) ≤ 7 = dotted_length (d 2) (d 3) 3 3 (byte_length ip small 2) (byte_length ip small 3) in
-    let three : length (d 1 ++ 46 ∷ (d 2 ++ 46 ∷ d 3)) ≤ 11 = dotted_length (d 1) (d 2 ++ 46 ∷ d 3) 3 7 (byte_length ip small 1) last in
-    let four : length (ip_text ip) ≤ 15 = dotted_length (d 0) (d 1 ++ 46 ∷ (d 2 ++ 46 ∷ d 3)) 3 11 (byte_length ip small 0) three in
-    omega (arith, four)
-
 -- ---- Via is read
-
-abbrev branch_of : List ℕ → Param
-branch_of branch = record { name = codes "branch"; value = Some (codes "z9hG4bK" ++ branch) }
-
-cookie_token : IsAll Token (codes "z9hG4bK")
-unfolding in_class
-cookie_token = refl
-
-name_token : IsToken (codes "branch")
-unfolding in_class
-name_token = record { filled = omega arith; each = refl }
-
-udp_token : IsToken (codes "UDP")
-unfolding in_class
-udp_token = record { filled = omega arith; each = refl }
-
-branch_token : (branch : List ℕ) → IsToken branch → IsToken (codes "z9hG4bK" ++ branch)
-branch_token branch is = record { filled = omega (arith, is.filled, length-append (codes "z9hG4bK") branch); each = all_append Token (codes "z9hG4bK") branch cookie_token is.each }
-
-via_whole : (sip : Addr) (branch : List ℕ) → via_text sip branch ≡ via_value (via_of sip branch)
-via_whole sip branch = ap (λ (l : List ℕ). codes "SIP/2.0/UDP " ++ (addr_text sip ++ l)) (sym (append-nil (codes ";branch=z9hG4bK" ++ branch)))
-
-via_again : (sip : Addr) (branch : List ℕ) → IsSource sip → 0 < sip.port → IsToken branch → via_at (via_text sip branch) ≡ Some (via_of sip branch)
-via_again sip branch is low token =
-    let are : AreParams (branch_of branch ∷ []) = (record { name = name_token; value = inl (branch_token branch token) }, tt) in
-    let host : IsOneOrMore Host (ip_text sip.ip) = ip_in Host digit_host dot_host sip is in
-    ap via_at (via_whole sip branch) ∙ written_reads (codes "UDP") (ip_text sip.ip) sip.port (branch_of branch ∷ []) udp_token host (ip_length sip.ip is.bytes) low is.port are
-
-via_read : (d : Dialogue) (number : ℕ) (method : List ℕ) (given : Given) → IsSource given.sip → 0 < given.sip.port → IsToken given.branch → via_in (numbered d number method given).lines ≡ Some (via_of given.sip given.branch)
-unfolding line
-via_read d number method given is low token =
-    let again = via_again given.sip given.branch is low token in
-    ap via_at (via_is_one (via_text given.sip given.branch) (via_of given.sip given.branch) again) ∙ again
 
 -- the Via of the five fields is that
 five_by : (v : Option Via) (p : Option (NameAddr × NameAddr)) (c : Option (List ℕ × CSeq)) (five : Five) →

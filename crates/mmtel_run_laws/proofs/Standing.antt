@@ -40,7 +40,7 @@ use Rattle.mmtel_run.specs.Events.{Happened}
 use Rattle.mmtel_run.specs.InForce.{CallsAreToldWhatIsInForce, LastIsInForce, TextsAreThoseKept, uploads_of}
 use Rattle.mmtel_run.specs.Run.{world_after}
 use Rattle.mmtel_run.specs.World.{World}
-use Rattle.mmtel_run_laws.specs.Stood.{HeardIn, Later, NotYet, Opening, ReachedIn, StoodIn, made_by}
+use Rattle.mmtel_run_laws.specs.Stood.{HeardIn, Later, NotYet, Opening, ReachedIn, StoodIn, inputs_of, made_by}
 use Rattle.mmtel_run_laws.proofs.Telling.{AllTold, IsTold, ToldIn}
 
 -- ---- what is no signal makes no diversion
@@ -85,7 +85,7 @@ made-none k one more same before after = absurd (let e : false ≡ true = sym be
 module _ (texts_law : TextsAreThoseKept) (last_law : LastIsInForce) (told_law : CallsAreToldWhatIsInForce)
     (d : Directory) (token : List ℕ) (loaded : Texts) (fuel : ℕ) (whole : List Happened) where
   abbrev StoodSo : ℕ → Life → Option Account → Standing → Type 0
-  StoodSo number came own now = StoodIn d token loaded fuel whole number came own now
+  StoodSo number came own now = StoodIn (inputs_of d token loaded) fuel whole number came own now
 
   -- a deed of the call of this number, by which its life came to be this one
   record ComesBy (number : ℕ) (deed : Deed) (older : List Deed) (came : Life) : Type 0 where
@@ -207,10 +207,10 @@ module _ (texts_law : TextsAreThoseKept) (last_law : LastIsInForce) (told_law : 
     whole_life = record { start = s; events = events }
 
     abbrev Reached : ℕ → Standing → Type 0
-    Reached k now = ReachedIn d token loaded fuel whole number whole_life k now
+    Reached k now = ReachedIn (inputs_of d token loaded) fuel whole number whole_life k now
 
     abbrev HeardSo : Standing → Type 0
-    HeardSo now = HeardIn d token loaded fuel whole number whole_life now
+    HeardSo now = HeardIn (inputs_of d token loaded) fuel whole number whole_life now
 
     abbrev heard-so : (x : story.Heard) (newer older : List Event) → events ≡ newer ++ lives.Hears x ∷ older → StoodThen number s (lives.Hears x) older → HeardSo x.now
     heard-so x newer older is t = record { heard = x; earlier = older; later = newer; in_order = is; so = refl; stood = t }

@@ -10,7 +10,7 @@ use Rattle.mmtel_run.specs.Calls.{site_of}
 use Rattle.mmtel_run.specs.Events.{Happened, Notice, moment_of, notice_of, notices}
 use Rattle.mmtel_run.specs.Run.{after, clock_at, one_more, world_after}
 use Rattle.mmtel_run.specs.World.{World, beginning}
-use Rattle.mmtel_run_laws.specs.Stood.{deeds_after}
+use Rattle.mmtel_run_laws.specs.Stood.{deeds_after, inputs_of}
 use Rattle.mmtel_run_laws.proofs.Hearing.{Adds, AreAwaited, IsKeyed, IsOfRun, IsWhole, Sees, event_adds, in_force_in}
 
 -- ---- a run, event by event
@@ -41,8 +41,8 @@ module _ (d : Directory) (token : List ℕ) (loaded : Texts) (fuel : ℕ) (whole
     pub in_order : whole ≡ earlier ++ event ∷ later
     pub before : List Deed
     pub newer : List Deed
-    pub is : older ≡ before ++ deeds_after d token loaded fuel earlier
-    pub deeds : deeds_after d token loaded fuel (earlier ++ event ∷ []) ≡ newer ++ Hears x ∷ older
+    pub is : older ≡ before ++ deeds_after (inputs_of d token loaded) fuel earlier
+    pub deeds : deeds_after (inputs_of d token loaded) fuel (earlier ++ event ∷ []) ≡ newer ++ Hears x ∷ older
     pub view : x.view ≡ in_force_in (at_end_of earlier)
     pub by_then : x.at ≤ clock_at (at_end_of earlier) (moment_of event.event)
 
@@ -59,9 +59,9 @@ module _ (d : Directory) (token : List ℕ) (loaded : Texts) (fuel : ℕ) (whole
 
   -- the run of these events, up to there
   pub record WellTold (happened : List Happened) : Type 0 where
-    pub deeds : AllTold (deeds_after d token loaded fuel happened)
+    pub deeds : AllTold (deeds_after (inputs_of d token loaded) fuel happened)
     pub keyed : IsKeyed d (at_end_of happened)
-    pub lent : IsWhole (site_of d) None (deeds_after d token loaded fuel happened)
+    pub lent : IsWhole (site_of d) None (deeds_after (inputs_of d token loaded) fuel happened)
     pub rooms : Each IsOfRun (at_end_of happened).rooms
     pub awaited : AreAwaited d (at_end_of happened)
 
@@ -69,8 +69,8 @@ module _ (d : Directory) (token : List ℕ) (loaded : Texts) (fuel : ℕ) (whole
 
   module _ (earlier : List Happened) (event : Happened) (later : List Happened) (in_order : whole ≡ earlier ++ event ∷ later) where
     one-told : (newer : List Deed) (deed : Deed) (older : List Deed) →
-        deeds_after d token loaded fuel (earlier ++ event ∷ []) ≡ newer ++ deed ∷ (older ++ deeds_after d token loaded fuel earlier) →
-        Sees (in_force_in (at_end_of earlier)) (clock_at (at_end_of earlier) (moment_of event.event)) deed → IsTold deed (older ++ deeds_after d token loaded fuel earlier)
+        deeds_after (inputs_of d token loaded) fuel (earlier ++ event ∷ []) ≡ newer ++ deed ∷ (older ++ deeds_after (inputs_of d token loaded) fuel earlier) →
+        Sees (in_force_in (at_end_of earlier)) (clock_at (at_end_of earlier) (moment_of event.event)) deed → IsTold deed (older ++ deeds_after (inputs_of d token loaded) fuel earlier)
     one-told newer (Hears x) older is sees =
         record { earlier = earlier; event = event; later = later; in_order = in_order; before = older; newer = newer; is = refl; deeds = is; view = sees.0; by_then = sees.1 }
     one-told newer (Releases number side) older is sees = tt
@@ -78,12 +78,12 @@ module _ (d : Directory) (token : List ℕ) (loaded : Texts) (fuel : ℕ) (whole
     one-told newer (Finishes number at tokens) older is sees = tt
     one-told newer (Drops count) older is sees = tt
 
-    event-told : (newer added : List Deed) → deeds_after d token loaded fuel (earlier ++ event ∷ []) ≡ newer ++ (added ++ deeds_after d token loaded fuel earlier) →
-        Each (Sees (in_force_in (at_end_of earlier)) (clock_at (at_end_of earlier) (moment_of event.event))) added → AllTold (deeds_after d token loaded fuel earlier) → AllTold (added ++ deeds_after d token loaded fuel earlier)
+    event-told : (newer added : List Deed) → deeds_after (inputs_of d token loaded) fuel (earlier ++ event ∷ []) ≡ newer ++ (added ++ deeds_after (inputs_of d token loaded) fuel earlier) →
+        Each (Sees (in_force_in (at_end_of earlier)) (clock_at (at_end_of earlier) (moment_of event.event))) added → AllTold (deeds_after (inputs_of d token loaded) fuel earlier) → AllTold (added ++ deeds_after (inputs_of d token loaded) fuel earlier)
     event-told newer [] is sees told = told
     event-told newer (deed ∷ older) is sees told = (
       one-told newer deed older is sees.0,
-      event-told (newer ++ deed ∷ []) older (is ∙ sym (append_assoc newer (deed ∷ []) (older ++ deeds_after d token loaded fuel earlier))) sees.1 told,
+      event-told (newer ++ deed ∷ []) older (is ∙ sym (append_assoc newer (deed ∷ []) (older ++ deeds_after (inputs_of d token loaded) fuel earlier))) sees.1 told,
     )
 
     more-told : LegsGoBack → RoomsReplyInTheirOwn → WellTold earlier → WellTold (earlier ++ event ∷ [])
@@ -91,7 +91,7 @@ module _ (d : Directory) (token : List ℕ) (loaded : Texts) (fuel : ℕ) (whole
         let w : World = at_end_of earlier in
         let next : at_end_of (earlier ++ event ∷ []) ≡ one_more d token fuel (notice_of d event) w = one-event earlier event in
         let a : Adds d (clock_at w (moment_of event.event)) w None (one_more d token fuel (notice_of d event) w) = event_adds d token back own_law fuel (notice_of d event) w told.keyed told.lent told.rooms told.awaited in
-        let is : deeds_after d token loaded fuel (earlier ++ event ∷ []) ≡ a.added ++ deeds_after d token loaded fuel earlier = ap (λ (w : World). w.deeds) next ∙ a.is in
+        let is : deeds_after (inputs_of d token loaded) fuel (earlier ++ event ∷ []) ≡ a.added ++ deeds_after (inputs_of d token loaded) fuel earlier = ap (λ (w : World). w.deeds) next ∙ a.is in
         record {
           deeds = subst AllTold (sym is) (event-told [] a.added is a.sees told.deeds);
           keyed = subst (IsKeyed d) (sym next) a.keyed;

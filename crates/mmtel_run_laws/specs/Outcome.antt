@@ -33,7 +33,7 @@ use Rattle.mmtel_run.specs.World.{World}
 use Rattle.mmtel_run_laws.specs.Awaited.{AwaitsItsFinal, IsAnswerable}
 use Rattle.mmtel_run_laws.specs.Rows.{all_rows, is_call_row}
 use Rattle.mmtel_run_laws.specs.Sent.{FinalComes, GoesOut}
-use Rattle.mmtel_run_laws.specs.Stood.{ReachedIn, StoodIn}
+use Rattle.mmtel_run_laws.specs.Stood.{ReachedIn, StoodIn, inputs_of}
 
 -- ---- what is seen of a call
 
@@ -129,9 +129,9 @@ pub record CallComesToOutcome (directory : Directory) (token : List ℕ) (loaded
   pub bounded : StaysWithinTheBound directory life
   pub charged : IsChargedExactly (world_after directory token loaded fuel happened) number life
   -- things stood as they stood in the run in the deed by which it opened,
-  pub opened : StoodIn directory token loaded fuel happened number (record { start = life.start; events = [] }) life.start.arrival.served.origin life.start.now
+  pub opened : StoodIn (inputs_of directory token loaded) fuel happened number (record { start = life.start; events = [] }) life.start.arrival.served.origin life.start.now
   -- and in the one by which it reached the target of its next diversion after k others
-  pub reached : (k : ℕ) → ReachedIn directory token loaded fuel happened number life k (stood_after life.start life.events k)
+  pub reached : (k : ℕ) → ReachedIn (inputs_of directory token loaded) fuel happened number life k (stood_after life.start life.events k)
 
 -- ---- of a run
 

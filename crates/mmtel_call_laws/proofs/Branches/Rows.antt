@@ -7,7 +7,7 @@ use Rattle.mmtel_answers.specs.Requests.{bare, bringing, cancel_of, relaying}
 use Rattle.mmtel_answers.specs.Said.{Said, status_of}
 use Rattle.mmtel_answers.specs.declared.attempts.Aim.{Aim}
 use Rattle.mmtel_charging.specs.Meters.{Noted}
-use Rattle.mmtel_call_decisions.specs.Decisions.{aim_at, decided_after, decided_at, handed_on, is_barred, is_status, its_sheet, peer_for, redirect_of, service_at, target_of, time_of}
+use Rattle.mmtel_call_decisions.specs.Decisions.{aim_at, decided_after, decided_at, handed_on, is_status, its_sheet, peer_for, redirect_of, service_at, target_of, time_of}
 use Rattle.mmtel_desk.specs.Invites.{invite_answered, invite_silent}
 use Rattle.mmtel_call_decisions.specs.Opening.{first_of, opening_of, refusal_of}
 use Rattle.mmtel_call_decisions.specs.Requests.{is_same_side}
@@ -17,7 +17,7 @@ use Rattle.mmtel_call_decisions.specs.declared.openings.Arrival.{Arrival}
 use Rattle.mmtel_call_decisions.specs.declared.openings.Service.{Service}
 use Rattle.mmtel_call.specs.Answered.{acked_across, acked_and_left, acknowledges, at_stage, bye_before_ack, bye_to, leg_of, parted, shown_across, unacknowledged, with_ack, with_leg}
 use Rattle.mmtel_call.specs.Closing.{Step, onward, over, over_stood, with_past}
-use Rattle.mmtel_call.specs.Diverting.{at_target, divert, diverted, goes_on, is_diverted, made, offer_where, on_end, on_turn, passed_by, reach, refused, refused_by, told_of, too_many, unless_reached}
+use Rattle.mmtel_call.specs.Diverting.{at_target, divert, diverted, goes_on, is_diverted, made, made_unless, on_end, on_turn, passed_by, reach, refusal_by, refused, refused_by, told_of}
 use Rattle.mmtel_call.specs.Leaving.{acked_again, answered_at, answered_loose, answered_other, answered_taken, answered_taken_at, as_loose, forked, is_fork, is_loose_key, is_success, is_taken, is_taken_key, is_talking, repeated, taken_again, with_rest, without, without_at, without_key, without_silent}
 use Rattle.mmtel_call.specs.Lending.{finished, finished_in}
 use Rattle.mmtel_call.specs.Offering.{dialog_of, longest_time, next_attempt, offer}
@@ -64,8 +64,9 @@ use Rattle.mmtel_message.specs.Message.{Line, Message}
 use Rattle.mmtel_message.specs.declared.messages.Start.{Start}
 use Rattle.mmtel_precedence.specs.Attempts.{end_by_final, end_by_time, rings}
 use Rattle.mmtel_precedence.specs.Calls.{End, NoReply, NotReachable, Standing}
-use Rattle.mmtel_precedence.specs.Services.{DueDiversion, is_reached}
+use Rattle.mmtel_precedence.specs.Services.{DueDiversion}
 use Rattle.mmtel_precedence.specs.Turns.{AfterEnd, EndAnswered, EndDivert, EndRefuse, Turn, TurnDivert, TurnOffer, TurnRefuse}
+use Rattle.mmtel_precedence.specs.Verdicts.{too_many}
 use Rattle.mmtel_scan.specs.Numbers.{next_number, token_text}
 use Rattle.mmtel_targets.specs.declared.targets.Target.{Target}
 use Rattle.mmtel_transaction.specs.declared.words.DueWord.{DueWord}
@@ -316,42 +317,36 @@ module _ (sent : List ℕ → Peer → Type 0) (site : Site) (text : List ℕ) (
   abbrev Diverts : ℕ → Standing → Leg → Type 0
   Diverts left now caller = (service : Option Service) (due : DueDiversion) (c : Call) (desk : Desk) → Others c → Counted desk → Good (divert left site now caller service due c desk)
 
-  offer_where_good : (peer : Option Peer) (at : ℕ) (caller : Leg) (service : Option Service) (waiting : Bool) (cause : Option ℕ) (target : Target) (c : Call) (desk : Desk) →
-      Others c → Counted desk → Good (offer_where peer site at caller service waiting cause target c desk)
-  offer_where_good None at caller service waiting cause target c desk k had = refused_good at caller causes.NoRoute (passed_by at service c) desk k had
-  offer_where_good (Some peer) at caller service waiting cause target c desk k had = offer_good at caller service waiting (aim_at c.opening peer cause target) c desk k had
-
-  turn_good : (left : ℕ) (now : Standing) (caller : Leg) → Diverts left now caller → (service : Option Service) (peer : Option Peer) (cause : Option ℕ) (target : Target) (turn : Turn) (c : Call) (desk : Desk) →
-      Others c → Counted desk → Good (on_turn (divert left site now caller) site now.at caller service peer cause target turn c desk)
-  turn_good left now caller later service peer cause target (TurnOffer waiting) c desk k had = offer_where_good peer now.at caller service waiting cause target c desk k had
-  turn_good left now caller later service peer cause target (TurnDivert due) c desk k had = later service due (passed_by now.at service c) desk k had
-  turn_good left now caller later service peer cause target (TurnRefuse why) c desk k had = refused_good now.at caller why (passed_by now.at service c) desk k had
+  turn_good : (left : ℕ) (now : Standing) (caller : Leg) → Diverts left now caller → (service : Option Service) (cause : Option ℕ) (target : Target) (turn : Turn) (c : Call) (desk : Desk) →
+      Others c → Counted desk → Good (on_turn (divert left site now caller) site now.at caller service cause target turn c desk)
+  turn_good left now caller later service cause target (TurnOffer peer waiting) c desk k had = offer_good now.at caller service waiting (aim_at c.opening peer cause target) c desk k had
+  turn_good left now caller later service cause target (TurnDivert due) c desk k had = later service due (passed_by now.at service c) desk k had
+  turn_good left now caller later service cause target (TurnRefuse why) c desk k had = refused_good now.at caller why (passed_by now.at service c) desk k had
 
   target_good : (left : ℕ) (now : Standing) (caller : Leg) → Diverts left now caller → (cause : Option ℕ) (target : Target) (c : Call) (desk : Desk) →
       Others c → Counted desk → Good (at_target (divert left site now caller) site now caller cause target c desk)
   target_good left now caller later cause target c desk k had =
-      turn_good left now caller later (service_at site now c.opening cause target) (peer_for site c.opening target) cause target
+      turn_good left now caller later (service_at site now c.opening cause target) cause target
       (decided_at site now c.opening (is_diverted c) cause target (service_at site now c.opening cause target) (peer_for site c.opening target)) c desk k had
 
   told_of_in : (due : DueDiversion) (c : Call) (desk : Desk) → Counted desk → Counted (told_of site due c desk)
   told_of_in due c desk had = if_desk due.forward.notify_caller (told_diversion site c desk) desk (told_diversion_in c desk had) had
 
-  unless_good : (refuses : Bool) (why : Cause) (go : Call → Desk → Step) (at : ℕ) (caller : Leg) (c : Call) (desk : Desk) → Others c → Counted desk → Good (go c desk) →
-      Good (if refuses then refused site at caller why c desk else go c desk)
-  unless_good true why go at caller c desk k had is = refused_good at caller why c desk k had
-  unless_good false why go at caller c desk k had is = is
+  unless_good : (refusal : Option Cause) (go : Call → Desk → Step) (at : ℕ) (caller : Leg) (c : Call) (desk : Desk) → Others c → Counted desk → Good (go c desk) →
+      Good (made_unless refusal go site at caller c desk)
+  unless_good (Some why) go at caller c desk k had is = refused_good at caller why c desk k had
+  unless_good None go at caller c desk k had is = is
 
   divert_good : (left : ℕ) (now : Standing) (caller : Leg) → Diverts left now caller
   unfolding divert
   divert_good zero now caller service due c desk k had =
-      unless_good (is_barred site c.opening now.at service due) causes.OutgoingBarred (refused site now.at caller (too_many due)) now.at caller c desk k had (refused_good now.at caller (too_many due) c desk k had)
+      unless_good (refusal_by 0 site now.at service due c) (refused site now.at caller (too_many due.cause)) now.at caller c desk k had (refused_good now.at caller (too_many due.cause) c desk k had)
   divert_good (suc left) now caller service due c desk k had =
       let target : Target = target_of site due in
       let next : Call = diverted target now.at left service due c in
       let onward = made (at_target (divert left site now caller) site now caller (Some due.cause) target) site target now.at left service due in
-      unless_good (is_barred site c.opening now.at service due) causes.OutgoingBarred (unless_reached due onward site now.at caller) now.at caller c desk k had
-      (unless_good (is_reached due.bound c.diversions.count) (too_many due) onward now.at caller c desk k had
-      (target_good left now caller (divert_good left now caller) (Some due.cause) target next (told_of site due next desk) k (told_of_in due next desk had)))
+      unless_good (refusal_by (suc left) site now.at service due c) onward now.at caller c desk k had
+      (target_good left now caller (divert_good left now caller) (Some due.cause) target next (told_of site due next desk) k (told_of_in due next desk had))
 
   reach_good : (now : Standing) (caller : Leg) (cause : Option ℕ) (target : Target) (c : Call) (desk : Desk) → Others c → Counted desk → Good (reach site now caller cause target c desk)
   reach_good now caller cause target c desk k had = target_good c.diversions.left now caller (divert_good c.diversions.left now caller) cause target c desk k had

@@ -35,6 +35,7 @@ use Rattle.mmtel_trust.specs.Asserted.{or_no_uri}
 use Rattle.mmtel_types.specs.declared.causes.Cause.{Cause}
 use Rattle.mmtel_types.specs.declared.causes.Cause.TheVariants as causes
 use Rattle.mmtel_types.specs.declared.numbers.Account.{Account}
+use Rattle.mmtel_types.specs.declared.numbers.Peer.{Peer}
 use Rattle.mmtel_waiting.specs.Waiting.{is_busy}
 use Rattle.mmtel_call_laws.specs.Heads.Clean.{IsClean}
 use Rattle.mmtel_call_laws.specs.Heads.Heard.{AreCleanRules, AreCleanSheets, IsCleanSheet, IsCleanUri, is_clean_action, is_clean_rule}
@@ -118,19 +119,19 @@ services_clean c account e =
     (said_first barred (services_after_barring c account) (refuses_clean (bars_incoming c account.sheet) causes.IncomingBarred) barring)
 
 abbrev pub TurnsClean : Turn → Type 0
-TurnsClean (TurnOffer waiting) = Unit {0}
+TurnsClean (TurnOffer peer waiting) = Unit {0}
 TurnsClean (TurnDivert due) = IsCleanDue due
 TurnsClean (TurnRefuse cause) = Unit {0}
 
-offer_turn_clean : (unknown no_peer waiting : Bool) → TurnsClean (offer_turn unknown no_peer waiting)
-offer_turn_clean true no_peer waiting = tt
-offer_turn_clean false true waiting = tt
-offer_turn_clean false false waiting = tt
+offer_turn_clean : (unknown : Bool) (peer : Option Peer) (waiting : Bool) → TurnsClean (offer_turn unknown peer waiting)
+offer_turn_clean true peer waiting = tt
+offer_turn_clean false None waiting = tt
+offer_turn_clean false (Some peer) waiting = tt
 
-turn_by_clean : (says : Says) (live : ℕ) (bound : Option ℕ) (unknown no_peer : Bool) → SaysClean says → TurnsClean (turn_by (decision_by says live) bound unknown no_peer)
-turn_by_clean Nothing live bound unknown no_peer e = offer_turn_clean unknown no_peer (nat_lt 0 live)
-turn_by_clean (Refuses cause) live bound unknown no_peer e = tt
-turn_by_clean (Diverts due) live bound unknown no_peer e = e
+turn_by_clean : (says : Says) (live : ℕ) (bound : Option ℕ) (unknown : Bool) (peer : Option Peer) → SaysClean says → TurnsClean (turn_by (decision_by says live) bound unknown peer)
+turn_by_clean Nothing live bound unknown peer e = offer_turn_clean unknown peer (nat_lt 0 live)
+turn_by_clean (Refuses cause) live bound unknown peer e = tt
+turn_by_clean (Diverts due) live bound unknown peer e = e
 
 abbrev pub has_clean_record : AccountState → Type 0
 has_clean_record account = IsCleanSheet account.sheet
@@ -141,7 +142,7 @@ account_clean (Some account) e = e
 
 pub turn_clean : (c : Circumstances) (reach : Reach) → IfSome reach.served has_clean_record → TurnsClean (turn_at c reach)
 turn_clean c reach e =
-    turn_by_clean (first_said (services_on_arrival c (account_at reach))) (account_at reach).live (own_bound (account_at reach).sheet) reach.is_unknown reach.has_no_peer
+    turn_by_clean (first_said (services_on_arrival c (account_at reach))) (account_at reach).live (own_bound (account_at reach).sheet) reach.is_unknown reach.peer
     (services_clean c (account_at reach) (account_clean reach.served e))
 
 -- ---- after an attempt

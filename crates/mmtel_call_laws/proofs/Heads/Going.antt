@@ -13,8 +13,9 @@ use Rattle.mmtel_leg.specs.Legs.{Leg}
 use Rattle.mmtel_leg.specs.declared.dialogues.Dialogue.{Dialogue}
 use Rattle.mmtel_lex.specs.Grammar.{uri_text}
 use Rattle.mmtel_precedence.specs.Calls.{End, Standing}
-use Rattle.mmtel_precedence.specs.Services.{DueDiversion, is_reached}
+use Rattle.mmtel_precedence.specs.Services.{DueDiversion}
 use Rattle.mmtel_precedence.specs.Turns.{AfterEnd, EndAnswered, EndDivert, EndRefuse, Turn, TurnDivert, TurnOffer, TurnRefuse}
+use Rattle.mmtel_precedence.specs.Verdicts.{too_many}
 use Rattle.mmtel_targets.specs.declared.served.RegistrationState.{RegistrationState}
 use Rattle.mmtel_targets.specs.declared.targets.Target.{Target}
 use Rattle.mmtel_transaction.specs.declared.words.DueWord.TheVariants as due_word
@@ -25,7 +26,7 @@ use Rattle.mmtel_types.specs.declared.causes.Cause.TheVariants as causes
 use Rattle.mmtel_types.specs.declared.numbers.Account.{Account}
 use Rattle.mmtel_types.specs.declared.numbers.Peer.{Peer}
 use Rattle.mmtel_types.specs.declared.sides.Side.TheVariants.{Caller}
-use Rattle.mmtel_call_decisions.specs.Decisions.{account_by, aim_at, decided_after, decided_at, handed_on, is_barred, is_status, its_sheet, of_caller, peer_for, reach_at, served_at, service_at, service_of, target_of, told_at}
+use Rattle.mmtel_call_decisions.specs.Decisions.{account_by, aim_at, decided_after, decided_at, handed_on, is_status, its_sheet, of_caller, peer_for, reach_at, served_at, service_at, service_of, target_of, told_at}
 use Rattle.mmtel_call_decisions.specs.Showing.{shown_to}
 use Rattle.mmtel_call_decisions.specs.Site.{Site}
 use Rattle.mmtel_call_decisions.specs.declared.openings.Opening.{Opening}
@@ -33,7 +34,7 @@ use Rattle.mmtel_call_decisions.specs.declared.openings.Service.{Service}
 use Rattle.mmtel_call.specs.declared.calls.Call.{Call}
 use Rattle.mmtel_call.specs.declared.calls.Trial.{Trial}
 use Rattle.mmtel_call.specs.Closing.{Step, over, with_past}
-use Rattle.mmtel_call.specs.Diverting.{at_target, divert, diverted, goes_on, is_diverted, made, offer_where, on_end, on_turn, passed_by, reach, refused, refused_by, told_of, too_many, unless_reached}
+use Rattle.mmtel_call.specs.Diverting.{at_target, divert, diverted, goes_on, is_diverted, made, made_unless, on_end, on_turn, passed_by, reach, refusal_by, refused, refused_by, told_of}
 use Rattle.mmtel_call.specs.Offering.{dialog_of, longest_time, next_attempt, offer}
 use Rattle.mmtel_call.specs.Sending.{relayed_to_caller, told_caller, told_diversion}
 use Rattle.mmtel_call_laws.specs.Heads.Acks.{Acked}
@@ -102,18 +103,13 @@ offer_clean acks site at caller service waiting aim c desk is first serves k had
 abbrev DivertClean : (acks : List Acked) → ℕ → Site → Standing → Leg → Type 0
 DivertClean acks left site now caller = (service : Option Service) (due : DueDiversion) (c : Call) (desk : Desk) → Serves service → IsCleanDue due → IsKept acks c → IsCleanDesk acks desk → IsCleanStep acks (divert left site now caller service due c desk)
 
-offer_where_clean : (acks : List Acked) (peer : Option Peer) (site : Site) (at : ℕ) (caller : Leg) (service : Option Service) (waiting : Bool) (cause : Option ℕ) (target : Target) (c : Call) (desk : Desk) →
-    IsCleanUri target.uri → IsCleanHere caller.dialogue → Serves service → IsKept acks c → IsCleanDesk acks desk → IsCleanStep acks (offer_where peer site at caller service waiting cause target c desk)
-offer_where_clean acks None site at caller service waiting cause target c desk e first serves k had = refused_clean acks site at caller causes.NoRoute (passed_by at service c) desk k had
-offer_where_clean acks (Some peer) site at caller service waiting cause target c desk e first serves k had =
-    offer_clean acks site at caller service waiting (aim_at c.opening peer cause target) c desk (aim_clean c.opening peer cause target k.opening_in e) first serves k had
-
-on_turn_clean : (acks : List Acked) (left : ℕ) (site : Site) (now : Standing) (caller : Leg) → DivertClean acks left site now caller → (service : Option Service) (peer : Option Peer) (cause : Option ℕ) (target : Target) (turn : Turn) (c : Call) (desk : Desk) →
+on_turn_clean : (acks : List Acked) (left : ℕ) (site : Site) (now : Standing) (caller : Leg) → DivertClean acks left site now caller → (service : Option Service) (cause : Option ℕ) (target : Target) (turn : Turn) (c : Call) (desk : Desk) →
     IsCleanUri target.uri → IsCleanHere caller.dialogue → Serves service → TurnsClean turn → IsKept acks c → IsCleanDesk acks desk →
-    IsCleanStep acks (on_turn (divert left site now caller) site now.at caller service peer cause target turn c desk)
-on_turn_clean acks left site now caller later service peer cause target (TurnOffer waiting) c desk e first serves turns k had = offer_where_clean acks peer site now.at caller service waiting cause target c desk e first serves k had
-on_turn_clean acks left site now caller later service peer cause target (TurnDivert due) c desk e first serves turns k had = later service due (passed_by now.at service c) desk serves turns k had
-on_turn_clean acks left site now caller later service peer cause target (TurnRefuse why) c desk e first serves turns k had = refused_clean acks site now.at caller why (passed_by now.at service c) desk k had
+    IsCleanStep acks (on_turn (divert left site now caller) site now.at caller service cause target turn c desk)
+on_turn_clean acks left site now caller later service cause target (TurnOffer peer waiting) c desk e first serves turns k had =
+    offer_clean acks site now.at caller service waiting (aim_at c.opening peer cause target) c desk (aim_clean c.opening peer cause target k.opening_in e) first serves k had
+on_turn_clean acks left site now caller later service cause target (TurnDivert due) c desk e first serves turns k had = later service due (passed_by now.at service c) desk serves turns k had
+on_turn_clean acks left site now caller later service cause target (TurnRefuse why) c desk e first serves turns k had = refused_clean acks site now.at caller why (passed_by now.at service c) desk k had
 
 service_clean : (now : Standing) (account : Option Account) → AreCleanSheets now → Serves (option_map (service_of now) account)
 service_clean now None e = tt
@@ -129,7 +125,7 @@ target_clean acks left site now caller later cause target c desk good e first k 
     let service = service_at site now c.opening cause target in
     let peer = peer_for site c.opening target in
     let serves : Serves service = service_clean now (served_at site c.opening cause target) good.sheets_in in
-    on_turn_clean acks left site now caller later service peer cause target (decided_at site now c.opening (is_diverted c) cause target service peer) c desk e first serves
+    on_turn_clean acks left site now caller later service cause target (decided_at site now c.opening (is_diverted c) cause target service peer) c desk e first serves
     (turn_clean (of_caller c.opening now.at (is_diverted c)) (reach_at site now c.opening cause target service peer) (state_clean now (told_at c.opening cause) service serves)) k had
 
 -- ---- a diversion
@@ -145,24 +141,23 @@ diverted_kept acks target at left service due c e k = record {
 told_of_clean : (acks : List Acked) (site : Site) (due : DueDiversion) (c : Call) (desk : Desk) → IsKept acks c → IsCleanDesk acks desk → IsCleanDesk acks (told_of site due c desk)
 told_of_clean acks site due c desk k had = if_desk acks due.forward.notify_caller (told_diversion site c desk) desk (told_diversion_clean acks site c desk k had) had
 
-unless_clean : (acks : List Acked) (refuses : Bool) (why : Cause) (go : Call → Desk → Step) (site : Site) (at : ℕ) (caller : Leg) (c : Call) (desk : Desk) → IsKept acks c → IsCleanDesk acks desk → IsCleanStep acks (go c desk) →
-    IsCleanStep acks (if refuses then refused site at caller why c desk else go c desk)
-unless_clean acks true why go site at caller c desk k had is = refused_clean acks site at caller why c desk k had
-unless_clean acks false why go site at caller c desk k had is = is
+unless_clean : (acks : List Acked) (refusal : Option Cause) (go : Call → Desk → Step) (site : Site) (at : ℕ) (caller : Leg) (c : Call) (desk : Desk) → IsKept acks c → IsCleanDesk acks desk → IsCleanStep acks (go c desk) →
+    IsCleanStep acks (made_unless refusal go site at caller c desk)
+unless_clean acks (Some why) go site at caller c desk k had is = refused_clean acks site at caller why c desk k had
+unless_clean acks None go site at caller c desk k had is = is
 
 divert_clean : (acks : List Acked) (left : ℕ) (site : Site) (now : Standing) (caller : Leg) → IsGood site now → IsCleanHere caller.dialogue → DivertClean acks left site now caller
 unfolding divert
 divert_clean acks zero site now caller good first service due c desk serves e k had =
-    unless_clean acks (is_barred site c.opening now.at service due) causes.OutgoingBarred (refused site now.at caller (too_many due)) site now.at caller c desk k had (refused_clean acks site now.at caller (too_many due) c desk k had)
+    unless_clean acks (refusal_by 0 site now.at service due c) (refused site now.at caller (too_many due.cause)) site now.at caller c desk k had (refused_clean acks site now.at caller (too_many due.cause) c desk k had)
 divert_clean acks (suc left) site now caller good first service due c desk serves e k had =
     let target = target_of site due in
     let uri : IsCleanUri target.uri = new_target_clean site.home due.forward.target good.home_in e in
     let next = diverted target now.at left service due c in
     let kept : IsKept acks next = diverted_kept acks target now.at left service due c uri k in
     let onward = made (at_target (divert left site now caller) site now caller (Some due.cause) target) site target now.at left service due in
-    unless_clean acks (is_barred site c.opening now.at service due) causes.OutgoingBarred (unless_reached due onward site now.at caller) site now.at caller c desk k had
-    (unless_clean acks (is_reached due.bound c.diversions.count) (too_many due) onward site now.at caller c desk k had
-    (target_clean acks left site now caller (divert_clean acks left site now caller good first) (Some due.cause) target next (told_of site due next desk) good uri first kept (told_of_clean acks site due next desk kept had)))
+    unless_clean acks (refusal_by (suc left) site now.at service due c) onward site now.at caller c desk k had
+    (target_clean acks left site now caller (divert_clean acks left site now caller good first) (Some due.cause) target next (told_of site due next desk) good uri first kept (told_of_clean acks site due next desk kept had))
 
 pub reach_clean : (acks : List Acked) (site : Site) (now : Standing) (caller : Leg) (cause : Option ℕ) (target : Target) (c : Call) (desk : Desk) →
     IsGood site now → IsCleanUri target.uri → IsCleanHere caller.dialogue → IsKept acks c → IsCleanDesk acks desk → IsCleanStep acks (reach site now caller cause target c desk)

@@ -14,10 +14,11 @@ use Rattle.mmtel_precedence.specs.Calls as precedence
 use Rattle.mmtel_precedence.specs.Calls.{Final, NotOffered, Offer, Offered, Reach, Result, Standing, standing_after}
 use Rattle.mmtel_precedence.specs.Moves as moves
 use Rattle.mmtel_precedence.specs.Moves.{Kept, Reaching, account_at, at_phase, gone_on, move_in, with_target}
-use Rattle.mmtel_precedence.specs.Services.{AccountState, DueDiversion, bound_of, is_reached}
+use Rattle.mmtel_precedence.specs.Services.{AccountState, bars_outgoing, bound_of, DueDiversion}
 use Rattle.mmtel_precedence.specs.Targets.{is_by_number}
 use Rattle.mmtel_precedence.specs.Turns as turns
 use Rattle.mmtel_precedence.specs.Turns.{Turn, TurnDivert, TurnOffer, TurnRefuse, TurnsAreMoves, kept_at_turn}
+use Rattle.mmtel_precedence.specs.Verdicts.{refusal_at_bound, refusal_before_diversion, too_many}
 use Rattle.mmtel_targets.specs.declared.targets.Target.{Target}
 use Rattle.mmtel_transaction.specs.declared.words.DueWord.TheVariants as due
 use Rattle.mmtel_transaction.specs.declared.words.Emit.{Emit}
@@ -25,28 +26,30 @@ use Rattle.mmtel_transaction.specs.declared.words.Emit.TheVariants as emit
 use Rattle.mmtel_types.specs.Causes.{status_of}
 use Rattle.mmtel_types.specs.declared.causes.Cause.{Cause}
 use Rattle.mmtel_types.specs.declared.causes.Cause.TheVariants as causes
-use Rattle.mmtel_types.specs.declared.numbers.Peer.{Peer}
 use Rattle.mmtel_types.specs.declared.sides.Side.TheVariants.{Caller}
 use Rattle.mmtel_call_decisions.specs.Decisions as decisions
-use Rattle.mmtel_call_decisions.specs.Decisions.{aim_at, decided_at, is_barred, its_sheet, peer_for, reach_at, service_at, target_of}
+use Rattle.mmtel_call_decisions.specs.Decisions.{aim_at, decided_at, its_sheet, peer_for, reach_at, service_at, target_of}
 use Rattle.mmtel_call_decisions.specs.Diverted.{Diverted}
 use Rattle.mmtel_call_decisions.specs.Showing.{shown_to}
 use Rattle.mmtel_call_decisions.specs.Site.{Site}
 use Rattle.mmtel_call_decisions.specs.declared.openings.Opening.{Opening}
 use Rattle.mmtel_call_decisions.specs.declared.openings.Service.{Service}
 use Rattle.mmtel_call.specs.Closing.{Step, over}
-use Rattle.mmtel_call.specs.Diverting.{at_target, divert, diverted, is_diverted, made, on_turn, passed_by, refused, told_of, too_many, unless_barred, unless_reached}
+use Rattle.mmtel_call.specs.Diverting.{at_target, divert, diverted, is_diverted, made, made_unless, on_turn, passed_by, refusal_by, refused, told_of}
 use Rattle.mmtel_call.specs.Offering.{longest_time, next_attempt, sent_to}
 use Rattle.mmtel_call.specs.Sending.{told_caller, told_diversion}
 use Rattle.mmtel_call.specs.declared.calls.Call.{Call}
 use Rattle.mmtel_call_laws.specs.Known.{known_as, received_in}
 use Rattle.mmtel_call_laws.proofs.Agreeing.{total}
-use Rattle.mmtel_call_laws.proofs.Coming.{StandsThen, at-bound, below-bound, by_bound, go_on_if, more, move-known, same-number, stands-next, stands-on, target_as}
+use Rattle.mmtel_call_laws.proofs.Coming.{StandsThen, more, move-known, same-number, stands-next, stands-on, target_as}
 use Rattle.mmtel_call_laws.proofs.Falling.{divert-leaves, target-leaves}
-use Rattle.mmtel_call_laws.proofs.Knowing.{IsKnown, barred-known, cause_of, sheet-known, target_uri}
+use Rattle.mmtel_call_laws.proofs.Knowing.{cause_of, IsKnown, none-left, refusal-known, sheet-known, target_uri}
 use Rattle.mmtel_call_laws.specs.Notices.Due.{history_at, history_over, notice, notice_due, notices_due}
 use Rattle.mmtel_call_laws.proofs.Notices.Adding.{Adds, IsSilent, adds-reply, adds-then, silent, silent-reply}
 use Rattle.mmtel_call_laws.proofs.Notices.Owning.{IsNoNotice, IsTurn, its-turn, too-many-notice}
+use Rattle.mmtel_diversion.specs.Bound.{is_within}
+use Rattle.mmtel_sheet_values.specs.declared.values.Sheet.{Sheet}
+use Rattle.mmtel_rules.specs.Circumstances.{Circumstances}
 
 -- ---- what is told on the way
 
@@ -126,29 +129,15 @@ DivertTells left site now first later caller =
 
 -- by the turn there
 turn-tells : (left : ℕ) (site : Site) (now first : Standing) (later : ℕ → Standing) (caller : Leg) → DivertTells left site now first later caller →
-    (reach : Reach) (peer : Option Peer) (by : Option DueDiversion) (target : Target) (turn : Turn) (c : Call) (desk : Desk) (kept : Kept) →
+    (reach : Reach) (by : Option DueDiversion) (target : Target) (turn : Turn) (c : Call) (desk : Desk) (kept : Kept) →
     IsKnown first c.opening → turns.sheet_of reach ≡ its_sheet (service_at site now c.opening (cause_of by) target) → IsCounted site c.opening kept.done c.diversions → kept.endings ≡ [] → c.diversions.left ≡ left →
     IsTurn turn →
-    StandsThen site now c.opening later kept (on_turn (divert left site now caller) site now.at caller (service_at site now c.opening (cause_of by) target) peer (cause_of by) target turn c desk) →
+    StandsThen site now c.opening later kept (on_turn (divert left site now caller) site now.at caller (service_at site now c.opening (cause_of by) target) (cause_of by) target turn c desk) →
     TellsFrom site (known_as site first c.opening later) c.opening target.uri by kept.targets c.diversions.history desk
-    (on_turn (divert left site now caller) site now.at caller (service_at site now c.opening (cause_of by) target) peer (cause_of by) target turn c desk)
+    (on_turn (divert left site now caller) site now.at caller (service_at site now c.opening (cause_of by) target) (cause_of by) target turn c desk)
     (kept_at_turn (known_as site first c.opening later) (account_at reach) now.at kept target.uri by turn)
 unfolding moves.moves
-turn-tells left site now first later caller goes reach None by target (TurnOffer waiting) c desk kept known sheet counted empty few own stands =
-    let passed = passed_by now.at (service_at site now c.opening (cause_of by) target) c in (
-      Offered waiting,
-      (
-        0,
-        record {
-          new = [];
-          rests = Waits (account_at reach) refl empty;
-          reached = sym (append-nil (kept.targets ++ target_as target.uri by (Offered waiting) ∷ []));
-          adds = let a = told-silent site passed (status_of causes.NoRoute) desk refl in record { new = a.new; out = a.out; seen = a.seen };
-          entries = refl;
-        },
-      ),
-    )
-turn-tells left site now first later caller goes reach (Some peer) by target (TurnOffer waiting) c desk kept known sheet counted empty few own stands = (
+turn-tells left site now first later caller goes reach by target (TurnOffer peer waiting) c desk kept known sheet counted empty few own stands = (
   Offered waiting,
   (
     0,
@@ -161,10 +150,10 @@ turn-tells left site now first later caller goes reach (Some peer) by target (Tu
     },
   ),
 )
-turn-tells left site now first later caller goes reach peer by target (TurnDivert due) c desk kept known sheet counted empty few own stands =
+turn-tells left site now first later caller goes reach by target (TurnDivert due) c desk kept known sheet counted empty few own stands =
     let service = service_at site now c.opening (cause_of by) target in
     (NotOffered, goes service reach due (passed_by now.at service c) desk (with_target kept target.uri by NotOffered) known sheet counted empty few stands)
-turn-tells left site now first later caller goes reach peer by target (TurnRefuse why) c desk kept known sheet counted empty few own stands =
+turn-tells left site now first later caller goes reach by target (TurnRefuse why) c desk kept known sheet counted empty few own stands =
     let call = known_as site first c.opening later in
     let passed = passed_by now.at (service_at site now c.opening (cause_of by) target) c in
     (NotOffered, refused-tells site call now.at caller why passed desk (with_target kept target.uri by NotOffered) (Final why) empty own)
@@ -183,7 +172,7 @@ target-tells law left site now first later caller goes by target c desk kept kno
     let peer = peer_for site o target in
     let reach = reach_at site now o (cause_of by) target service peer in
     let s = at_target (divert left site now caller) site now caller (cause_of by) target c desk in
-    let (offer, told) = turn-tells left site now first later caller goes reach peer by target (decided_at site now o (is_diverted c) (cause_of by) target service peer) c desk (at_phase kept (Reaching target.uri by)) known
+    let (offer, told) = turn-tells left site now first later caller goes reach by target (decided_at site now o (is_diverted c) (cause_of by) target service peer) c desk (at_phase kept (Reaching target.uri by)) known
     (sheet-known site now o (cause_of by) target service peer) counted empty few (its-turn (decisions.of_caller o now.at (is_diverted c)) reach) stands in (
       offer,
       told-after site call o (kept.targets ++ target_as target.uri by offer ∷ []) c.diversions.history desk s (at_phase kept (Reaching target.uri by))
@@ -192,14 +181,32 @@ target-tells law left site now first later caller goes by target c desk kept kno
 
 -- ---- a diversion
 
+-- what refuses it, if anything does, has no 181
+abbrev NoNotice : Option Cause → Type 0
+NoNotice None = Unit {0}
+NoNotice (Some cause) = IsNoNotice (status_of cause)
+
 -- what stands before a diversion refuses it, or it goes on
-unless-tells : (site : Site) (now first : Standing) (later : ℕ → Standing) (caller : Leg) (refuses : Bool) (why : Cause) (onward : Call → Desk → Step) (rest : Option Cause) (uri : Uri) (due : DueDiversion) (c : Call) (desk : Desk) (kept : Kept) →
-    kept.endings ≡ [] → IsNoNotice (status_of why) → StandsThen site now c.opening later kept (if refuses then refused site now.at caller why c desk else onward c desk) →
-    (StandsThen site now c.opening later kept (onward c desk) → ComesToTell site (known_as site first c.opening later) c.opening kept.targets c.diversions.history desk (onward c desk) (gone_on rest kept uri due)) →
-    ComesToTell site (known_as site first c.opening later) c.opening kept.targets c.diversions.history desk (if refuses then refused site now.at caller why c desk else onward c desk) (gone_on (if refuses then Some why else rest) kept uri due)
-unless-tells site now first later caller true why onward rest uri due c desk kept empty own stands comes =
+unless-tells : (site : Site) (now first : Standing) (later : ℕ → Standing) (caller : Leg) (refusal : Option Cause) (onward : Call → Desk → Step) (uri : Uri) (due : DueDiversion) (c : Call) (desk : Desk) (kept : Kept) →
+    kept.endings ≡ [] → NoNotice refusal → StandsThen site now c.opening later kept (made_unless refusal onward site now.at caller c desk) →
+    (refusal ≡ None → StandsThen site now c.opening later kept (onward c desk) → ComesToTell site (known_as site first c.opening later) c.opening kept.targets c.diversions.history desk (onward c desk) (gone_on None kept uri due)) →
+    ComesToTell site (known_as site first c.opening later) c.opening kept.targets c.diversions.history desk (made_unless refusal onward site now.at caller c desk) (gone_on refusal kept uri due)
+unless-tells site now first later caller (Some why) onward uri due c desk kept empty own stands comes =
     refused-tells site (known_as site first c.opening later) now.at caller why c desk kept (Final why) empty own
-unless-tells site now first later caller false why onward rest uri due c desk kept empty own stands comes = comes stands
+unless-tells site now first later caller None onward uri due c desk kept empty own stands comes = comes refl stands
+
+-- what refuses a diversion has no 181
+bound-silent : (within : Bool) (cause : ℕ) → NoNotice (if within then None else Some (too_many cause))
+bound-silent true cause = tt
+bound-silent false cause = too-many-notice (cause == 486)
+
+refusal-silent : (c : Circumstances) (sheet : Option Sheet) (received done bound : ℕ) (due : DueDiversion) → NoNotice (refusal_before_diversion c sheet received done bound due)
+refusal-silent c None received done bound due = bound-silent (is_within received done (bound_of bound due.bound)) due.cause
+refusal-silent c (Some sheet) received done bound due = go (bars_outgoing c sheet)
+  where
+    go : (b : Bool) → NoNotice (if b then Some causes.OutgoingBarred else refusal_at_bound received done (bound_of bound due.bound) due.cause)
+    go true = refl
+    go false = bound-silent (is_within received done (bound_of bound due.bound)) due.cause
 
 -- the caller is told of it where the forward says so
 notice-adds : (site : Site) (due : DueDiversion) (d : Call) (desk : Desk) (b : Bool) → Adds d.opening.key desk (if b then told_diversion site d desk else desk)
@@ -235,31 +242,24 @@ unfolding divert
 divert-tells law zero site now first later caller service reach due c desk kept known sheet counted empty few stands =
     let call = known_as site first c.opening later in
     let o = c.opening in
-    let barred = is_barred site o now.at service due in
-    let onward = refused site now.at caller (too_many due) in
-    let s = unless_barred barred onward site now.at caller c desk in
-    let bound = bound_of site.bound due.bound in
+    let onward = refused site now.at caller (too_many due.cause) in
+    let s = made_unless (refusal_by 0 site now.at service due c) onward site now.at caller c desk in
     let e = counted.left in
     let none : 0 + kept.done ≡ site.bound - received_in o = omega arith in
-    subst (λ bars. ComesToTell site call o kept.targets c.diversions.history desk s (gone_on (go_on_if bars (by_bound (received_in o) kept.done bound (too_many due))) kept (target_uri site due) due))
-    (barred-known site first o later now.at reach service due known sheet)
-    (subst (λ rest. ComesToTell site call o kept.targets c.diversions.history desk s (gone_on (go_on_if barred rest) kept (target_uri site due) due))
-    (sym (at-bound (received_in o) kept.done site.bound due.bound (too_many due) none))
-    (unless-tells site now first later caller barred causes.OutgoingBarred onward (Some (too_many due)) (target_uri site due) due c desk kept empty refl stands
-    (λ after. refused-tells site call now.at caller (too_many due) c desk kept (Final (too_many due)) empty (too-many-notice (due.cause == 486)))))
+    subst (λ (refusal : Option Cause). ComesToTell site call o kept.targets c.diversions.history desk s (gone_on refusal kept (target_uri site due) due))
+    (refusal-known site first o later now.at kept.done 0 c.diversions.count reach service due known sheet none counted.count)
+    (unless-tells site now first later caller (refusal_by 0 site now.at service due c) onward (target_uri site due) due c desk kept empty
+    (refusal-silent (decisions.of_target site o now.at (target_uri site due)) (its_sheet service) c.diversions.count 0 (c.diversions.count + 0) due) stands
+    (λ lets after. absurd (none-left (decisions.of_target site o now.at (target_uri site due)) (its_sheet service) c.diversions.count due lets)))
 divert-tells law (suc left) site now first later caller service reach due c desk kept known sheet counted empty few stands =
     let call = known_as site first c.opening later in
     let o = c.opening in
-    let barred = is_barred site o now.at service due in
-    let reached = is_reached due.bound c.diversions.count in
     let target = target_of site due in
     let next = diverted target now.at left service due c in
     let told = told_of site due next desk in
     let inner = at_target (divert left site now caller) site now caller (Some due.cause) target next told in
     let onward = made (at_target (divert left site now caller) site now caller (Some due.cause) target) site target now.at left service due in
-    let unless = unless_reached due onward site now.at caller in
-    let s = unless_barred barred unless site now.at caller c desk in
-    let bound = bound_of site.bound due.bound in
+    let s = made_unless (refusal_by (suc left) site now.at service due c) onward site now.at caller c desk in
     let e = counted.left in
     let f = counted.count in
     let some : suc left + kept.done ≡ site.bound - received_in o = omega arith in
@@ -267,13 +267,11 @@ divert-tells law (suc left) site now first later caller service reach due c desk
     let next_left : left + (kept.done + 1) ≡ total site o = omega arith in
     let next_count : c.diversions.count + 1 ≡ received_in o + (kept.done + 1) = omega arith in
     let place : kept.done + 1 ≡ suc kept.done = omega arith in
-    subst (λ bars. ComesToTell site call o kept.targets c.diversions.history desk s (gone_on (go_on_if bars (by_bound (received_in o) kept.done bound (too_many due))) kept (target_uri site due) due))
-    (barred-known site first o later now.at reach service due known sheet)
-    (subst (λ rest. ComesToTell site call o kept.targets c.diversions.history desk s (gone_on (go_on_if barred rest) kept (target_uri site due) due))
-    (sym (below-bound (received_in o) kept.done site.bound left c.diversions.count due.bound (too_many due) some f))
-    (unless-tells site now first later caller barred causes.OutgoingBarred unless (if reached then Some (too_many due) else None) (target_uri site due) due c desk kept empty refl stands
-    (λ unbarred. unless-tells site now first later caller reached (too_many due) onward None (target_uri site due) due c desk kept empty (too-many-notice (due.cause == 486)) unbarred
-    (λ after. made-tells site call (target_uri site due) due c desk told inner kept (notice-adds site due next desk due.forward.notify_caller)
+    subst (λ (refusal : Option Cause). ComesToTell site call o kept.targets c.diversions.history desk s (gone_on refusal kept (target_uri site due) due))
+    (refusal-known site first o later now.at kept.done (suc left) c.diversions.count reach service due known sheet some f)
+    (unless-tells site now first later caller (refusal_by (suc left) site now.at service due c) onward (target_uri site due) due c desk kept empty
+    (refusal-silent (decisions.of_target site o now.at (target_uri site due)) (its_sheet service) c.diversions.count 0 (c.diversions.count + suc left) due) stands
+    (λ lets after. made-tells site call (target_uri site due) due c desk told inner kept (notice-adds site due next desk due.forward.notify_caller)
     (target-tells law left site now first later caller (divert-tells law left site now first later caller) (Some due) target next told (more kept) known
     (record { left = next_left; count = next_count }) empty refl refl
-    (ap (standing_after call) place ∙ stands-next left site now later c kept inner counted.left few leaves after) (stands-on site now later c kept inner after))))))
+    (ap (standing_after call) place ∙ stands-next left site now later c kept inner counted.left few leaves after) (stands-on site now later c kept inner after))))

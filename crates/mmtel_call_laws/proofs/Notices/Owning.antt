@@ -8,7 +8,7 @@ use Rattle.mmtel_precedence.specs.Calls.{Answer, Cancel, Deflection, End, NoRepl
 use Rattle.mmtel_precedence.specs.Moves.{account_at}
 use Rattle.mmtel_precedence.specs.Opening.{refusal_by}
 use Rattle.mmtel_precedence.specs.Services.{DueDiversion, diverts_by, first_said, refuses_if}
-use Rattle.mmtel_precedence.specs.Turns.{AfterEnd, EndAnswered, EndDivert, EndRefuse, Turn, TurnDivert, TurnOffer, TurnRefuse, divert_or_refuse, turn_at, turn_by, turn_on}
+use Rattle.mmtel_precedence.specs.Turns.{AfterEnd, EndAnswered, EndDivert, EndRefuse, Turn, TurnDivert, TurnOffer, TurnRefuse, divert_or_refuse, offer_turn, turn_at, turn_by, turn_on}
 use Rattle.mmtel_precedence.specs.Verdicts.{decision_by}
 use Rattle.mmtel_rules.specs.Circumstances.{Circumstances}
 use Rattle.mmtel_sheet_values.specs.declared.values.Sheet.{Sheet}
@@ -17,6 +17,7 @@ use Rattle.mmtel_types.specs.Causes.{status_of}
 use Rattle.mmtel_types.specs.declared.causes.Cause.{Cause}
 use Rattle.mmtel_types.specs.declared.causes.Cause.TheVariants as causes
 use Rattle.mmtel_types.specs.declared.privacy.PrivacySet.{PrivacySet}
+use Rattle.mmtel_types.specs.declared.numbers.Peer.{Peer}
 
 abbrev pub IsNoNotice : ℕ → Type 0
 IsNoNotice code = (code == 181) ≡ false
@@ -24,30 +25,30 @@ IsNoNotice code = (code == 181) ≡ false
 -- ---- at a target
 
 abbrev pub IsTurn : Turn → Type 0
-IsTurn (TurnOffer waiting) = Unit {0}
+IsTurn (TurnOffer peer waiting) = Unit {0}
 IsTurn (TurnDivert due) = Unit {0}
 IsTurn (TurnRefuse cause) = IsNoNotice (status_of cause)
 
-offered-turn : (unknown no_peer waiting : Bool) → IsTurn (Rattle.mmtel_precedence.specs.Turns.offer_turn unknown no_peer waiting)
-offered-turn true no_peer waiting = refl
-offered-turn false true waiting = refl
-offered-turn false false waiting = tt
+offered-turn : (unknown : Bool) (peer : Option Peer) (waiting : Bool) → IsTurn (offer_turn unknown peer waiting)
+offered-turn true peer waiting = refl
+offered-turn false None waiting = refl
+offered-turn false (Some peer) waiting = tt
 
 -- by what each service says
-said-turn : (anonymous barred unregistered busy : Bool) (always when_busy : Option DueDiversion) (live : ℕ) (bound : Option ℕ) (unknown no_peer : Bool) →
+said-turn : (anonymous barred unregistered busy : Bool) (always when_busy : Option DueDiversion) (live : ℕ) (bound : Option ℕ) (unknown : Bool) (peer : Option Peer) →
     IsTurn (turn_by (decision_by (first_said (
     refuses_if anonymous causes.AnonymousRejected ∷ refuses_if barred causes.IncomingBarred ∷ diverts_by always ∷ refuses_if unregistered causes.NotRegistered
-    ∷ diverts_by when_busy ∷ refuses_if busy causes.NetworkBusy ∷ [])) live) bound unknown no_peer)
-said-turn true barred unregistered busy always when_busy live bound unknown no_peer = refl
-said-turn false true unregistered busy always when_busy live bound unknown no_peer = refl
-said-turn false false unregistered busy (Some due) when_busy live bound unknown no_peer = tt
-said-turn false false true busy None when_busy live bound unknown no_peer = refl
-said-turn false false false busy None (Some due) live bound unknown no_peer = tt
-said-turn false false false true None None live bound unknown no_peer = refl
-said-turn false false false false None None live bound unknown no_peer = offered-turn unknown no_peer (nat_lt 0 live)
+    ∷ diverts_by when_busy ∷ refuses_if busy causes.NetworkBusy ∷ [])) live) bound unknown peer)
+said-turn true barred unregistered busy always when_busy live bound unknown peer = refl
+said-turn false true unregistered busy always when_busy live bound unknown peer = refl
+said-turn false false unregistered busy (Some due) when_busy live bound unknown peer = tt
+said-turn false false true busy None when_busy live bound unknown peer = refl
+said-turn false false false busy None (Some due) live bound unknown peer = tt
+said-turn false false false true None None live bound unknown peer = refl
+said-turn false false false false None None live bound unknown peer = offered-turn unknown peer (nat_lt 0 live)
 
 pub its-turn : (c : Circumstances) (reach : Reach) → IsTurn (turn_at c reach)
-its-turn c reach = said-turn _ _ _ _ _ _ (account_at reach).live _ reach.is_unknown reach.has_no_peer
+its-turn c reach = said-turn _ _ _ _ _ _ (account_at reach).live _ reach.is_unknown reach.peer
 
 -- ---- after an attempt
 

@@ -35,7 +35,7 @@ module _ (law : VerdictsSeeAnswersAlone) (records : List Sheet) (one other : Ide
       ∙ law (identity_holds one) (identity_holds other) half account how (alike.answers account.sheet is)
 
   pub turn_same : (reach : Reach) → IsAmong records (account_at reach).sheet → turn_at (circumstances one o at diverted false) reach ≡ turn_at (circumstances other o at diverted false) reach
-  turn_same reach is = ap (λ (d : Decision). turn_by d (own_bound (account_at reach).sheet) reach.is_unknown reach.has_no_peer) (verdict_same (account_at reach) ending.Arrived is)
+  turn_same reach is = ap (λ (d : Decision). turn_by d (own_bound (account_at reach).sheet) reach.is_unknown reach.peer) (verdict_same (account_at reach) ending.Arrived is)
 
   -- what follows of a decision after an attempt, under a record with this bound
   abbrev after_of : (bound : Option ℕ) → Decision → AfterEnd

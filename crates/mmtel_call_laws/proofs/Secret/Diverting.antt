@@ -1,5 +1,5 @@
 -- How a call goes on sees public parts alone: at a target, by diversions, and after an attempt.
-use Rattle.std.proofs.Common.{◌≡◌, ℕ, zero, suc, Bool, true, false, not, cond, List, [], ◌∷◌, refl, ap, sym, ◌∙◌, subst, Option, Some, None}
+use Rattle.std.proofs.Common.{◌≡◌, ℕ, zero, suc, Bool, true, false, not, List, [], ◌∷◌, refl, ap, sym, ◌∙◌, subst, Option, Some, None}
 use Rattle.std.specs.Option.{option_map}
 use Rattle.mmtel_answers.specs.Said.{Said, status_of as status_in}
 use Rattle.mmtel_desk.specs.declared.desks.Desk.{Desk}
@@ -13,8 +13,9 @@ use Rattle.mmtel_lex.specs.Grammar.{uri_text}
 use Rattle.mmtel_precedence.specs.Calls.{End, Standing}
 use Rattle.mmtel_precedence.specs.Laws.{VerdictsSeeAnswersAlone}
 use Rattle.mmtel_precedence.specs.Moves.{account_at}
-use Rattle.mmtel_precedence.specs.Services.{DueDiversion, is_reached}
+use Rattle.mmtel_precedence.specs.Services.{DueDiversion}
 use Rattle.mmtel_precedence.specs.Turns.{AfterEnd, EndAnswered, EndDivert, EndRefuse, Turn, TurnDivert, TurnOffer, TurnRefuse, turn_at}
+use Rattle.mmtel_precedence.specs.Verdicts.{too_many}
 use Rattle.mmtel_rules.specs.Alike.{AnswerAlike}
 use Rattle.mmtel_rules.specs.Identities.{identity_holds}
 use Rattle.mmtel_rules.specs.declared.values.Identities2.{Identities2}
@@ -30,7 +31,7 @@ use Rattle.mmtel_types.specs.declared.causes.Cause.TheVariants as causes
 use Rattle.mmtel_types.specs.declared.numbers.Account.{Account}
 use Rattle.mmtel_types.specs.declared.numbers.Peer.{Peer}
 use Rattle.mmtel_types.specs.declared.sides.Side.TheVariants.{Callee}
-use Rattle.mmtel_call_decisions.specs.Decisions.{aim_at, circumstances, decided_after, decided_at, handed_on, is_barred, is_status, its_sheet, peer_for, reach_at, served_at, service_of, target_of}
+use Rattle.mmtel_call_decisions.specs.Decisions.{aim_at, circumstances, decided_after, decided_at, handed_on, is_status, its_sheet, peer_for, reach_at, served_at, service_of, target_of}
 use Rattle.mmtel_call_decisions.specs.Showing.{masks_all, told_list}
 use Rattle.mmtel_call_decisions.specs.Site.{Site, trusts}
 use Rattle.mmtel_call_decisions.specs.declared.openings.Opening.{Opening}
@@ -38,8 +39,9 @@ use Rattle.mmtel_call_decisions.specs.declared.openings.Service.{Service}
 use Rattle.mmtel_call.specs.declared.calls.Call.{Call}
 use Rattle.mmtel_call.specs.declared.calls.Trial.{Trial}
 use Rattle.mmtel_call.specs.Closing.{Step, over, with_past}
-use Rattle.mmtel_call.specs.Diverting.{at_target, divert, diverted, goes_on, is_diverted, made, offer_where, on_end, on_turn, passed_by, refused, refused_by, told_of, too_many}
+use Rattle.mmtel_call.specs.Diverting.{at_target, divert, diverted, goes_on, is_diverted, made, made_unless, on_end, on_turn, passed_by, refusal_by, refused, refused_by, told_of}
 use Rattle.mmtel_call.specs.Sending.{relayed_to_caller, told_caller, told_diversion}
+use Rattle.mmtel_call.specs.Offering.{offer}
 use Rattle.mmtel_call_laws.specs.Secret.Parts.{public_call, public_leg, public_trial}
 use Rattle.mmtel_call_laws.specs.Secret.Premises.{AreAsked, DecideAlike, Fits, IsAmong, IsAsked, ServiceIsAsked}
 use Rattle.mmtel_call_laws.specs.Secret.Roles.{Role, opening_role, private_places, without_private}
@@ -89,18 +91,17 @@ module _ (heads : Heads) (law : VerdictsSeeAnswersAlone) (records : List Sheet) 
   DivertsAlike f g = (who : Identities2) (service : Option Service) (due : DueDiversion) (c : Call) (one other : Desk) → IsAsked T c.opening.key c.opening.invite → DecideAlike records who c.opening.identities → AlikeDesks T one other →
       AlikeSteps T (f service due (public_call known who c) one) (g service due c other)
 
-  offers-alike : (peer : Option Peer) (who : Identities2) (caller : Leg) (service : Option Service) (waiting : Bool) (cause : Option ℕ) (target : Target) (c : Call) (one other : Desk) → IsAsked T c.opening.key c.opening.invite → AlikeDesks T one other →
-      AlikeSteps T (offer_where peer site now.at (public_leg known caller) service waiting cause target (public_call known who c) one) (offer_where peer site now.at caller service waiting cause target c other)
-  offers-alike None who caller service waiting cause target c one other asked a = refuses-alike who now.at caller causes.NoRoute (passed_by now.at service c) one other asked a
-  offers-alike (Some peer) who caller service waiting None target c one other asked a = offer-alike heads site keys who now.at caller service waiting (aim_at c.opening peer None target) c one other a
-  offers-alike (Some peer) who caller service waiting (Some cause) target c one other asked a = offer-alike heads site keys who now.at caller service waiting (aim_at c.opening peer (Some cause) target) c one other a
+  offers-alike : (peer : Peer) (who : Identities2) (caller : Leg) (service : Option Service) (waiting : Bool) (cause : Option ℕ) (target : Target) (c : Call) (one other : Desk) → IsAsked T c.opening.key c.opening.invite → AlikeDesks T one other →
+      AlikeSteps T (offer site now.at (public_leg known caller) service waiting (aim_at (public_call known who c).opening peer cause target) (public_call known who c) one) (offer site now.at caller service waiting (aim_at c.opening peer cause target) c other)
+  offers-alike peer who caller service waiting None target c one other asked a = offer-alike heads site keys who now.at caller service waiting (aim_at c.opening peer None target) c one other a
+  offers-alike peer who caller service waiting (Some cause) target c one other asked a = offer-alike heads site keys who now.at caller service waiting (aim_at c.opening peer (Some cause) target) c one other a
 
   module _ (f g : Option Service → DueDiversion → Call → Desk → Step) (diverts : DivertsAlike f g) where
-    turn-alike : (turn : Turn) (who : Identities2) (caller : Leg) (service : Option Service) (peer : Option Peer) (cause : Option ℕ) (target : Target) (c : Call) (one other : Desk) → IsAsked T c.opening.key c.opening.invite → DecideAlike records who c.opening.identities → AlikeDesks T one other →
-        AlikeSteps T (on_turn f site now.at (public_leg known caller) service peer cause target turn (public_call known who c) one) (on_turn g site now.at caller service peer cause target turn c other)
-    turn-alike (TurnOffer waiting) who caller service peer cause target c one other asked alike a = offers-alike peer who caller service waiting cause target c one other asked a
-    turn-alike (TurnDivert due) who caller service peer cause target c one other asked alike a = diverts who service due (passed_by now.at service c) one other asked alike a
-    turn-alike (TurnRefuse why) who caller service peer cause target c one other asked alike a = refuses-alike who now.at caller why (passed_by now.at service c) one other asked a
+    turn-alike : (turn : Turn) (who : Identities2) (caller : Leg) (service : Option Service) (cause : Option ℕ) (target : Target) (c : Call) (one other : Desk) → IsAsked T c.opening.key c.opening.invite → DecideAlike records who c.opening.identities → AlikeDesks T one other →
+        AlikeSteps T (on_turn f site now.at (public_leg known caller) service cause target turn (public_call known who c) one) (on_turn g site now.at caller service cause target turn c other)
+    turn-alike (TurnOffer peer waiting) who caller service cause target c one other asked alike a = offers-alike peer who caller service waiting cause target c one other asked a
+    turn-alike (TurnDivert due) who caller service cause target c one other asked alike a = diverts who service due (passed_by now.at service c) one other asked alike a
+    turn-alike (TurnRefuse why) who caller service cause target c one other asked alike a = refuses-alike who now.at caller why (passed_by now.at service c) one other asked a
 
     reach_asked : (served : Option Account) (peer : Option Peer) (cause : Option ℕ) (target : Target) (o : Opening) → IsAmong records (account_at (reach_at site now o cause target (option_map (service_of now) served) peer)).sheet
     reach_asked None peer cause target o = all_asked.none
@@ -108,11 +109,11 @@ module _ (heads : Heads) (law : VerdictsSeeAnswersAlone) (records : List Sheet) 
 
     served-alike : (served : Option Account) (who : Identities2) (caller : Leg) (peer : Option Peer) (cause : Option ℕ) (target : Target) (c : Call) (one other : Desk) → IsAsked T c.opening.key c.opening.invite → DecideAlike records who c.opening.identities → AlikeDesks T one other →
         (turn : Turn) → turn ≡ decided_at site now c.opening (is_diverted c) cause target (option_map (service_of now) served) peer →
-        AlikeSteps T (on_turn f site now.at (public_leg known caller) (option_map (service_of now) served) peer cause target turn (public_call known who c) one) (on_turn g site now.at caller (option_map (service_of now) served) peer cause target (decided_at site now c.opening (is_diverted c) cause target (option_map (service_of now) served) peer) c other)
+        AlikeSteps T (on_turn f site now.at (public_leg known caller) (option_map (service_of now) served) cause target turn (public_call known who c) one) (on_turn g site now.at caller (option_map (service_of now) served) cause target (decided_at site now c.opening (is_diverted c) cause target (option_map (service_of now) served) peer) c other)
     served-alike served who caller peer cause target c one other asked alike a turn e =
         let service : Option Service = option_map (service_of now) served in
-        subst (λ (t : Turn). AlikeSteps T (on_turn f site now.at (public_leg known caller) service peer cause target t (public_call known who c) one) (on_turn g site now.at caller service peer cause target (decided_at site now c.opening (is_diverted c) cause target service peer) c other)) (sym e)
-        (turn-alike (decided_at site now c.opening (is_diverted c) cause target service peer) who caller service peer cause target c one other asked alike a)
+        subst (λ (t : Turn). AlikeSteps T (on_turn f site now.at (public_leg known caller) service cause target t (public_call known who c) one) (on_turn g site now.at caller service cause target (decided_at site now c.opening (is_diverted c) cause target service peer) c other)) (sym e)
+        (turn-alike (decided_at site now c.opening (is_diverted c) cause target service peer) who caller service cause target c one other asked alike a)
 
     decides : (who : Identities2) (diverted : Bool) (served : Option Account) (peer : Option Peer) (cause : Option ℕ) (target : Target) (o : Opening) → DecideAlike records who o.identities →
         turn_at (circumstances who o now.at diverted false) (reach_at site now o cause target (option_map (service_of now) served) peer) ≡ decided_at site now o diverted cause target (option_map (service_of now) served) peer
@@ -189,26 +190,25 @@ module _ (heads : Heads) (law : VerdictsSeeAnswersAlone) (records : List Sheet) 
       steps-then T (at_next left due pl x d) (at_next left due pl (public_call known who y) d) (at_next left due caller y e)
       (steps-back T (at_next left due pl (public_call known who y) d) (at_next left due pl x d) moved) second
 
+  -- what stands before a diversion refuses it in both, or in neither
+  unless-alike : (refusal : Option Cause) (f g : Call → Desk → Step) (who : Identities2) (caller : Leg) (c : Call) (one other : Desk) → IsAsked T c.opening.key c.opening.invite → AlikeDesks T one other →
+      AlikeSteps T (f (public_call known who c) one) (g c other) →
+      AlikeSteps T (made_unless refusal f site now.at (public_leg known caller) (public_call known who c) one) (made_unless refusal g site now.at caller c other)
+  unless-alike None f g who caller c one other asked a goes = goes
+  unless-alike (Some cause) f g who caller c one other asked a goes = refuses-alike who now.at caller cause c one other asked a
+
   pub divert-alike : (left : ℕ) (caller : Leg) → DivertsAlike (divert left site now (public_leg known caller)) (divert left site now caller)
   unfolding divert
   divert-alike zero caller who service due c one other asked alike a =
-      let d : Call = public_call known who c in
       let pl : Leg = public_leg known caller in
-      step-if T (is_barred site c.opening now.at service due) (refused site now.at pl causes.OutgoingBarred d one) (refused site now.at pl (too_many due) d one) (refused site now.at caller causes.OutgoingBarred c other) (refused site now.at caller (too_many due) c other)
-      (refuses-alike who now.at caller causes.OutgoingBarred c one other asked a) (refuses-alike who now.at caller (too_many due) c one other asked a)
+      unless-alike (refusal_by 0 site now.at service due c) (refused site now.at pl (too_many due.cause)) (refused site now.at caller (too_many due.cause)) who caller c one other asked a
+      (refuses-alike who now.at caller (too_many due.cause) c one other asked a)
   divert-alike (suc left) caller who service due c one other asked alike a =
-      let d : Call = public_call known who c in
       let pl : Leg = public_leg known caller in
       let tg : Target = target_of site due in
-      let goes : Step = made (at_next left due pl) site tg now.at left service due d one in
-      let gone : Step = made (at_next left due caller) site tg now.at left service due c other in
-      let reached : Bool = is_reached due.bound c.diversions.count in
-      step-if T (is_barred site c.opening now.at service due) (refused site now.at pl causes.OutgoingBarred d one) (cond reached (refused site now.at pl (too_many due) d one) goes)
-      (refused site now.at caller causes.OutgoingBarred c other) (cond reached (refused site now.at caller (too_many due) c other) gone)
-      (refuses-alike who now.at caller causes.OutgoingBarred c one other asked a)
-      (step-if T reached (refused site now.at pl (too_many due) d one) goes (refused site now.at caller (too_many due) c other) gone
-      (refuses-alike who now.at caller (too_many due) c one other asked a)
-      (made-alike left (λ l. divert-alike left l) caller who service due c one other asked alike a))
+      unless-alike (refusal_by (suc left) site now.at service due c) (made (at_next left due pl) site tg now.at left service due) (made (at_next left due caller) site tg now.at left service due)
+      who caller c one other asked a
+      (made-alike left (λ l. divert-alike left l) caller who service due c one other asked alike a)
 
   -- ---- after an attempt
 

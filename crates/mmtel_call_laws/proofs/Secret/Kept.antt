@@ -11,8 +11,9 @@ use Rattle.mmtel_leg.specs.Legs.{Leg}
 use Rattle.mmtel_leg.specs.declared.dialogues.DialogueFault.{DialogueFault}
 use Rattle.mmtel_precedence.specs.Attempts.{end_by_final, end_by_time}
 use Rattle.mmtel_precedence.specs.Calls.{End, NoReply, NotReachable, Standing}
-use Rattle.mmtel_precedence.specs.Services.{DueDiversion, is_reached}
+use Rattle.mmtel_precedence.specs.Services.{DueDiversion}
 use Rattle.mmtel_precedence.specs.Turns.{AfterEnd, EndAnswered, EndDivert, EndRefuse, Turn, TurnDivert, TurnOffer, TurnRefuse}
+use Rattle.mmtel_precedence.specs.Verdicts.{too_many}
 use Rattle.mmtel_targets.specs.declared.targets.Target.{Target}
 use Rattle.mmtel_transaction.specs.declared.words.DueWord.{DueWord}
 use Rattle.mmtel_transaction.specs.declared.words.DueWord.TheVariants as due
@@ -20,10 +21,9 @@ use Rattle.mmtel_transaction.specs.declared.words.TKey.{TKey}
 use Rattle.mmtel_types.specs.Sides.{other_of}
 use Rattle.mmtel_types.specs.declared.causes.Cause.{Cause}
 use Rattle.mmtel_types.specs.declared.causes.Cause.TheVariants as causes
-use Rattle.mmtel_types.specs.declared.numbers.Peer.{Peer}
 use Rattle.mmtel_types.specs.declared.sides.Side.{Side}
 use Rattle.mmtel_types.specs.declared.sides.Side.TheVariants.{Caller, Callee}
-use Rattle.mmtel_call_decisions.specs.Decisions.{decided_after, decided_at, handed_on, is_barred, is_status, peer_for, redirect_of, served_at, service_at, service_of, target_of}
+use Rattle.mmtel_call_decisions.specs.Decisions.{decided_after, decided_at, handed_on, is_status, peer_for, redirect_of, served_at, service_at, service_of, target_of}
 use Rattle.mmtel_desk.specs.Invites.{invite_answered, invite_silent}
 use Rattle.mmtel_call_decisions.specs.Opening.{first_of, opening_of, refusal_of}
 use Rattle.mmtel_call_decisions.specs.Requests.{is_same_side}
@@ -42,7 +42,7 @@ use Rattle.mmtel_call.specs.declared.calls.Trial.{Trial}
 use Rattle.mmtel_call.specs.declared.calls.Phase.TheVariants.{Lent, Offered, Over, Stood}
 use Rattle.mmtel_call.specs.declared.calls.Stage.TheVariants.{Answered, Asking, Parting, Talking}
 use Rattle.mmtel_call.specs.Closing.{Step, onward, over, over_stood, with_past}
-use Rattle.mmtel_call.specs.Diverting.{at_target, divert, diverted, goes_on, is_diverted, offer_where, on_end, on_turn, passed_by, refused, refused_by, told_of, too_many}
+use Rattle.mmtel_call.specs.Diverting.{at_target, divert, diverted, goes_on, is_diverted, made, made_unless, on_end, on_turn, passed_by, refusal_by, refused, refused_by, told_of}
 use Rattle.mmtel_call.specs.Leaving.{answered_at, answered_loose, answered_other, answered_taken, answered_taken_at, forked, is_fork, is_success, is_taken, repeated, without_silent}
 use Rattle.mmtel_call.specs.Opening.{caller_of, new_call, opened, unless_refused}
 use Rattle.mmtel_call.specs.Reinvites.{agreed, bye_to_both, cancelled_across, ends_dialog, on_response_across, proceeding_across, refused_back}
@@ -109,34 +109,32 @@ module _ (request : TKey → Said → Type 0) (service : Option Service → Type
   -- ---- how a call goes on
 
   module _ (site : Site) (now : Standing) (stands : Stands service now) where
-    where-keeps : (peer : Option Peer) (caller : Leg) (its : Option Service) → service its → (waiting : Bool) (cause : Option ℕ) (target : Target) (c : Call) (desk : Desk) → Keeps (offer_where peer site now.at caller its waiting cause target c desk)
-    where-keeps None caller its h waiting cause target c desk = tt
-    where-keeps (Some peer) caller its h waiting cause target c desk = h
-
     abbrev Diverts : (f : Option Service → DueDiversion → Call → Desk → Step) → Type 0
     Diverts f = (its : Option Service) (due : DueDiversion) (c : Call) (desk : Desk) → Keeps (f its due c desk)
 
-    turn-keeps : (f : Option Service → DueDiversion → Call → Desk → Step) → Diverts f → (turn : Turn) (caller : Leg) (its : Option Service) → service its → (peer : Option Peer) (cause : Option ℕ) (target : Target) (c : Call) (desk : Desk) →
-        Keeps (on_turn f site now.at caller its peer cause target turn c desk)
-    turn-keeps f keeps (TurnOffer waiting) caller its h peer cause target c desk = where-keeps peer caller its h waiting cause target c desk
-    turn-keeps f keeps (TurnDivert due) caller its h peer cause target c desk = keeps its due (passed_by now.at its c) desk
-    turn-keeps f keeps (TurnRefuse why) caller its h peer cause target c desk = tt
+    turn-keeps : (f : Option Service → DueDiversion → Call → Desk → Step) → Diverts f → (turn : Turn) (caller : Leg) (its : Option Service) → service its → (cause : Option ℕ) (target : Target) (c : Call) (desk : Desk) →
+        Keeps (on_turn f site now.at caller its cause target turn c desk)
+    turn-keeps f keeps (TurnOffer peer waiting) caller its h cause target c desk = h
+    turn-keeps f keeps (TurnDivert due) caller its h cause target c desk = keeps its due (passed_by now.at its c) desk
+    turn-keeps f keeps (TurnRefuse why) caller its h cause target c desk = tt
 
     target-keeps : (f : Option Service → DueDiversion → Call → Desk → Step) → Diverts f → (caller : Leg) (cause : Option ℕ) (target : Target) (c : Call) (desk : Desk) → Keeps (at_target f site now caller cause target c desk)
     target-keeps f keeps caller cause target c desk =
         turn-keeps f keeps (decided_at site now c.opening (is_diverted c) cause target (service_at site now c.opening cause target) (peer_for site c.opening target)) caller (service_at site now c.opening cause target)
-        (stands (served_at site c.opening cause target)) (peer_for site c.opening target) cause target c desk
+        (stands (served_at site c.opening cause target)) cause target c desk
+
+    unless-keeps : (refusal : Option Cause) (onward : Call → Desk → Step) (caller : Leg) (c : Call) (desk : Desk) → Keeps (onward c desk) → Keeps (made_unless refusal onward site now.at caller c desk)
+    unless-keeps None onward caller c desk h = h
+    unless-keeps (Some cause) onward caller c desk h = tt
 
     divert-keeps : (left : ℕ) (caller : Leg) → Diverts (divert left site now caller)
     unfolding divert
-    divert-keeps zero caller its due c desk = keep-if (is_barred site c.opening now.at its due) (refused site now.at caller causes.OutgoingBarred c desk) (refused site now.at caller (too_many due) c desk) tt tt
+    divert-keeps zero caller its due c desk = unless-keeps (refusal_by 0 site now.at its due c) (refused site now.at caller (too_many due.cause)) caller c desk tt
     divert-keeps (suc left) caller its due c desk =
         let next : Call = diverted (target_of site due) now.at left its due c in
-        let reached : Bool = is_reached due.bound c.diversions.count in
-        let onward : Step = at_target (divert left site now caller) site now caller (Some due.cause) (target_of site due) next (told_of site due next desk) in
-        keep-if (is_barred site c.opening now.at its due) (refused site now.at caller causes.OutgoingBarred c desk) (cond reached (refused site now.at caller (too_many due) c desk) onward) tt
-        (keep-if reached (refused site now.at caller (too_many due) c desk) onward tt
-        (target-keeps (divert left site now caller) (divert-keeps left caller) caller (Some due.cause) (target_of site due) next (told_of site due next desk)))
+        unless-keeps (refusal_by (suc left) site now.at its due c)
+        (made (at_target (divert left site now caller) site now caller (Some due.cause) (target_of site due)) site (target_of site due) now.at left its due) caller c desk
+        (target-keeps (divert left site now caller) (divert-keeps left caller) caller (Some due.cause) (target_of site due) next (told_of site due next desk))
 
     refused_by-keeps : (caller : Leg) (its : Option Service) (m : Option Said) (cause : Cause) (c : Call) (desk : Desk) → Keeps (refused_by site now.at caller its m cause c desk)
     refused_by-keeps caller its None cause c desk = tt
@@ -330,15 +328,15 @@ module _ (request : TKey → Said → Type 0) (service : Option Service → Type
 
     -- ---- the opening
 
-    unless-keeps : (refusal : Option Cause) (caller : Leg) (c : Call) (desk : Desk) → Keeps (unless_refused refusal site now caller c desk)
-    unless-keeps None caller c desk = target-keeps (divert c.diversions.left site now caller) (divert-keeps c.diversions.left caller) caller None (first_of c.opening) c desk
-    unless-keeps (Some cause) caller c desk = tt
+    unrefused-keeps : (refusal : Option Cause) (caller : Leg) (c : Call) (desk : Desk) → Keeps (unless_refused refusal site now caller c desk)
+    unrefused-keeps None caller c desk = target-keeps (divert c.diversions.left site now caller) (divert-keeps c.diversions.left caller) caller None (first_of c.opening) c desk
+    unrefused-keeps (Some cause) caller c desk = tt
 
     opening-keeps : (a : Arrival) (desk : Desk) → Keeps (opened site now a desk)
     unfolding opened
     opening-keeps a desk =
         let c : Call = new_call site (opening_of site now (token desk) a) in
-        unless-keeps (refusal_of site now.at c.opening) (caller_of now.at c) c (told_caller site c 100 (drew desk))
+        unrefused-keeps (refusal_of site now.at c.opening) (caller_of now.at c) c (told_caller site c 100 (drew desk))
 
   -- ---- a leg is taken out, or put back
 

@@ -21,6 +21,7 @@ use Rattle.mmtel_sheet_values.specs.declared.values.Forward.{Forward}
 use Rattle.mmtel_sheet_values.specs.declared.values.Rule.{Rule}
 use Rattle.mmtel_sheet_values.specs.declared.values.Sheet.{Sheet}
 use Rattle.mmtel_types.specs.declared.causes.Cause.{Cause}
+use Rattle.mmtel_types.specs.declared.numbers.Peer.{Peer}
 use Rattle.mmtel_waiting.specs.Waiting.{is_busy}
 use Rattle.mmtel_call_laws.specs.Secret.Directories.{Forwards}
 
@@ -99,20 +100,20 @@ module _ (sheet : Sheet) where
 
   -- a turn that diverts leads to where a rule of the record does
   abbrev pub TurnLeads : Turn → Type 0
-  TurnLeads (TurnOffer waiting) = Unit {0}
+  TurnLeads (TurnOffer peer waiting) = Unit {0}
   TurnLeads (TurnDivert due) = Forwards sheet due.forward
   TurnLeads (TurnRefuse cause) = Unit {0}
 
-  offer-leads : (unknown no_peer waiting : Bool) → TurnLeads (offer_turn unknown no_peer waiting)
-  offer-leads true no_peer waiting = tt
-  offer-leads false true waiting = tt
-  offer-leads false false waiting = tt
+  offer-leads : (unknown : Bool) (peer : Option Peer) (waiting : Bool) → TurnLeads (offer_turn unknown peer waiting)
+  offer-leads true peer waiting = tt
+  offer-leads false None waiting = tt
+  offer-leads false (Some peer) waiting = tt
 
-  by-leads : (d : Decision) (bound : Option ℕ) (unknown no_peer : Bool) → DecisionLeads d → TurnLeads (turn_by d bound unknown no_peer)
-  by-leads (Offers waiting) bound unknown no_peer a = offer-leads unknown no_peer waiting
-  by-leads (Diverted None cause) bound unknown no_peer a = tt
-  by-leads (Diverted (Some forward) cause) bound unknown no_peer a = a
-  by-leads (Ends cause) bound unknown no_peer a = tt
+  by-leads : (d : Decision) (bound : Option ℕ) (unknown : Bool) (peer : Option Peer) → DecisionLeads d → TurnLeads (turn_by d bound unknown peer)
+  by-leads (Offers waiting) bound unknown peer a = offer-leads unknown peer waiting
+  by-leads (Diverted None cause) bound unknown peer a = tt
+  by-leads (Diverted (Some forward) cause) bound unknown peer a = a
+  by-leads (Ends cause) bound unknown peer a = tt
 
   arrival-leads : (k : Circumstances) (registered : Bool) (live : ℕ) → DecisionLeads (verdict_of k (record { sheet = sheet; registered = registered; live = live }) ending.Arrived)
   arrival-leads k registered live =
@@ -137,5 +138,5 @@ module _ (sheet : Sheet) where
 
 pub turn-leads : (k : Circumstances) (reach : Reach) → TurnLeads (account_at reach).sheet (turn_at k reach)
 turn-leads k reach =
-    by-leads (account_at reach).sheet (verdict_of k (account_at reach) ending.Arrived) (own_bound (account_at reach).sheet) reach.is_unknown reach.has_no_peer
+    by-leads (account_at reach).sheet (verdict_of k (account_at reach) ending.Arrived) (own_bound (account_at reach).sheet) reach.is_unknown reach.peer
     (arrival-leads (account_at reach).sheet k (account_at reach).registered (account_at reach).live)

@@ -1,8 +1,9 @@
 -- Of the URIs of accounts a step of a call sees the answers to its look-ups alone: under two configurations that are equal but for these it comes to the same, where the answers are the same.
 use Rattle.std.proofs.Common.{◌≡◌, ℕ, zero, suc, ◌==◌, Bool, true, false, not, List, refl, ap, ◌∙◌, cond, subst, Option, Some, None}
-use Rattle.std.specs.Prelude.{◌&&◌, Result, Ok, Err, is_none, nat_lt, position, slice_get}
+use Rattle.std.specs.Prelude.{◌&&◌, Result, Ok, Err, nat_lt, position, slice_get}
 use Rattle.std.specs.Option.{option_map, option_or}
 use Rattle.mmtel_answers.specs.Said.{Said, status_of}
+use Rattle.mmtel_answers.specs.declared.attempts.Aim.{Aim}
 use Rattle.mmtel_desk.specs.Desks.{drew, token}
 use Rattle.mmtel_desk.specs.Loose.{is_of}
 use Rattle.mmtel_desk.specs.Sending.{final_acked}
@@ -15,9 +16,10 @@ use Rattle.mmtel_lex.specs.declared.values.Uri.{Uri}
 use Rattle.mmtel_precedence.specs.Attempts.{end_by_final, end_by_redirection, end_by_time, is_redirection, is_success, is_unreachable, is_user_busy}
 use Rattle.mmtel_precedence.specs.Calls.{Answer, Cancel, Deflection, End, NoReply, NotReachable, Other, Reach, Standing, UserBusy}
 use Rattle.mmtel_precedence.specs.Moves.{account_at}
-use Rattle.mmtel_precedence.specs.Services.{DueDiversion, due_on, is_reached, own_bound}
+use Rattle.mmtel_precedence.specs.Services.{DueDiversion, due_on, own_bound}
 use Rattle.mmtel_precedence.specs.Targets.{deflected_to}
 use Rattle.mmtel_precedence.specs.Turns.{AfterEnd, EndAnswered, EndDivert, EndRefuse, Turn, TurnDivert, TurnOffer, TurnRefuse, divert_or_refuse, turn_at, turn_on}
+use Rattle.mmtel_precedence.specs.Verdicts.{too_many}
 use Rattle.mmtel_rules.specs.Circumstances.{Circumstances}
 use Rattle.mmtel_rules.specs.declared.values.When.TheVariants as event
 use Rattle.mmtel_sheet_values.specs.declared.values.Sheet.{Sheet}
@@ -37,7 +39,7 @@ use Rattle.mmtel_types.specs.declared.numbers.Account.{Account}
 use Rattle.mmtel_types.specs.declared.numbers.Peer.{Peer}
 use Rattle.mmtel_types.specs.declared.sides.Side.{Side}
 use Rattle.mmtel_types.specs.declared.sides.Side.TheVariants.{Caller, Callee}
-use Rattle.mmtel_call_decisions.specs.Decisions.{account_by, decided_after, is_barred, its_sheet, of_caller, peer_for, redirect_of, service_of, target_of, told_at}
+use Rattle.mmtel_call_decisions.specs.Decisions.{account_by, aim_at, decided_after, its_sheet, of_caller, peer_for, redirect_of, service_of, target_of, told_at}
 use Rattle.mmtel_desk.specs.Invites.{invite_answered, invite_silent}
 use Rattle.mmtel_call_decisions.specs.Opening.{first_of, opening_of, refusal_of}
 use Rattle.mmtel_call_decisions.specs.Showing.{shown_to}
@@ -55,7 +57,7 @@ use Rattle.mmtel_call.specs.declared.calls.Trial.{Trial}
 use Rattle.mmtel_call.specs.declared.calls.Phase.TheVariants.{Lent, Offered, Over, Stood}
 use Rattle.mmtel_call.specs.declared.calls.Stage.TheVariants.{Answered, Asking, Parting, Talking}
 use Rattle.mmtel_call.specs.Closing.{Step, onward}
-use Rattle.mmtel_call.specs.Diverting.{at_target, divert, diverted, goes_on, is_diverted, offer_where, on_end, on_turn, passed_by, refused, refused_by, told_of, too_many}
+use Rattle.mmtel_call.specs.Diverting.{at_target, divert, diverted, goes_on, is_diverted, made, made_unless, on_end, on_turn, passed_by, refusal_by, refused, refused_by, told_of}
 use Rattle.mmtel_call.specs.Leaving.{answered_at, answered_loose, answered_other, answered_taken, answered_taken_at, is_taken, without_silent}
 use Rattle.mmtel_call.specs.Lending.{finished, finished_in}
 use Rattle.mmtel_call.specs.Opening.{caller_of, new_call, opened, unless_refused}
@@ -66,6 +68,7 @@ use Rattle.mmtel_call.specs.Stages.{busy_in, has_left, is_due_at, left_by, on_ac
 use Rattle.mmtel_call.specs.Table.{ack_in, answer_to, cancel_in, due_in, is_current, request_in, response_in, silence_in, silence_of, step}
 use Rattle.mmtel_call.specs.declared.signals.Signal.{Signal}
 use Rattle.mmtel_call.specs.declared.signals.Signal.TheVariants as signal
+use Rattle.mmtel_call.specs.Offering.{offer}
 use Rattle.mmtel_call_laws.specs.Secret.Directories.{AnswerLeads, ArrivesAlike, EndsLookUpNone, EqualButForAccounts, OpeningsSeeLookUpsAlone, PhaseLeads, RecordsLeadAlike, RedirectsAlike, StepLeads, StepsSeeLookUpsAlone}
 use Rattle.mmtel_call_laws.specs.Secret.Premises.{AreAsked, IsAmong, ServiceIsAsked}
 use Rattle.mmtel_call_laws.specs.Secret.Table.{ServedIn}
@@ -90,11 +93,10 @@ module _ (site : Site) (accounts : List AccountIdentity) (now : Standing) where
   abbrev far : Site
   far = with_accounts
 
-  pub where-same : (peer : Option Peer) (caller : Leg) (service : Option Service) (waiting : Bool) (cause : Option ℕ) (target : Target) (c : Call) (desk : Desk) →
-      offer_where peer site now.at caller service waiting cause target c desk ≡ offer_where peer far now.at caller service waiting cause target c desk
+  pub offer-same : (caller : Leg) (service : Option Service) (waiting : Bool) (aim : Aim) (c : Call) (desk : Desk) →
+      offer site now.at caller service waiting aim c desk ≡ offer far now.at caller service waiting aim c desk
   unfolding shown_to
-  where-same None caller service waiting cause target c desk = refl
-  where-same (Some peer) caller service waiting cause target c desk = refl
+  offer-same caller service waiting aim c desk = refl
 
   pub refused_by-same : (caller : Leg) (service : Option Service) (m : Option Said) (cause : Cause) (c : Call) (desk : Desk) →
       refused_by site now.at caller service m cause c desk ≡ refused_by far now.at caller service m cause c desk
@@ -229,12 +231,12 @@ module _ (records : List Sheet) (site : Site) (accounts : List AccountIdentity) 
   Same target = account_of site.accounts target.uri ≡ account_of accounts target.uri
 
   abbrev TurnSame : Turn → Type 0
-  TurnSame (TurnOffer waiting) = Unit {0}
+  TurnSame (TurnOffer peer waiting) = Unit {0}
   TurnSame (TurnDivert due) = Same (target_of site due)
   TurnSame (TurnRefuse cause) = Unit {0}
 
   turn-looks : (sheet : Sheet) → IsAmong records sheet → (turn : Turn) → TurnLeads sheet turn → TurnSame turn
-  turn-looks sheet is (TurnOffer waiting) a = tt
+  turn-looks sheet is (TurnOffer peer waiting) a = tt
   turn-looks sheet is (TurnDivert due) a = lead sheet is due.forward a
   turn-looks sheet is (TurnRefuse cause) a = tt
 
@@ -243,11 +245,11 @@ module _ (records : List Sheet) (site : Site) (accounts : List AccountIdentity) 
   DivertsSame f g = (service : Option Service) (due : DueDiversion) (c : Call) (desk : Desk) → Same (target_of site due) → f service due c desk ≡ g service due c desk
 
   turn-same : (f g : Option Service → DueDiversion → Call → Desk → Step) → DivertsSame f g → (turn : Turn) → TurnSame turn →
-      (caller : Leg) (service : Option Service) (peer : Option Peer) (cause : Option ℕ) (target : Target) (c : Call) (desk : Desk) →
-      on_turn f site now.at caller service peer cause target turn c desk ≡ on_turn g far2 now.at caller service peer cause target turn c desk
-  turn-same f g same (TurnOffer waiting) e caller service peer cause target c desk = where-same site accounts now peer caller service waiting cause target c desk
-  turn-same f g same (TurnDivert due) e caller service peer cause target c desk = same service due (passed_by now.at service c) desk e
-  turn-same f g same (TurnRefuse why) e caller service peer cause target c desk = refl
+      (caller : Leg) (service : Option Service) (cause : Option ℕ) (target : Target) (c : Call) (desk : Desk) →
+      on_turn f site now.at caller service cause target turn c desk ≡ on_turn g far2 now.at caller service cause target turn c desk
+  turn-same f g same (TurnOffer peer waiting) e caller service cause target c desk = offer-same site accounts now caller service waiting (aim_at c.opening peer cause target) c desk
+  turn-same f g same (TurnDivert due) e caller service cause target c desk = same service due (passed_by now.at service c) desk e
+  turn-same f g same (TurnRefuse why) e caller service cause target c desk = refl
 
   -- how the target stands, where this account is served there, and this one has its URI
   abbrev reach_by : (served found : Option Account) → Option Peer → (cause : Option ℕ) → Target → Opening → Reach
@@ -255,12 +257,12 @@ module _ (records : List Sheet) (site : Site) (accounts : List AccountIdentity) 
     at = now.at;
     served = option_map (account_by now (told_at o cause)) (option_map (service_of now) served);
     is_unknown = is_unknown site.home (option_or served found) target;
-    has_no_peer = is_none peer;
+    peer = peer;
   }
 
   abbrev step_by : (f : Option Service → DueDiversion → Call → Desk → Step) → Site → (served found : Option Account) → Leg → (cause : Option ℕ) → Target → Call → Desk → Step
   step_by f s served found caller cause target c desk =
-      on_turn f s now.at caller (option_map (service_of now) served) (peer_for site c.opening target) cause target
+      on_turn f s now.at caller (option_map (service_of now) served) cause target
       (turn_at (of_caller c.opening now.at (is_diverted c)) (reach_by served found (peer_for site c.opening target) cause target c.opening)) c desk
 
   reach_asked : (served found : Option Account) (peer : Option Peer) (cause : Option ℕ) (target : Target) (o : Opening) → IsAmong records (account_at (reach_by served found peer cause target o)).sheet
@@ -274,7 +276,7 @@ module _ (records : List Sheet) (site : Site) (accounts : List AccountIdentity) 
       let reach : Reach = reach_by served found peer cause target c.opening in
       let turn : Turn = turn_at (of_caller c.opening now.at (is_diverted c)) reach in
       turn-same f g same turn (turn-looks (account_at reach).sheet (reach_asked served found peer cause target c.opening) turn (turn-leads (of_caller c.opening now.at (is_diverted c)) reach))
-      caller (option_map (service_of now) served) peer cause target c desk
+      caller (option_map (service_of now) served) cause target c desk
 
   target-same : (f g : Option Service → DueDiversion → Call → Desk → Step) → DivertsSame f g → (caller : Leg) (cause : Option ℕ) (target : Target) (c : Call) (desk : Desk) → Same target →
       at_target f site now caller cause target c desk ≡ at_target g far2 now caller cause target c desk
@@ -285,13 +287,20 @@ module _ (records : List Sheet) (site : Site) (accounts : List AccountIdentity) 
       by-same f g same (diverted_served c.opening.served (account_of site.accounts target.uri)) (account_of site.accounts target.uri) caller (Some cause) target c desk
       ∙ ap (λ (found : Option Account). step_by g far2 (diverted_served c.opening.served found) found caller (Some cause) target c desk) e
 
+  -- what stands before a diversion refuses it in both, or in neither
+  unless-same : (refusal : Option Cause) (f g : Call → Desk → Step) (caller : Leg) (c : Call) (desk : Desk) → f c desk ≡ g c desk →
+      made_unless refusal f site now.at caller c desk ≡ made_unless refusal g far2 now.at caller c desk
+  unless-same None f g caller c desk e = e
+  unless-same (Some cause) f g caller c desk e = refl
+
   divert-same : (left : ℕ) (caller : Leg) → DivertsSame (divert left site now caller) (divert left far2 now caller)
   unfolding divert
-  divert-same zero caller service due c desk e = refl
+  divert-same zero caller service due c desk e = unless-same (refusal_by 0 site now.at service due c) (refused site now.at caller (too_many due.cause)) (refused far2 now.at caller (too_many due.cause)) caller c desk refl
   divert-same (suc left) caller service due c desk e =
       let next : Call = diverted (target_of site due) now.at left service due c in
-      ap (λ (s : Step). cond (is_barred site c.opening now.at service due) (refused site now.at caller causes.OutgoingBarred c desk)
-      (cond (is_reached due.bound c.diversions.count) (refused site now.at caller (too_many due) c desk) s))
+      unless-same (refusal_by (suc left) site now.at service due c)
+      (made (at_target (divert left site now caller) site now caller (Some due.cause) (target_of site due)) site (target_of site due) now.at left service due)
+      (made (at_target (divert left far2 now caller) far2 now caller (Some due.cause) (target_of site due)) far2 (target_of site due) now.at left service due) caller c desk
       (target-same (divert left site now caller) (divert left far2 now caller) (divert-same left caller) caller (Some due.cause) (target_of site due) next (told_of site due next desk) e)
 
   -- ---- after an attempt
@@ -424,16 +433,16 @@ module _ (records : List Sheet) (site : Site) (accounts : List AccountIdentity) 
 
   -- ---- the opening
 
-  unless-same : (refusal : Option Cause) (caller : Leg) (c : Call) (desk : Desk) → Same (first_of c.opening) → unless_refused refusal site now caller c desk ≡ unless_refused refusal far2 now caller c desk
-  unless-same None caller c desk e =
+  unrefused-same : (refusal : Option Cause) (caller : Leg) (c : Call) (desk : Desk) → Same (first_of c.opening) → unless_refused refusal site now caller c desk ≡ unless_refused refusal far2 now caller c desk
+  unrefused-same None caller c desk e =
       target-same (divert c.diversions.left site now caller) (divert c.diversions.left far2 now caller) (divert-same c.diversions.left caller) caller None (first_of c.opening) c desk e
-  unless-same (Some cause) caller c desk e = refl
+  unrefused-same (Some cause) caller c desk e = refl
 
   opened-same : (a : Arrival) (desk : Desk) → ArrivesAlike site far2 a → opened site now a desk ≡ opened far2 now a desk
   unfolding opened
   opened-same a desk e =
       let c : Call = new_call site (opening_of site now (token desk) a) in
-      unless-same (refusal_of site now.at c.opening) (caller_of now.at c) c (told_caller site c 100 (drew desk)) e
+      unrefused-same (refusal_of site now.at c.opening) (caller_of now.at c) c (told_caller site c 100 (drew desk)) e
 
 -- ---- any two such configurations
 

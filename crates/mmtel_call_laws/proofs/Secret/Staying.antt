@@ -10,18 +10,18 @@ use Rattle.mmtel_leg.specs.Legs.{Leg}
 use Rattle.mmtel_leg.specs.declared.dialogues.DialogueFault.{DialogueFault}
 use Rattle.mmtel_precedence.specs.Attempts.{end_by_time}
 use Rattle.mmtel_precedence.specs.Calls.{End, NoReply, NotReachable, Standing}
-use Rattle.mmtel_precedence.specs.Services.{DueDiversion, is_reached}
+use Rattle.mmtel_precedence.specs.Services.{DueDiversion}
 use Rattle.mmtel_precedence.specs.Turns.{AfterEnd, EndAnswered, EndDivert, EndRefuse, Turn, TurnDivert, TurnOffer, TurnRefuse}
+use Rattle.mmtel_precedence.specs.Verdicts.{too_many}
 use Rattle.mmtel_targets.specs.declared.targets.Target.{Target}
 use Rattle.mmtel_transaction.specs.declared.words.DueWord.{DueWord}
 use Rattle.mmtel_transaction.specs.declared.words.DueWord.TheVariants as due
 use Rattle.mmtel_transaction.specs.declared.words.TKey.{TKey}
 use Rattle.mmtel_types.specs.declared.causes.Cause.{Cause}
 use Rattle.mmtel_types.specs.declared.causes.Cause.TheVariants as causes
-use Rattle.mmtel_types.specs.declared.numbers.Peer.{Peer}
 use Rattle.mmtel_types.specs.declared.sides.Side.{Side}
 use Rattle.mmtel_types.specs.declared.sides.Side.TheVariants.{Caller, Callee}
-use Rattle.mmtel_call_decisions.specs.Decisions.{decided_after, decided_at, is_barred, peer_for, service_at, target_of}
+use Rattle.mmtel_call_decisions.specs.Decisions.{decided_after, decided_at, peer_for, service_at, target_of}
 use Rattle.mmtel_desk.specs.Invites.{invite_answered, invite_silent}
 use Rattle.mmtel_call_decisions.specs.Opening.{first_of, opening_of, refusal_of}
 use Rattle.mmtel_call_decisions.specs.Site.{Site}
@@ -39,7 +39,7 @@ use Rattle.mmtel_call.specs.declared.calls.Trial.{Trial}
 use Rattle.mmtel_call.specs.declared.calls.Phase.TheVariants.{Lent, Offered, Over, Stood}
 use Rattle.mmtel_call.specs.declared.calls.Stage.TheVariants.{Answered, Asking, Parting, Talking}
 use Rattle.mmtel_call.specs.Closing.{Step, onward, over_stood}
-use Rattle.mmtel_call.specs.Diverting.{at_target, divert, diverted, goes_on, is_diverted, offer_where, on_end, on_turn, passed_by, refused, refused_by, told_of, too_many}
+use Rattle.mmtel_call.specs.Diverting.{at_target, divert, diverted, goes_on, is_diverted, made, made_unless, on_end, on_turn, passed_by, refusal_by, refused, refused_by, told_of}
 use Rattle.mmtel_call.specs.Leaving.{answered_at, answered_loose, answered_other, answered_taken, answered_taken_at, forked, is_fork, is_success, is_taken, repeated, without_silent}
 use Rattle.mmtel_call.specs.Opening.{caller_of, new_call, opened, unless_refused}
 use Rattle.mmtel_call.specs.Reinvites.{agreed, bye_to_both, ends_dialog, on_response_across, proceeding_across, refused_back}
@@ -62,32 +62,30 @@ keep-if o false p q e f = f
 module _ (site : Site) (now : Standing) where
   -- ---- how a call goes on
 
-  where-stays : (peer : Option Peer) (caller : Leg) (service : Option Service) (waiting : Bool) (cause : Option ℕ) (target : Target) (c : Call) (desk : Desk) → Keeps c.opening (offer_where peer site now.at caller service waiting cause target c desk)
-  where-stays None caller service waiting cause target c desk = refl
-  where-stays (Some peer) caller service waiting cause target c desk = refl
-
   abbrev Diverts : (f : Option Service → DueDiversion → Call → Desk → Step) → Type 0
   Diverts f = (service : Option Service) (due : DueDiversion) (c : Call) (desk : Desk) → Keeps c.opening (f service due c desk)
 
-  turn-stays : (f : Option Service → DueDiversion → Call → Desk → Step) → Diverts f → (turn : Turn) (caller : Leg) (service : Option Service) (peer : Option Peer) (cause : Option ℕ) (target : Target) (c : Call) (desk : Desk) → Keeps c.opening (on_turn f site now.at caller service peer cause target turn c desk)
-  turn-stays f stays (TurnOffer waiting) caller service peer cause target c desk = where-stays peer caller service waiting cause target c desk
-  turn-stays f stays (TurnDivert due) caller service peer cause target c desk = stays service due (passed_by now.at service c) desk
-  turn-stays f stays (TurnRefuse why) caller service peer cause target c desk = refl
+  turn-stays : (f : Option Service → DueDiversion → Call → Desk → Step) → Diverts f → (turn : Turn) (caller : Leg) (service : Option Service) (cause : Option ℕ) (target : Target) (c : Call) (desk : Desk) → Keeps c.opening (on_turn f site now.at caller service cause target turn c desk)
+  turn-stays f stays (TurnOffer peer waiting) caller service cause target c desk = refl
+  turn-stays f stays (TurnDivert due) caller service cause target c desk = stays service due (passed_by now.at service c) desk
+  turn-stays f stays (TurnRefuse why) caller service cause target c desk = refl
 
   target-stays : (f : Option Service → DueDiversion → Call → Desk → Step) → Diverts f → (caller : Leg) (cause : Option ℕ) (target : Target) (c : Call) (desk : Desk) → Keeps c.opening (at_target f site now caller cause target c desk)
   target-stays f stays caller cause target c desk =
-      turn-stays f stays (decided_at site now c.opening (is_diverted c) cause target (service_at site now c.opening cause target) (peer_for site c.opening target)) caller (service_at site now c.opening cause target) (peer_for site c.opening target) cause target c desk
+      turn-stays f stays (decided_at site now c.opening (is_diverted c) cause target (service_at site now c.opening cause target) (peer_for site c.opening target)) caller (service_at site now c.opening cause target) cause target c desk
+
+  unless-stays : (refusal : Option Cause) (onward : Call → Desk → Step) (caller : Leg) (c : Call) (desk : Desk) → Keeps c.opening (onward c desk) → Keeps c.opening (made_unless refusal onward site now.at caller c desk)
+  unless-stays None onward caller c desk h = h
+  unless-stays (Some cause) onward caller c desk h = refl
 
   divert-stays : (left : ℕ) (caller : Leg) → Diverts (divert left site now caller)
   unfolding divert
-  divert-stays zero caller service due c desk = keep-if c.opening (is_barred site c.opening now.at service due) (refused site now.at caller causes.OutgoingBarred c desk) (refused site now.at caller (too_many due) c desk) refl refl
+  divert-stays zero caller service due c desk = unless-stays (refusal_by 0 site now.at service due c) (refused site now.at caller (too_many due.cause)) caller c desk refl
   divert-stays (suc left) caller service due c desk =
       let next : Call = diverted (target_of site due) now.at left service due c in
-      let reached : Bool = is_reached due.bound c.diversions.count in
-      let onward : Step = at_target (divert left site now caller) site now caller (Some due.cause) (target_of site due) next (told_of site due next desk) in
-      keep-if c.opening (is_barred site c.opening now.at service due) (refused site now.at caller causes.OutgoingBarred c desk) (cond reached (refused site now.at caller (too_many due) c desk) onward) refl
-      (keep-if c.opening reached (refused site now.at caller (too_many due) c desk) onward refl
-      (target-stays (divert left site now caller) (divert-stays left caller) caller (Some due.cause) (target_of site due) next (told_of site due next desk)))
+      unless-stays (refusal_by (suc left) site now.at service due c)
+      (made (at_target (divert left site now caller) site now caller (Some due.cause) (target_of site due)) site (target_of site due) now.at left service due) caller c desk
+      (target-stays (divert left site now caller) (divert-stays left caller) caller (Some due.cause) (target_of site due) next (told_of site due next desk))
 
   refused_by-stays : (caller : Leg) (service : Option Service) (m : Option Said) (cause : Cause) (c : Call) (desk : Desk) → Keeps c.opening (refused_by site now.at caller service m cause c desk)
   refused_by-stays caller service None cause c desk = refl
@@ -261,16 +259,16 @@ module _ (site : Site) (now : Standing) where
 
   -- ---- the opening
 
-  unless-stays : (refusal : Option Cause) (caller : Leg) (c : Call) (desk : Desk) → Keeps c.opening (unless_refused refusal site now caller c desk)
-  unless-stays None caller c desk = target-stays (divert c.diversions.left site now caller) (divert-stays c.diversions.left caller) caller None (first_of c.opening) c desk
-  unless-stays (Some cause) caller c desk = refl
+  unrefused-stays : (refusal : Option Cause) (caller : Leg) (c : Call) (desk : Desk) → Keeps c.opening (unless_refused refusal site now caller c desk)
+  unrefused-stays None caller c desk = target-stays (divert c.diversions.left site now caller) (divert-stays c.diversions.left caller) caller None (first_of c.opening) c desk
+  unrefused-stays (Some cause) caller c desk = refl
 
   -- a call that opens has what was read of its INVITE
   pub opened-keeps : (a : Arrival) (desk : Desk) → Keeps (opening_of site now (token desk) a) (opened site now a desk)
   unfolding opened
   opened-keeps a desk =
       let c : Call = new_call site (opening_of site now (token desk) a) in
-      unless-stays (refusal_of site now.at c.opening) (caller_of now.at c) c (told_caller site c 100 (drew desk))
+      unrefused-stays (refusal_of site now.at c.opening) (caller_of now.at c) c (told_caller site c 100 (drew desk))
 
 pub openings_stay : OpeningsStay
 unfolding step

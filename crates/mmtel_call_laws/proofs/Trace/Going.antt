@@ -13,8 +13,9 @@ use Rattle.mmtel_leg.specs.declared.dialogues.Dialogue.{Dialogue}
 use Rattle.mmtel_message.specs.Message.{Line, Message}
 use Rattle.mmtel_message.specs.declared.messages.Start.{Start}
 use Rattle.mmtel_precedence.specs.Calls.{End, Standing}
-use Rattle.mmtel_precedence.specs.Services.{DueDiversion, is_reached}
+use Rattle.mmtel_precedence.specs.Services.{DueDiversion}
 use Rattle.mmtel_precedence.specs.Turns.{AfterEnd, EndAnswered, EndDivert, EndRefuse, Turn, TurnDivert, TurnOffer, TurnRefuse}
+use Rattle.mmtel_precedence.specs.Verdicts.{too_many}
 use Rattle.mmtel_scan.specs.Numbers.{next_number}
 use Rattle.mmtel_targets.specs.declared.targets.Target.{Target}
 use Rattle.mmtel_transaction.specs.declared.words.DueWord.TheVariants as due_word
@@ -23,15 +24,14 @@ use Rattle.mmtel_types.specs.Causes.{status_of}
 use Rattle.mmtel_types.specs.declared.causes.Cause.{Cause}
 use Rattle.mmtel_types.specs.declared.causes.Cause.TheVariants as causes
 use Rattle.mmtel_types.specs.declared.numbers.CallNo.{CallNo}
-use Rattle.mmtel_types.specs.declared.numbers.Peer.{Peer}
 use Rattle.mmtel_types.specs.declared.sides.Side.TheVariants.{Caller}
-use Rattle.mmtel_call_decisions.specs.Decisions.{aim_at, decided_after, decided_at, handed_on, is_barred, is_status, peer_for, service_at, target_of}
+use Rattle.mmtel_call_decisions.specs.Decisions.{aim_at, decided_after, decided_at, handed_on, is_status, peer_for, service_at, target_of}
 use Rattle.mmtel_call_decisions.specs.Opening.{first_of}
 use Rattle.mmtel_call_decisions.specs.Showing.{shown_to}
 use Rattle.mmtel_call_decisions.specs.Site.{Site}
 use Rattle.mmtel_call_decisions.specs.declared.openings.Service.{Service}
 use Rattle.mmtel_call.specs.Closing.{Step, over, with_past}
-use Rattle.mmtel_call.specs.Diverting.{at_target, divert, diverted, goes_on, is_diverted, made, offer_where, on_end, on_turn, passed_by, reach, refused, refused_by, told_of, too_many, unless_reached}
+use Rattle.mmtel_call.specs.Diverting.{at_target, divert, diverted, goes_on, is_diverted, made, made_unless, on_end, on_turn, passed_by, reach, refusal_by, refused, refused_by, told_of}
 use Rattle.mmtel_call.specs.Offering.{dialog_of, longest_time, next_attempt, offer}
 use Rattle.mmtel_call.specs.Opening.{caller_of, unless_refused}
 use Rattle.mmtel_call.specs.Sending.{relayed_to_caller, told_caller, told_diversion}
@@ -124,23 +124,18 @@ module _ (site : Site) (before : Desk) where
   abbrev Diverts : ℕ → Standing → Leg → Type 0
   Diverts left now caller = (service : Option Service) (due : DueDiversion) (room : ℕ) (c : Call) (desk : Desk) → c.attempts + left ≤ room → So c desk → Goes now.at c caller room (divert left site now caller service due c desk)
 
-  offer_where_moves : (peer : Option Peer) (at : ℕ) (caller : Leg) (service : Option Service) (waiting : Bool) (cause : Option ℕ) (target : Target) (room : ℕ) (c : Call) (desk : Desk) →
-      c.attempts + c.diversions.left < room → So c desk → Goes at c caller room (offer_where peer site at caller service waiting cause target c desk)
-  offer_where_moves None at caller service waiting cause target room c desk less had = refused_moves at caller causes.NoRoute room (passed_by at service c) desk had
-  offer_where_moves (Some peer) at caller service waiting cause target room c desk less had = offer_moves at caller service waiting (aim_at c.opening peer cause target) room c desk less had
-
-  turn_moves : (left : ℕ) (now : Standing) (caller : Leg) → Diverts left now caller → (service : Option Service) (peer : Option Peer) (cause : Option ℕ) (target : Target) (turn : Turn) (room : ℕ) (c : Call) (desk : Desk) →
-      c.attempts + c.diversions.left < room → c.attempts + left ≤ room → So c desk → Goes now.at c caller room (on_turn (divert left site now caller) site now.at caller service peer cause target turn c desk)
-  turn_moves left now caller later service peer cause target (TurnOffer waiting) room c desk less most had = offer_where_moves peer now.at caller service waiting cause target room c desk less had
-  turn_moves left now caller later service peer cause target (TurnDivert due) room c desk less most had = later service due room (passed_by now.at service c) desk most had
-  turn_moves left now caller later service peer cause target (TurnRefuse why) room c desk less most had = refused_moves now.at caller why room (passed_by now.at service c) desk had
+  turn_moves : (left : ℕ) (now : Standing) (caller : Leg) → Diverts left now caller → (service : Option Service) (cause : Option ℕ) (target : Target) (turn : Turn) (room : ℕ) (c : Call) (desk : Desk) →
+      c.attempts + c.diversions.left < room → c.attempts + left ≤ room → So c desk → Goes now.at c caller room (on_turn (divert left site now caller) site now.at caller service cause target turn c desk)
+  turn_moves left now caller later service cause target (TurnOffer peer waiting) room c desk less most had = offer_moves now.at caller service waiting (aim_at c.opening peer cause target) room c desk less had
+  turn_moves left now caller later service cause target (TurnDivert due) room c desk less most had = later service due room (passed_by now.at service c) desk most had
+  turn_moves left now caller later service cause target (TurnRefuse why) room c desk less most had = refused_moves now.at caller why room (passed_by now.at service c) desk had
 
   target_moves : (left : ℕ) (now : Standing) (caller : Leg) → Diverts left now caller → (cause : Option ℕ) (target : Target) (room : ℕ) (c : Call) (desk : Desk) →
       c.attempts + c.diversions.left < room → c.attempts + left ≤ room → So c desk → Goes now.at c caller room (at_target (divert left site now caller) site now caller cause target c desk)
   target_moves left now caller later cause target room c desk less most had =
       let service = service_at site now c.opening cause target in
       let peer = peer_for site c.opening target in
-      turn_moves left now caller later service peer cause target (decided_at site now c.opening (is_diverted c) cause target service peer) room c desk less most had
+      turn_moves left now caller later service cause target (decided_at site now c.opening (is_diverted c) cause target service peer) room c desk less most had
 
   -- ---- a diversion
 
@@ -151,10 +146,10 @@ module _ (site : Site) (before : Desk) where
       by true = told_diversion_unseen site c.opening.number before c desk had
       by false = had
 
-  unless_moves : (refuses : Bool) (why : Cause) (go : Call → Desk → Step) (at : ℕ) (caller : Leg) (room : ℕ) (c : Call) (desk : Desk) → So c desk → Goes at c caller room (go c desk) →
-      Goes at c caller room (if refuses then refused site at caller why c desk else go c desk)
-  unless_moves true why go at caller room c desk had is = refused_moves at caller why room c desk had
-  unless_moves false why go at caller room c desk had is = is
+  unless_moves : (refusal : Option Cause) (go : Call → Desk → Step) (at : ℕ) (caller : Leg) (room : ℕ) (c : Call) (desk : Desk) → So c desk → Goes at c caller room (go c desk) →
+      Goes at c caller room (made_unless refusal go site at caller c desk)
+  unless_moves (Some why) go at caller room c desk had is = refused_moves at caller why room c desk had
+  unless_moves None go at caller room c desk had is = is
 
   one_less : (attempts left room : ℕ) → attempts + suc left ≤ room → attempts + left < room
   one_less attempts left room most = omega (arith, most)
@@ -165,14 +160,13 @@ module _ (site : Site) (before : Desk) where
   divert_moves : (left : ℕ) (now : Standing) (caller : Leg) → Diverts left now caller
   unfolding divert
   divert_moves zero now caller service due room c desk most had =
-      unless_moves (is_barred site c.opening now.at service due) causes.OutgoingBarred (refused site now.at caller (too_many due)) now.at caller room c desk had (refused_moves now.at caller (too_many due) room c desk had)
+      unless_moves (refusal_by 0 site now.at service due c) (refused site now.at caller (too_many due.cause)) now.at caller room c desk had (refused_moves now.at caller (too_many due.cause) room c desk had)
   divert_moves (suc left) now caller service due room c desk most had =
       let target : Target = target_of site due in
       let next : Call = diverted target now.at left service due c in
       let onward = made (at_target (divert left site now caller) site now caller (Some due.cause) target) site target now.at left service due in
-      unless_moves (is_barred site c.opening now.at service due) causes.OutgoingBarred (unless_reached due onward site now.at caller) now.at caller room c desk had
-      (unless_moves (is_reached due.bound c.diversions.count) (too_many due) onward now.at caller room c desk had
-      (target_moves left now caller (divert_moves left now caller) (Some due.cause) target room next (told_of site due next desk) (one_less c.attempts left room most) (still_most c.attempts left room most) (told_of_unseen due next desk had)))
+      unless_moves (refusal_by (suc left) site now.at service due c) onward now.at caller room c desk had
+      (target_moves left now caller (divert_moves left now caller) (Some due.cause) target room next (told_of site due next desk) (one_less c.attempts left room most) (still_most c.attempts left room most) (told_of_unseen due next desk had))
 
   less_most : (n room : ℕ) → n < room → n ≤ room
   less_most n room less = omega (arith, less)

@@ -45,7 +45,7 @@ use Rattle.mmtel_history.specs.HistoryInfo.{diversions_in}
 use Rattle.mmtel_leg.specs.declared.dialogues.Dialogue.{Dialogue}
 use Rattle.mmtel_leg.specs.declared.dialogues.InFlight.TheVariants as in_flight
 use Rattle.mmtel_precedence.specs.Attempts.{end_by, end_by_response}
-use Rattle.mmtel_precedence.specs.declared.attempts.AttemptEvent.TheVariants as events
+use Rattle.mmtel_precedence.specs.Attempts as events
 use Rattle.mmtel_types.specs.declared.addrs.Addr.{Addr}
 use Rattle.mmtel_types.specs.declared.numbers.CallNo.{CallNo}
 use Rattle.mmtel_types.specs.declared.numbers.Peer.{Peer}

@@ -22,11 +22,7 @@ use Rattle.mmtel_transaction.specs.declared.words.Emit.TheVariants as emit
 use Rattle.mmtel_types.specs.Sides.{other_of}
 use Rattle.mmtel_types.specs.declared.addrs.Addr.{Addr}
 use Rattle.mmtel_types.specs.declared.numbers.Peer.{Peer}
-
--- it holds of each
-abbrev pub Each : {A : Type 0} → (A → Type 0) → List A → Type 0
-Each P [] = Unit {0}
-Each P (x ∷ xs) = P x × Each P xs
+pub use Rattle.mmtel_call_laws.specs.Heads.Emits.{Each}
 
 -- ---- what is asked
 

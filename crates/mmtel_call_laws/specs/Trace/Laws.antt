@@ -8,15 +8,11 @@ use Rattle.mmtel_call.specs.declared.calls.Phase.{Phase}
 use Rattle.mmtel_call.specs.declared.calls.Phase.TheVariants.{Lent, Offered, Over, Stood}
 use Rattle.mmtel_call.specs.declared.calls.Trial.{Trial}
 use Rattle.mmtel_call_laws.specs.Endings.{endings_after}
+pub use Rattle.mmtel_call_laws.specs.Heads.Emits.{Each}
 use Rattle.mmtel_call_laws.specs.Known.{known_after, last_record, outcome_after}
 use Rattle.mmtel_call_laws.specs.Shown.{Accepted, AreOwn, Invited, Refused, Sign, signs_of_targets}
 use Rattle.mmtel_call_laws.specs.Story.{Heard, Start, call_after, opening_in}
 use Rattle.mmtel_call_laws.specs.Trace.Seen.{Deadline, Going, Watch, endings_seen, rang, watch_after}
-
--- it holds of each
-abbrev pub Each : {A : Type 0} → (A → Type 0) → List A → Type 0
-Each P [] = Unit {0}
-Each P (x ∷ xs) = P x × Each P xs
 
 -- ---- the deadlines of an attempt
 

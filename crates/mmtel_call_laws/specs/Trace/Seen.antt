@@ -15,7 +15,7 @@ use Rattle.mmtel_message.specs.Message.{Message}
 use Rattle.mmtel_message.specs.declared.messages.Start.{Start as StartLine}
 use Rattle.mmtel_precedence.specs.Attempts.{end_by, end_by_response, rings}
 use Rattle.mmtel_precedence.specs.Calls.{End, Ended}
-use Rattle.mmtel_precedence.specs.declared.attempts.AttemptEvent.TheVariants as events
+use Rattle.mmtel_precedence.specs.Attempts as events
 use Rattle.mmtel_scan.specs.Scanning.{after_text}
 use Rattle.mmtel_transaction.specs.declared.words.DueWord.{DueWord}
 use Rattle.mmtel_transaction.specs.declared.words.DueWord.TheVariants as due

@@ -6,9 +6,8 @@ use Rattle.mmtel_words.specs.CommandLine.{Command, IsCommand}
 use Rattle.mmtel_cli.specs.Asks.{IsOnly}
 use Rattle.mmtel_cli.specs.Due.{shelf_by, shelf_first}
 use Rattle.mmtel_cli.specs.Found.{HasCalled, SparedBy, TakingBy, UnboundBy}
-use Rattle.mmtel_cli.specs.Gives.{GivesCommand, Prepares}
-use Rattle.mmtel_cli.specs.Keeping.{KeeperSeen}
-use Rattle.mmtel_cli.specs.Serving.{LinkSeen}
+use Rattle.mmtel_cli.specs.Gives.{GivesCommand, Ports, Prepares}
+use Rattle.mmtel_cli.specs.Outside.{Outside}
 use Rattle.mmtel_reports.specs.declared.reports.Report.{Report}
 use Rattle.mmtel_reports.specs.declared.reports.Report.TheVariants.{Usage}
 
@@ -20,12 +19,12 @@ only_this : (command : Command) (words : List (List ℕ)) → IsCommand command 
 only_this command words spelled all = record { spelled = spelled; alone = λ other. λ is. sym (some_is command other (all other is)) }
 
 -- one command
-pub prepares_one : {L K : Type 0} (words : List (List ℕ)) (told after : Option Shelf) (link far : LinkSeen) (keeper later : KeeperSeen) (near away : L) (before now : K)
-    (outcome : Report) (command : Command) → IsCommand command words → IsAll (Some command) words → GivesCommand told link far keeper later command outcome
-    → IfSome told (λ shelf. HasCalled outcome after (shelf_first shelf command) (shelf_by shelf command)) → (outcome ≡ Usage → ⊥)
-    → SparedBy (Some command) before now → UnboundBy (Some command) outcome near away → TakingBy (Some command) outcome link.taking far.taking
-    → Prepares words told after link far keeper later near away before now outcome
-prepares_one words told after link far keeper later near away before now outcome command spelled all gives calls asked spared unbound taking = inl (record {
+pub prepares_one : {L K : Type 0} (words : List (List ℕ)) (old new : Outside) (before now : Ports L K) (outcome : Report) (command : Command)
+    → IsCommand command words → IsAll (Some command) words → GivesCommand before.files old new command outcome
+    → IfSome before.files (λ shelf. HasCalled outcome now.files (shelf_first shelf command) (shelf_by shelf command)) → (outcome ≡ Usage → ⊥)
+    → SparedBy (Some command) before.keeper now.keeper → UnboundBy (Some command) outcome before.link now.link → TakingBy (Some command) outcome old.link.taking new.link.taking
+    → Prepares words old new before now outcome
+prepares_one words old new before now outcome command spelled all gives calls asked spared unbound taking = inl (record {
   command = Some command;
   asks = only_this command words spelled all;
   gives = gives;
@@ -41,13 +40,12 @@ none_called : (told : Option Shelf) → IfSome told (λ shelf. told ≡ Some she
 none_called None = tt
 none_called (Some shelf) = refl
 
-pub prepares_none : {L K : Type 0} (words : List (List ℕ)) (told : Option Shelf) (link : LinkSeen) (keeper later : KeeperSeen) (near : L) (before : K) → IsAll None words
-    → Prepares words told told link link keeper later near near before before Usage
-prepares_none words told link keeper later near before all = inl (record {
+pub prepares_none : {L K : Type 0} (words : List (List ℕ)) (seen : Outside) (before : Ports L K) → IsAll None words → Prepares words seen seen before before Usage
+prepares_none words seen before all = inl (record {
   command = None;
   asks = λ other. λ is. let wrong = all other is in cc;
   gives = refl;
-  calls = none_called told;
+  calls = none_called before.files;
   usage = (λ e. refl, λ e. refl);
   spared = refl;
   unbound = refl;

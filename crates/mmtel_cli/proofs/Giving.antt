@@ -5,10 +5,10 @@ use Rattle.mmtel_cli.proofs.Stopping.{stopped_untouched}
 use Rattle.mmtel_cli.specs.Due.{due_of_charges, due_of_config, due_of_directory, due_of_records, due_of_script, shelf_of_config, shelf_of_directory}
 use Rattle.mmtel_cli.specs.Found.{HasCalled, IsDue}
 use Rattle.mmtel_cli.specs.Gives.{GivesScript, GivesBoth, GivesRecords, GivesCharges, GivesServe, ServesConfig, ServesDirectory}
-use Rattle.mmtel_cli.specs.Keeping.{KeeperSeen}
-use Rattle.mmtel_cli.specs.Serving.{LinkSeen}
+use Rattle.mmtel_cli.specs.Outside.{Outside}
 use Rattle.mmtel_cli.specs.Stopped.{UnservedReading}
 use Rattle.mmtel_outside.specs.Shelf.{Shelf, answer_at, called, ReadsTold}
+use Rattle.mmtel_server.specs.Seen.{KeeperSeen}
 use Rattle.mmtel_words.specs.CommandLine.{Asked}
 use Rattle.mmtel_directory.specs.declared.directories.Directory.{Directory}
 use Rattle.mmtel_reports.specs.declared.reports.Report.{Report}
@@ -50,10 +50,10 @@ next-is (Some shelf) after name text script other h k =
     let P : Option Shelf → Type 0 = λ a. IfSome a (λ s. script ≡ answer_at s other) in
     subst P h.0 k
 
-module _ (keeper later : KeeperSeen) where
+module _ (old new : KeeperSeen) where
   pub gives_script : (told after : Option Shelf) (asked : Asked) (directory : Directory) (script : List ℕ) (outcome : Report)
       → ReadsTold told after asked.script (Ok script)
-      → IsDue keeper later outcome (due_of_script directory asked.token (Some script)) → GivesScript told keeper later asked (Ok directory) outcome
+      → IsDue old new outcome (due_of_script directory asked.token (Some script)) → GivesScript told old new asked (Ok directory) outcome
   gives_script told after asked directory script outcome h d = record {
     script = Some script;
     told_script = some-is told after asked.script script h;
@@ -61,7 +61,7 @@ module _ (keeper later : KeeperSeen) where
   }
 
   pub gives_no_script : (told after : Option Shelf) (asked : Asked) (directory : Directory) → ReadsTold told after asked.script (Err Failed)
-      → GivesScript told keeper later asked (Ok directory) File
+      → GivesScript told old new asked (Ok directory) File
   gives_no_script told after asked directory h = record {
     script = None;
     told_script = none-is told after asked.script h;
@@ -69,7 +69,7 @@ module _ (keeper later : KeeperSeen) where
   }
 
   pub gives_line : (told : Option Shelf) (asked : Asked) (config : List ℕ) (line : ℕ) → directory_of config ≡ Err line
-      → GivesScript told keeper later asked (directory_of config) (Line line)
+      → GivesScript told old new asked (directory_of config) (Line line)
   gives_line told asked config line e = record {
     script = told_answer told asked.script;
     told_script = told_answer-is told asked.script;
@@ -77,7 +77,7 @@ module _ (keeper later : KeeperSeen) where
   }
 
   pub gives_config : (told after : Option Shelf) (asked : Asked) (config : List ℕ) (outcome : Report)
-      → ReadsTold told after asked.config (Ok config) → GivesScript after keeper later asked (directory_of config) outcome → GivesBoth told keeper later asked outcome
+      → ReadsTold told after asked.config (Ok config) → GivesScript after old new asked (directory_of config) outcome → GivesBoth told old new asked outcome
   gives_config told after asked config outcome h k = record {
     config = Some config;
     script = k.script;
@@ -86,7 +86,7 @@ module _ (keeper later : KeeperSeen) where
     is_due = k.is_due;
   }
 
-  pub gives_no_config : (told after : Option Shelf) (asked : Asked) → ReadsTold told after asked.config (Err Failed) → GivesBoth told keeper later asked File
+  pub gives_no_config : (told after : Option Shelf) (asked : Asked) → ReadsTold told after asked.config (Err Failed) → GivesBoth told old new asked File
   gives_no_config told after asked h = record {
     config = None;
     script = told_next told asked.script;
@@ -119,18 +119,18 @@ gives_unread told records = record { text = told_answer told records; told_text 
 
 -- ---- of `charges`
 
-module _ (keeper later : KeeperSeen) where
+module _ (old new : KeeperSeen) where
   pub gives_charges : (told after : Option Shelf) (name config : List ℕ) (outcome : Report)
-      → ReadsTold told after name (Ok config) → IsDue keeper later outcome (due_of_charges (Some config)) → later.held ≡ keeper.held
-      → GivesCharges told keeper later name outcome
+      → ReadsTold told after name (Ok config) → IsDue old new outcome (due_of_charges (Some config)) → new.held ≡ old.held
+      → GivesCharges told old new name outcome
   gives_charges told after name config outcome h d same = record { text = Some config; told_text = some-is told after name config h; is_due = d; held = same }
 
 -- ---- of `serve`
 
-module _ (link far : LinkSeen) (keeper later : KeeperSeen) where
+module _ (old new : Outside) where
   pub gives_serve : (told after : Option Shelf) (name config token : List ℕ) (turns : ℕ) (outcome : Report)
-      → ReadsTold told after name (Ok config) → ServesConfig (Some config) token turns link far keeper later outcome →
-      GivesServe told link far keeper later name token turns outcome
+      → ReadsTold told after name (Ok config) → ServesConfig (Some config) token turns old new outcome →
+      GivesServe told old new name token turns outcome
   gives_serve told after name config token turns outcome h d = record { text = Some config; told_text = some-is told after name config h; is_due = d }
 
 -- ---- where memory ran out, or a file could not be read, and nothing was asked of the keeper and of the link
@@ -163,27 +163,27 @@ module _ (keeper : KeeperSeen) where
     held = refl;
   }
 
-  module _ (link : LinkSeen) where
-    pub gives_no_serve : (told after : Option Shelf) (name token : List ℕ) (turns : ℕ) → ReadsTold told after name (Err Failed)
-        → GivesServe told link link keeper keeper name token turns File
-    gives_no_serve told after name token turns h = record { text = None; told_text = none-is told after name h; is_due = (refl, refl) }
+module _ (seen : Outside) where
+  pub gives_no_serve : (told after : Option Shelf) (name token : List ℕ) (turns : ℕ) → ReadsTold told after name (Err Failed)
+      → GivesServe told seen seen name token turns File
+  gives_no_serve told after name token turns h = record { text = None; told_text = none-is told after name h; is_due = (refl, refl) }
 
-    -- for want of memory there is nothing to be said of the configuration, and nothing was asked of the keeper and of the link
-    pub serves_short : (directory : Result Directory ℕ) (token : List ℕ) (turns : ℕ) → ServesDirectory directory token turns link link keeper keeper Memory
-    serves_short (Ok directory) token turns = λ suited. UnservedReading refl refl
-    serves_short (Err line) token turns = (refl, refl)
+  -- for want of memory there is nothing to be said of the configuration, and nothing was asked of the keeper and of the link
+  pub serves_short : (directory : Result Directory ℕ) (token : List ℕ) (turns : ℕ) → ServesDirectory directory token turns seen seen Memory
+  serves_short (Ok directory) token turns = λ suited. UnservedReading refl refl
+  serves_short (Err line) token turns = (refl, refl)
 
-    unread_config : (config : Option (List ℕ)) (token : List ℕ) (turns : ℕ) → ServesConfig config token turns link link keeper keeper Memory
-    unread_config None token turns = (refl, refl)
-    unread_config (Some config) token turns = serves_short (directory_of config) token turns
+  unread_config : (config : Option (List ℕ)) (token : List ℕ) (turns : ℕ) → ServesConfig config token turns seen seen Memory
+  unread_config None token turns = (refl, refl)
+  unread_config (Some config) token turns = serves_short (directory_of config) token turns
 
-    pub gives_unread_serve : (told : Option Shelf) (name token : List ℕ) (turns : ℕ) → GivesServe told link link keeper keeper name token turns Memory
-    gives_unread_serve told name token turns = record {
-      text = told_answer told name;
-      told_text = told_answer-is told name;
-      is_due = unread_config (told_answer told name) token turns;
-    }
+  pub gives_unread_serve : (told : Option Shelf) (name token : List ℕ) (turns : ℕ) → GivesServe told seen seen name token turns Memory
+  gives_unread_serve told name token turns = record {
+    text = told_answer told name;
+    told_text = told_answer-is told name;
+    is_due = unread_config (told_answer told name) token turns;
+  }
 
-    -- a line of the configuration is bad
-    pub serves_line : (config : List ℕ) (line : ℕ) (token : List ℕ) (turns : ℕ) → directory_of config ≡ Err line → ServesConfig (Some config) token turns link link keeper keeper (Line line)
-    serves_line config line token turns e = rw e (refl, refl)
+  -- a line of the configuration is bad
+  pub serves_line : (config : List ℕ) (line : ℕ) (token : List ℕ) (turns : ℕ) → directory_of config ≡ Err line → ServesConfig (Some config) token turns seen seen (Line line)
+  serves_line config line token turns e = rw e (refl, refl)

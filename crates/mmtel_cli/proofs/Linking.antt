@@ -1,25 +1,25 @@
 -- The link, where no serving comes to it, and the count of its faults of taking in.
 use Rattle.std.proofs.Common.{◌≡◌, ℕ, List, ap, inl, inr, Option, Some, None}
-use Rattle.mmtel_outside.specs.Shelf.{Shelf}
 use Rattle.mmtel_words.specs.CommandLine.{Command, Serve, Replay, Check, Charges, Workload}
 use Rattle.mmtel_cli.proofs.Saying.{four_rose}
 use Rattle.mmtel_cli.specs.Asks.{AsksFor, IsServe}
-use Rattle.mmtel_reports.specs.Ends.{Ends}
+use Rattle.mmtel_reports.specs.Ends.{Ends, Written}
 use Rattle.mmtel_cli.specs.Found.{CountsLink, SparesLink, TakingBy, UnboundBy}
-use Rattle.mmtel_cli.specs.Gives.{Prepares}
-use Rattle.mmtel_cli.specs.Keeping.{KeeperSeen}
+use Rattle.mmtel_cli.specs.Gives.{Ports, Prepares}
+use Rattle.mmtel_cli.specs.Outside.{Outside}
 use Rattle.mmtel_cli.specs.Runs.{CountsAtFour, Ran}
-use Rattle.mmtel_cli.specs.Serving.{IsUnbound, LinkSeen}
+use Rattle.mmtel_cli.specs.Serving.{IsUnbound}
+use Rattle.mmtel_server.specs.Seen.{LinkSeen}
 use Rattle.mmtel_reports.specs.declared.reports.Report.{Report}
 use Rattle.mmtel_reports.specs.declared.reports.Report.TheVariants.{Usage, Line, Link, File, Keeper, Memory, Listing, Sound, Served, Unsound}
 
-module _ (status : ℕ) (before after : Option (List ℕ)) (faults now : ℕ) where
+module _ (written : Written) where
   abbrev EndsSo : Report → Type 0
-  EndsSo outcome = Ends outcome status before after faults now
+  EndsSo outcome = Ends outcome written
 
   -- ---- where it is as before
 
-  early_spared : {L : Type 0} (outcome : Report) (near away : L) → SparesLink outcome near away → EndsSo outcome → (status ≡ 0 → ⊥) → (status ≡ 4 → ⊥) → (status ≡ 8 → ⊥) →
+  early_spared : {L : Type 0} (outcome : Report) (near away : L) → SparesLink outcome near away → EndsSo outcome → (written.status ≡ 0 → ⊥) → (written.status ≡ 4 → ⊥) → (written.status ≡ 8 → ⊥) →
       away ≡ near
   early_spared Usage near away spares ends zero four eight = spares
   early_spared (Line line) near away spares ends zero four eight = spares
@@ -33,7 +33,7 @@ module _ (status : ℕ) (before after : Option (List ℕ)) (faults now : ℕ) wh
   early_spared (Unsound line) near away spares ends zero four eight = spares
 
   early_by : {L : Type 0} (command : Option Command) (outcome : Report) (near away : L) → UnboundBy command outcome near away → EndsSo outcome
-      → (status ≡ 0 → ⊥) → (status ≡ 4 → ⊥) → (status ≡ 8 → ⊥) → away ≡ near
+      → (written.status ≡ 0 → ⊥) → (written.status ≡ 4 → ⊥) → (written.status ≡ 8 → ⊥) → away ≡ near
   early_by None outcome near away unbound ends zero four eight = unbound
   early_by (Some (Serve config token turns)) outcome near away unbound ends zero four eight = early_spared outcome near away unbound ends zero four eight
   early_by (Some (Replay asked)) outcome near away unbound ends zero four eight = unbound
@@ -43,7 +43,7 @@ module _ (status : ℕ) (before after : Option (List ℕ)) (faults now : ℕ) wh
 
   -- ---- its count of taking in
 
-  counted : (outcome : Report) (taking taken : ℕ) → CountsLink outcome taking taken → EndsSo outcome → (status ≡ 4 → ⊥) → taken ≡ taking
+  counted : (outcome : Report) (taking taken : ℕ) → CountsLink outcome taking taken → EndsSo outcome → (written.status ≡ 4 → ⊥) → taken ≡ taking
   counted Usage taking taken counts ends four = counts
   counted (Line line) taking taken counts ends four = counts
   counted Link taking taken counts ends four = absurd (four ends.0)
@@ -55,7 +55,7 @@ module _ (status : ℕ) (before after : Option (List ℕ)) (faults now : ℕ) wh
   counted Served taking taken counts ends four = counts
   counted (Unsound line) taking taken counts ends four = counts
 
-  counted_by : (command : Option Command) (outcome : Report) (taking taken : ℕ) → TakingBy command outcome taking taken → EndsSo outcome → (status ≡ 4 → ⊥) → taken ≡ taking
+  counted_by : (command : Option Command) (outcome : Report) (taking taken : ℕ) → TakingBy command outcome taking taken → EndsSo outcome → (written.status ≡ 4 → ⊥) → taken ≡ taking
   counted_by None outcome taking taken counts ends four = counts
   counted_by (Some (Serve config token turns)) outcome taking taken counts ends four = counted outcome taking taken counts ends four
   counted_by (Some (Replay asked)) outcome taking taken counts ends four = counts
@@ -73,22 +73,21 @@ other_by words (Some (Check records)) outcome near away asks unbound never = unb
 other_by words (Some (Charges config)) outcome near away asks unbound never = unbound
 other_by words (Some (Workload calls salt)) outcome near away asks unbound never = unbound
 
-module _ {L K : Type 0} (told asked : Option Shelf) (link far : LinkSeen) (first last : KeeperSeen) (words : List (List ℕ)) (outcome : Report) (near away : L) (keeper later : K)
-    (status : ℕ) (before after : Option (List ℕ)) (faults now : ℕ) where
-  pub is_unbound : Prepares words told asked link far first last near away keeper later outcome → Ends outcome status before after faults now → IsUnbound words status near away
+module _ {L K : Type 0} (old new : Outside) (words : List (List ℕ)) (outcome : Report) (before now : Ports L K) (written : Written) where
+  pub is_unbound : Prepares words old new before now outcome → Ends outcome written → IsUnbound words written.status before.link now.link
   is_unbound (inl p) ends = record {
-    other = other_by words p.command outcome near away p.asks p.unbound;
-    early = early_by status before after faults now p.command outcome near away p.unbound ends;
+    other = other_by words p.command outcome before.link now.link p.asks p.unbound;
+    early = early_by written p.command outcome before.link now.link p.unbound ends;
   }
   is_unbound (inr out) ends = record { other = λ never. out.unbound; early = λ zero. λ four. λ eight. out.unbound }
 
-  pub counts_at_four : Prepares words told asked link far first last near away keeper later outcome → Ends outcome status before after faults now
-      → Ran told link far first last words status before after faults now → CountsAtFour status link.taking far.taking
+  pub counts_at_four : Prepares words old new before now outcome → Ends outcome written → Ran before.files old new words written
+      → CountsAtFour written.status old.link.taking new.link.taking
   counts_at_four (inl p) ends ran = record {
-    rose = four_rose told link far first last words status before after faults now ran;
-    kept = counted_by status before after faults now p.command outcome link.taking far.taking p.taking ends;
+    rose = four_rose before.files old new words written ran;
+    kept = counted_by written p.command outcome old.link.taking new.link.taking p.taking ends;
   }
   counts_at_four (inr out) ends ran = record {
-    rose = four_rose told link far first last words status before after faults now ran;
+    rose = four_rose before.files old new words written ran;
     kept = λ four. ap (λ (l : LinkSeen). l.taking) out.unheard;
   }

@@ -11,6 +11,7 @@ use Rattle.mmtel_run_laws.specs.Outcome.{CallsOfRunsComeToOutcome}
 use Rattle.mmtel_run_laws.specs.Rows.{SeatsOfRunsAreChargedOnce}
 use Rattle.mmtel_run_laws.specs.Seen.{PeersAreApart}
 use Rattle.mmtel_run_laws.specs.Secret.{ConfigurationsAreRead}
+use Rattle.mmtel_server.specs.Seen.{KeeperSeen}
 use Rattle.mmtel_script.specs.Script.{events_of}
 use Rattle.mmtel_uploads.specs.Uploads.{upload_of}
 use Rattle.mmtel_uploads.specs.declared.uploads.Upload.{Upload}
@@ -21,12 +22,12 @@ use Rattle.mmtel_cli.specs.Asks.{AsksFor, IsOnly, SpellsNone}
 use Rattle.mmtel_cli.specs.Due as due
 use Rattle.mmtel_cli.specs.Due.{due_of_events, due_of_script, due_of_directory, due_of_config, due_of_store, due_of_charges, due_of_upload, due_of_records}
 use Rattle.mmtel_cli.specs.Due.{Due, first_after, shelf_by, shelf_first, shelf_after}
-use Rattle.mmtel_reports.specs.Ends.{Ends, WroteListing}
+use Rattle.mmtel_reports.specs.Ends.{Ends, WroteListing, Written}
 use Rattle.mmtel_cli.specs.Found.{HasCalled, IsDue, IsServedBy, SparedBy, Spares}
-use Rattle.mmtel_cli.specs.Gives.{GivesBoth, GivesCharges, GivesRecords, GivesRun, GivesServe, GivesWork, Prepares, ServesConfig, ServesDirectory}
-use Rattle.mmtel_cli.specs.Keeping.{GivesNoRows, IsNotLoaded, IsSpared, KeeperSeen}
+use Rattle.mmtel_cli.specs.Gives.{GivesBoth, GivesCharges, GivesRecords, GivesRun, GivesServe, GivesWork, Ports, Prepares, ServesConfig, ServesDirectory}
+use Rattle.mmtel_cli.specs.Keeping.{GivesNoRows, IsNotLoaded, IsSpared}
 use Rattle.mmtel_cli.specs.Listings.{Lists, ListsRows}
-use Rattle.mmtel_cli.specs.Serving.{LinkSeen}
+use Rattle.mmtel_cli.specs.Outside.{Outside}
 use Rattle.mmtel_cli.specs.Stopped.{HasStopped, StopsOfServe, StopsServing}
 use Rattle.mmtel_cli.specs.Runs.{WroteMemory, WroteLine, WroteFile, WroteKeeper, WroteFault, Counted, Listed, ListedRows, Replayed, Checked, Charged, HasServed, Worked}
 use Rattle.mmtel_cli.specs.Runs.{Ran, RanServe, RanReplay, RanCheck, RanCharges, RanWork, RanNone, RanShort, Called, CalledFor}
@@ -38,17 +39,17 @@ use Rattle.mmtel_reports.specs.declared.reports.Report.TheVariants.{Usage, Line,
 -- ---- a run, where it is known what is due
 
 module _ (outcomes : CallsOfRunsComeToOutcome) (charged : SeatsOfRunsAreChargedOnce) (sends : RunsSendCleanMessages) (homes : HomesAreClean)
-    (reads : ConfigurationsAreRead) (apart : PeersAreApart) (link far : LinkSeen) (keeper later : KeeperSeen) (status : ℕ) (before after : Option (List ℕ)) (faults now : ℕ) where
+    (reads : ConfigurationsAreRead) (apart : PeersAreApart) (old new : Outside) (written : Written) where
   abbrev EndsSo : Report → Type 0
-  EndsSo outcome = Ends outcome status before after faults now
+  EndsSo outcome = Ends outcome written
 
   abbrev OutOfMemory : Type 0
-  OutOfMemory = WroteMemory status before after faults now
+  OutOfMemory = WroteMemory written
 
   -- ---- where memory ran out
 
   -- status 8 tells of that alone
-  memory_at_eight : (outcome : Report) → EndsSo outcome → status ≡ 8 → outcome ≡ Memory
+  memory_at_eight : (outcome : Report) → EndsSo outcome → written.status ≡ 8 → outcome ≡ Memory
   memory_at_eight Usage ends eight = absurd (let wrong : 1 ≡ 8 = sym ends.0 ∙ eight in cc)
   memory_at_eight (Line n) ends eight = absurd (let wrong : 2 ≡ 8 = sym ends.0 ∙ eight in cc)
   memory_at_eight Link ends eight = absurd (let wrong : 4 ≡ 8 = sym ends.0 ∙ eight in cc)
@@ -66,33 +67,33 @@ module _ (outcomes : CallsOfRunsComeToOutcome) (charged : SeatsOfRunsAreChargedO
   memory_at_eight Served ends eight = absurd (let wrong : 0 ≡ 8 = sym ends.0 ∙ eight in cc)
   memory_at_eight (Unsound line) ends eight = absurd (let wrong : 3 ≡ 8 = sym ends.0 ∙ eight in cc)
 
-  stopped_due : (wanted : Due) (outcome : Report) → IsDue keeper later outcome wanted → EndsSo outcome → status ≡ 8 → HasStopped keeper later wanted
-  stopped_due wanted outcome is ends eight = subst (λ (r : Report). IsDue keeper later r wanted) (memory_at_eight outcome ends eight) is
+  stopped_due : (wanted : Due) (outcome : Report) → IsDue old.keeper new.keeper outcome wanted → EndsSo outcome → written.status ≡ 8 → HasStopped old.keeper new.keeper wanted
+  stopped_due wanted outcome is ends eight = subst (λ (r : Report). IsDue old.keeper new.keeper r wanted) (memory_at_eight outcome ends eight) is
 
   stops_in_serving : (directory : Result Directory ℕ) (token : List ℕ) (turns : ℕ) → IfOk directory Suits → is_token token ≡ true
-      → ServesDirectory directory token turns link far keeper later Memory → StopsServing directory token turns link far keeper later
+      → ServesDirectory directory token turns old new Memory → StopsServing directory token turns old new
   stops_in_serving (Ok directory) token turns suits right is = is (suited directory token suits right)
   stops_in_serving (Err line) token turns suits right is = is
 
   stops_in_serve : (config : Option (List ℕ)) (token : List ℕ) (turns : ℕ) → is_token token ≡ true
-      → ServesConfig config token turns link far keeper later Memory → StopsOfServe config token turns link far keeper later
+      → ServesConfig config token turns old new Memory → StopsOfServe config token turns old new
   stops_in_serve None token turns right is = is
   stops_in_serve (Some config) token turns right is = stops_in_serving (directory_of config) token turns (directory_suits homes apart reads config) right is
 
   stops_of_serve : (config : Option (List ℕ)) (token : List ℕ) (turns : ℕ) (outcome : Report) → is_token token ≡ true
-      → ServesConfig config token turns link far keeper later outcome → EndsSo outcome → status ≡ 8 → StopsOfServe config token turns link far keeper later
+      → ServesConfig config token turns old new outcome → EndsSo outcome → written.status ≡ 8 → StopsOfServe config token turns old new
   stops_of_serve config token turns outcome right is ends eight =
       stops_in_serve config token turns right
-      (subst (λ (r : Report). ServesConfig config token turns link far keeper later r) (memory_at_eight outcome ends eight) is)
+      (subst (λ (r : Report). ServesConfig config token turns old new r) (memory_at_eight outcome ends eight) is)
 
   -- ---- what was written
 
-  written_line : (outcome : Report) (line : ℕ) → IsDue keeper later outcome (due.Line line) → EndsSo outcome → WroteLine line status before after faults now ⊎ OutOfMemory
+  written_line : (outcome : Report) (line : ℕ) → IsDue old.keeper new.keeper outcome (due.Line line) → EndsSo outcome → WroteLine line written ⊎ OutOfMemory
   written_line Usage line is ends = absurd (let wrong : due.Line line ≡ due.Usage = is in cc)
   written_line (Line n) line is ends =
       let equal : due.Line line ≡ due.Line n = is in
       let same : n ≡ line = cc in
-      let P : ℕ → Type 0 = λ l. WroteLine l status before after faults now in
+      let P : ℕ → Type 0 = λ l. WroteLine l written in
       inl (subst P same ends)
   written_line File line is ends = absurd (let wrong : due.Line line ≡ due.File = is in cc)
   written_line Link line is ends = absurd is
@@ -103,7 +104,7 @@ module _ (outcomes : CallsOfRunsComeToOutcome) (charged : SeatsOfRunsAreChargedO
   written_line Served line is ends = absurd is
   written_line (Unsound other) line is ends = absurd (let wrong : due.Line line ≡ due.Unsound other = is in cc)
 
-  written_file : (kept left : KeeperSeen) (outcome : Report) → IsDue kept left outcome due.File → EndsSo outcome → WroteFile status before after faults now ⊎ OutOfMemory
+  written_file : (kept left : KeeperSeen) (outcome : Report) → IsDue kept left outcome due.File → EndsSo outcome → WroteFile written ⊎ OutOfMemory
   written_file kept left Usage is ends = absurd (let wrong : due.File ≡ due.Usage = is in cc)
   written_file kept left (Line n) is ends = absurd (let wrong : due.File ≡ due.Line n = is in cc)
   written_file kept left File is ends = inl ends
@@ -115,7 +116,7 @@ module _ (outcomes : CallsOfRunsComeToOutcome) (charged : SeatsOfRunsAreChargedO
   written_file kept left Served is ends = absurd is
   written_file kept left (Unsound other) is ends = absurd (let wrong : due.File ≡ due.Unsound other = is in cc)
 
-  written_sound : (kept left : KeeperSeen) (outcome : Report) → IsDue kept left outcome due.Sound → EndsSo outcome → WroteListing (codes "ok\n") status before after faults now ⊎ OutOfMemory
+  written_sound : (kept left : KeeperSeen) (outcome : Report) → IsDue kept left outcome due.Sound → EndsSo outcome → WroteListing (codes "ok\n") written ⊎ OutOfMemory
   written_sound kept left Usage is ends = absurd (let wrong : due.Sound ≡ due.Usage = is in cc)
   written_sound kept left (Line n) is ends = absurd (let wrong : due.Sound ≡ due.Line n = is in cc)
   written_sound kept left File is ends = absurd (let wrong : due.Sound ≡ due.File = is in cc)
@@ -127,7 +128,7 @@ module _ (outcomes : CallsOfRunsComeToOutcome) (charged : SeatsOfRunsAreChargedO
   written_sound kept left Served is ends = absurd is
   written_sound kept left (Unsound other) is ends = absurd (let wrong : due.Sound ≡ due.Unsound other = is in cc)
 
-  written_fault : (kept left : KeeperSeen) (outcome : Report) (line : List ℕ) → IsDue kept left outcome (due.Unsound line) → EndsSo outcome → WroteFault line status before after faults now ⊎ OutOfMemory
+  written_fault : (kept left : KeeperSeen) (outcome : Report) (line : List ℕ) → IsDue kept left outcome (due.Unsound line) → EndsSo outcome → WroteFault line written ⊎ OutOfMemory
   written_fault kept left Usage line is ends = absurd (let wrong : due.Unsound line ≡ due.Usage = is in cc)
   written_fault kept left (Line n) line is ends = absurd (let wrong : due.Unsound line ≡ due.Line n = is in cc)
   written_fault kept left File line is ends = absurd (let wrong : due.Unsound line ≡ due.File = is in cc)
@@ -140,12 +141,12 @@ module _ (outcomes : CallsOfRunsComeToOutcome) (charged : SeatsOfRunsAreChargedO
   written_fault kept left (Unsound other) line is ends =
       let equal : due.Unsound line ≡ due.Unsound other = is in
       let same : other ≡ line = cc in
-      let P : List ℕ → Type 0 = λ l. WroteFault l status before after faults now in
+      let P : List ℕ → Type 0 = λ l. WroteFault l written in
       inl (subst P same ends)
 
   listed_by : (directory : Directory) (token : List ℕ) (events : List Event) (text : List ℕ) → Suits directory → is_token token ≡ true
-      → Lists directory token events keeper later text → WroteListing text status before after faults now
-      → Listed directory token events keeper later status before after faults now
+      → Lists directory token events old.keeper new.keeper text → WroteListing text written
+      → Listed directory token events old.keeper new.keeper written
   listed_by directory token events text suits right lists wrote = record {
     loaded = lists.loaded;
     opening = lists.opening;
@@ -156,13 +157,13 @@ module _ (outcomes : CallsOfRunsComeToOutcome) (charged : SeatsOfRunsAreChargedO
     seats = λ short. charged directory token lists.loaded lists.lists.run.happened short;
     clean = λ short. sends directory token lists.loaded lists.lists.run.happened suits.home (token_clean token right) short;
     branches = suits.branches token right;
-    written = let P : List ℕ → Type 0 = λ t. WroteListing t status before after faults now in subst P lists.lists.listing wrote;
+    wrote = let P : List ℕ → Type 0 = λ t. WroteListing t written in subst P lists.lists.listing wrote;
   }
 
   written_listing : (directory : Directory) (token : List ℕ) (events : List Event) (outcome : Report) → Suits directory → is_token token ≡ true →
-      IsDue keeper later outcome (due.Run directory token events) → EndsSo outcome
-      → (Listed directory token events keeper later status before after faults now
-      ⊎ (IsNotLoaded directory.store keeper later × WroteKeeper status before after faults now)) ⊎ OutOfMemory
+      IsDue old.keeper new.keeper outcome (due.Run directory token events) → EndsSo outcome
+      → (Listed directory token events old.keeper new.keeper written
+      ⊎ (IsNotLoaded directory.store old.keeper new.keeper × WroteKeeper written)) ⊎ OutOfMemory
   written_listing directory token events Usage suits right is ends = absurd (let wrong : due.Run directory token events ≡ due.Usage = is in cc)
   written_listing directory token events (Line n) suits right is ends = absurd (let wrong : due.Run directory token events ≡ due.Line n = is in cc)
   written_listing directory token events File suits right is ends = absurd (let wrong : due.Run directory token events ≡ due.File = is in cc)
@@ -174,17 +175,17 @@ module _ (outcomes : CallsOfRunsComeToOutcome) (charged : SeatsOfRunsAreChargedO
   written_listing directory token events Served suits right is ends = absurd is
   written_listing directory token events (Unsound other) suits right is ends = absurd (let wrong : due.Run directory token events ≡ due.Unsound other = is in cc)
 
-  listed_rows : (store text : List ℕ) → ListsRows store keeper later text → WroteListing text status before after faults now
-      → ListedRows store keeper later status before after faults now
+  listed_rows : (store text : List ℕ) → ListsRows store old.keeper new.keeper text → WroteListing text written
+      → ListedRows store old.keeper new.keeper written
   listed_rows store text lists wrote = record {
     rows = lists.rows;
     given = lists.given;
-    written = let P : List ℕ → Type 0 = λ t. WroteListing t status before after faults now in subst P lists.listing wrote;
+    wrote = let P : List ℕ → Type 0 = λ t. WroteListing t written in subst P lists.listing wrote;
   }
 
-  written_rows : (store : List ℕ) (outcome : Report) → IsDue keeper later outcome (due.Rows store) → EndsSo outcome
-      → (ListedRows store keeper later status before after faults now
-      ⊎ (GivesNoRows store keeper later × WroteKeeper status before after faults now)) ⊎ OutOfMemory
+  written_rows : (store : List ℕ) (outcome : Report) → IsDue old.keeper new.keeper outcome (due.Rows store) → EndsSo outcome
+      → (ListedRows store old.keeper new.keeper written
+      ⊎ (GivesNoRows store old.keeper new.keeper × WroteKeeper written)) ⊎ OutOfMemory
   written_rows store Usage is ends = absurd (let wrong : due.Rows store ≡ due.Usage = is in cc)
   written_rows store (Line n) is ends = absurd (let wrong : due.Rows store ≡ due.Line n = is in cc)
   written_rows store File is ends = absurd (let wrong : due.Rows store ≡ due.File = is in cc)
@@ -197,14 +198,14 @@ module _ (outcomes : CallsOfRunsComeToOutcome) (charged : SeatsOfRunsAreChargedO
   written_rows store (Unsound other) is ends = absurd (let wrong : due.Rows store ≡ due.Unsound other = is in cc)
 
   written_work : (kept left : KeeperSeen) (calls salt : ℕ) (directory : Directory) (outcome : Report) → IsDue kept left outcome (due.Work calls salt directory) → EndsSo outcome
-      → Counted directory calls salt status before after faults now ⊎ OutOfMemory
+      → Counted directory calls salt written ⊎ OutOfMemory
   written_work kept left calls salt directory Usage is ends = absurd (let wrong : due.Work calls salt directory ≡ due.Usage = is in cc)
   written_work kept left calls salt directory (Line n) is ends = absurd (let wrong : due.Work calls salt directory ≡ due.Line n = is in cc)
   written_work kept left calls salt directory File is ends = absurd (let wrong : due.Work calls salt directory ≡ due.File = is in cc)
   written_work kept left calls salt directory Link is ends = absurd is
   written_work kept left calls salt directory Keeper is ends = absurd is
   written_work kept left calls salt directory Memory is ends = inr ends
-  written_work kept left calls salt directory (Listing text) is ends = inl (record { text = text; counts = is; written = ends })
+  written_work kept left calls salt directory (Listing text) is ends = inl (record { text = text; counts = is; wrote = ends })
   written_work kept left calls salt directory Sound is ends = absurd (let wrong : due.Work calls salt directory ≡ due.Sound = is in cc)
   written_work kept left calls salt directory Served is ends = absurd is
   written_work kept left calls salt directory (Unsound other) is ends = absurd (let wrong : due.Work calls salt directory ≡ due.Unsound other = is in cc)
@@ -212,69 +213,69 @@ module _ (outcomes : CallsOfRunsComeToOutcome) (charged : SeatsOfRunsAreChargedO
   -- ---- stage by stage
 
   ends_of_events : (directory : Directory) (token : List ℕ) (events : Result (List Event) ℕ) (outcome : Report) → Suits directory → is_token token ≡ true →
-      IsDue keeper later outcome (due_of_events directory token events)
+      IsDue old.keeper new.keeper outcome (due_of_events directory token events)
       → EndsSo outcome
-      → EndsOfEvents directory token events keeper later status before after faults now ⊎ OutOfMemory
+      → EndsOfEvents directory token events old.keeper new.keeper written ⊎ OutOfMemory
   ends_of_events directory token (Ok events) outcome suits right due ends = written_listing directory token events outcome suits right due ends
   ends_of_events directory token (Err line) outcome suits right due ends = written_line outcome line due ends
 
   ends_of_script : (directory : Directory) (token : List ℕ) (script : Option (List ℕ)) (outcome : Report) → Suits directory → is_token token ≡ true →
-      IsDue keeper later outcome (due_of_script directory token script)
+      IsDue old.keeper new.keeper outcome (due_of_script directory token script)
       → EndsSo outcome
-      → EndsOfScript directory token script keeper later status before after faults now ⊎ OutOfMemory
-  ends_of_script directory token None outcome suits right due ends = written_file keeper later outcome due ends
+      → EndsOfScript directory token script old.keeper new.keeper written ⊎ OutOfMemory
+  ends_of_script directory token None outcome suits right due ends = written_file old.keeper new.keeper outcome due ends
   ends_of_script directory token (Some script) outcome suits right due ends = ends_of_events directory token (events_of directory.peers.known script) outcome suits right due ends
 
   ends_of_directory : (directory : Result Directory ℕ) (token : List ℕ) (script : Option (List ℕ)) (outcome : Report) → IfOk directory Suits → is_token token ≡ true
-      → IsDue keeper later outcome (due_of_directory directory token script) → EndsSo outcome
-      → EndsOfDirectory directory token script keeper later status before after faults now ⊎ OutOfMemory
+      → IsDue old.keeper new.keeper outcome (due_of_directory directory token script) → EndsSo outcome
+      → EndsOfDirectory directory token script old.keeper new.keeper written ⊎ OutOfMemory
   ends_of_directory (Ok directory) token script outcome suits right due ends = ends_of_script directory token script outcome suits right due ends
   ends_of_directory (Err line) token script outcome suits right due ends = written_line outcome line due ends
 
   ends_of_config : (config : Option (List ℕ)) (token : List ℕ) (script : Option (List ℕ)) (outcome : Report) → is_token token ≡ true →
-      IsDue keeper later outcome (due_of_config config token script)
+      IsDue old.keeper new.keeper outcome (due_of_config config token script)
       → EndsSo outcome
-      → EndsOfConfig config token script keeper later status before after faults now ⊎ OutOfMemory
-  ends_of_config None token script outcome right due ends = written_file keeper later outcome due ends
+      → EndsOfConfig config token script old.keeper new.keeper written ⊎ OutOfMemory
+  ends_of_config None token script outcome right due ends = written_file old.keeper new.keeper outcome due ends
   ends_of_config (Some config) token script outcome right due ends =
       ends_of_directory (directory_of config) token script outcome (directory_suits homes apart reads config) right due ends
 
   -- ---- a check
 
   ends_of_upload : (kept left : KeeperSeen) (said : Upload) (outcome : Report) → IsDue kept left outcome (due_of_upload said) → EndsSo outcome
-      → EndsOfUpload said status before after faults now ⊎ OutOfMemory
+      → EndsOfUpload said written ⊎ OutOfMemory
   ends_of_upload kept left (upload.Accepted sheet) outcome due ends = written_sound kept left outcome due ends
   ends_of_upload kept left (upload.Refused line) outcome due ends = written_fault kept left outcome line due ends
 
   ends_of_records : (kept left : KeeperSeen) (text : Option (List ℕ)) (outcome : Report) → IsDue kept left outcome (due_of_records text) → EndsSo outcome
-      → EndsOfRecords text status before after faults now ⊎ OutOfMemory
+      → EndsOfRecords text written ⊎ OutOfMemory
   ends_of_records kept left None outcome due ends = written_file kept left outcome due ends
   ends_of_records kept left (Some text) outcome due ends = ends_of_upload kept left (upload_of text) outcome due ends
 
   checked : (told : Option Shelf) (words : List (List ℕ)) (records : List ℕ) (outcome : Report)
-      → IsOnly (Check records) words → GivesRecords told records outcome → EndsSo outcome → Checked told words status before after faults now
+      → IsOnly (Check records) words → GivesRecords told records outcome → EndsSo outcome → Checked told words written
   checked told words records outcome spelled gives ends = record {
     records = records;
     spelled = spelled;
     text = gives.text;
     told_text = gives.told_text;
-    ends = ends_of_records keeper keeper gives.text outcome (gives.is_due keeper) ends;
+    ends = ends_of_records old.keeper old.keeper gives.text outcome (gives.is_due old.keeper) ends;
   }
 
   -- ---- the rows of a keeper
 
-  ends_of_store : (directory : Result Directory ℕ) (outcome : Report) → IsDue keeper later outcome (due_of_store directory) → EndsSo outcome
-      → EndsOfStore directory keeper later status before after faults now ⊎ OutOfMemory
+  ends_of_store : (directory : Result Directory ℕ) (outcome : Report) → IsDue old.keeper new.keeper outcome (due_of_store directory) → EndsSo outcome
+      → EndsOfStore directory old.keeper new.keeper written ⊎ OutOfMemory
   ends_of_store (Ok directory) outcome due ends = written_rows directory.store outcome due ends
   ends_of_store (Err line) outcome due ends = written_line outcome line due ends
 
-  ends_of_charges : (config : Option (List ℕ)) (outcome : Report) → IsDue keeper later outcome (due_of_charges config) → EndsSo outcome
-      → EndsOfCharges config keeper later status before after faults now ⊎ OutOfMemory
-  ends_of_charges None outcome due ends = written_file keeper later outcome due ends
+  ends_of_charges : (config : Option (List ℕ)) (outcome : Report) → IsDue old.keeper new.keeper outcome (due_of_charges config) → EndsSo outcome
+      → EndsOfCharges config old.keeper new.keeper written ⊎ OutOfMemory
+  ends_of_charges None outcome due ends = written_file old.keeper new.keeper outcome due ends
   ends_of_charges (Some config) outcome due ends = ends_of_store (directory_of config) outcome due ends
 
   charged_by : (told : Option Shelf) (words : List (List ℕ)) (config : List ℕ) (outcome : Report)
-      → IsOnly (Charges config) words → GivesCharges told keeper later config outcome → EndsSo outcome → Charged told keeper later words status before after faults now
+      → IsOnly (Charges config) words → GivesCharges told old.keeper new.keeper config outcome → EndsSo outcome → Charged told old.keeper new.keeper words written
   charged_by told words config outcome spelled gives ends = record {
     config = config;
     spelled = spelled;
@@ -288,21 +289,21 @@ module _ (outcomes : CallsOfRunsComeToOutcome) (charged : SeatsOfRunsAreChargedO
   -- ---- a workload
 
   worked : (words : List (List ℕ)) (calls salt : ℕ) (outcome : Report)
-      → IsOnly (Workload calls salt) words → GivesWork calls salt outcome → EndsSo outcome → Worked words status before after faults now
+      → IsOnly (Workload calls salt) words → GivesWork calls salt outcome → EndsSo outcome → Worked words written
   worked words calls salt outcome spelled gives ends = record {
     calls = calls;
     salt = salt;
     spelled = spelled;
     directory = gives.directory;
     reads = gives.reads;
-    ends = written_work keeper keeper calls salt gives.directory outcome (gives.is_due keeper) ends;
+    ends = written_work old.keeper old.keeper calls salt gives.directory outcome (gives.is_due old.keeper) ends;
   }
 
   -- ---- serving
 
   written_serving : (directory : Directory) (token : List ℕ) (turns : ℕ) (outcome : Report) → Suits directory → is_token token ≡ true
-      → IsServedBy directory token turns link far keeper later outcome → EndsSo outcome
-      → EndsServing directory token turns link far keeper later status before after faults now ⊎ OutOfMemory
+      → IsServedBy directory token turns old new outcome → EndsSo outcome
+      → EndsServing directory token turns old new written ⊎ OutOfMemory
   written_serving directory token turns Usage suits right is ends = absurd is
   written_serving directory token turns (Line n) suits right is ends = absurd is
   written_serving directory token turns Link suits right is ends = inl (EndsUnlinked (is (suited directory token suits right)) ends)
@@ -313,25 +314,25 @@ module _ (outcomes : CallsOfRunsComeToOutcome) (charged : SeatsOfRunsAreChargedO
   written_serving directory token turns Sound suits right is ends = absurd is
   written_serving directory token turns Served suits right is ends =
       let done = is (suited directory token suits right) in
-      inl (EndsServed (record { closed = done.0; serves = done.1; written = ends }))
+      inl (EndsServed (record { closed = done.0; serves = done.1; wrote = ends }))
   written_serving directory token turns (Unsound other) suits right is ends = absurd is
 
   ends_of_serving : (directory : Result Directory ℕ) (token : List ℕ) (turns : ℕ) (outcome : Report) → IfOk directory Suits → is_token token ≡ true
-      → ServesDirectory directory token turns link far keeper later outcome → EndsSo outcome
-      → EndsOfServing directory token turns link far keeper later status before after faults now ⊎ OutOfMemory
+      → ServesDirectory directory token turns old new outcome → EndsSo outcome
+      → EndsOfServing directory token turns old new written ⊎ OutOfMemory
   ends_of_serving (Ok directory) token turns outcome suits right due ends = written_serving directory token turns outcome suits right due ends
   ends_of_serving (Err line) token turns outcome suits right due ends = written_line outcome line due.0 ends
 
   ends_of_serve : (config : Option (List ℕ)) (token : List ℕ) (turns : ℕ) (outcome : Report) → is_token token ≡ true
-      → ServesConfig config token turns link far keeper later outcome → EndsSo outcome
-      → EndsOfServe config token turns link far keeper later status before after faults now ⊎ OutOfMemory
-  ends_of_serve None token turns outcome right due ends = written_file keeper later outcome due.0 ends
+      → ServesConfig config token turns old new outcome → EndsSo outcome
+      → EndsOfServe config token turns old new written ⊎ OutOfMemory
+  ends_of_serve None token turns outcome right due ends = written_file old.keeper new.keeper outcome due.0 ends
   ends_of_serve (Some config) token turns outcome right due ends =
       ends_of_serving (directory_of config) token turns outcome (directory_suits homes apart reads config) right due ends
 
   served : (told : Option Shelf) (words : List (List ℕ)) (config token : List ℕ) (turns : ℕ) (outcome : Report)
-      → IsOnly (Serve config token turns) words → GivesServe told link far keeper later config token turns outcome → EndsSo outcome
-      → HasServed told link far keeper later words status before after faults now
+      → IsOnly (Serve config token turns) words → GivesServe told old new config token turns outcome → EndsSo outcome
+      → HasServed told old new words written
   served told words config token turns outcome spelled gives ends = record {
     config = config;
     token = token;
@@ -346,7 +347,7 @@ module _ (outcomes : CallsOfRunsComeToOutcome) (charged : SeatsOfRunsAreChargedO
   -- ---- a whole run
 
   replayed : (told : Option Shelf) (words : List (List ℕ)) (asked : Asked) (outcome : Report)
-      → IsOnly (Replay asked) words → GivesBoth told keeper later asked outcome → EndsSo outcome → Replayed told keeper later words status before after faults now
+      → IsOnly (Replay asked) words → GivesBoth told old.keeper new.keeper asked outcome → EndsSo outcome → Replayed told old.keeper new.keeper words written
   replayed told words asked outcome spelled gives ends = record {
     asked = asked;
     spelled = spelled;
@@ -356,13 +357,13 @@ module _ (outcomes : CallsOfRunsComeToOutcome) (charged : SeatsOfRunsAreChargedO
   }
 
   ran_none : (words : List (List ℕ)) (outcome : Report) (told : Option Shelf) → SpellsNone words → outcome ≡ Usage → EndsSo outcome →
-      Ran told link far keeper later words status before after faults now
+      Ran told old new words written
   ran_none words outcome told none gives ends =
       let P : Report → Type 0 = λ r. EndsSo r in
       RanNone (record { none = none; said = subst P gives ends })
 
   ran_command : (told : Option Shelf) (words : List (List ℕ)) (command : Option Command) (outcome : Report)
-      → AsksFor words command → GivesRun told link far keeper later command outcome → EndsSo outcome → Ran told link far keeper later words status before after faults now
+      → AsksFor words command → GivesRun told old new command outcome → EndsSo outcome → Ran told old new words written
   ran_command told words None outcome asks gives ends = ran_none words outcome told asks gives ends
   ran_command told words (Some (Serve config token turns)) outcome asks gives ends = RanServe (served told words config token turns outcome asks gives ends)
   ran_command told words (Some (Replay asked)) outcome asks gives ends = RanReplay (replayed told words asked outcome asks gives ends)
@@ -371,14 +372,18 @@ module _ (outcomes : CallsOfRunsComeToOutcome) (charged : SeatsOfRunsAreChargedO
   ran_command told words (Some (Workload calls salt)) outcome asks gives ends =
       RanWork (worked words calls salt outcome asks gives ends)
 
-  pub ran : {L K : Type 0} (told called_then : Option Shelf) (near away : L) (kept held : K) (words : List (List ℕ)) (outcome : Report)
-      → Prepares words told called_then link far keeper later near away kept held outcome → EndsSo outcome → Ran told link far keeper later words status before after faults now
-  ran told called_then near away kept held words outcome (inl p) ends = ran_command told words p.command outcome p.asks p.gives ends
-  ran told called_then near away kept held words outcome (inr out) ends =
+  pub ran : {L K : Type 0} (before now : Ports L K) (words : List (List ℕ)) (outcome : Report)
+      → Prepares words old new before now outcome → EndsSo outcome → Ran before.files old new words written
+  ran before now words outcome (inl p) ends = ran_command before.files words p.command outcome p.asks p.gives ends
+  ran before now words outcome (inr out) ends =
       let P : Report → Type 0 = λ r. EndsSo r in
       RanShort (subst P out.memory ends) out.kept out.unheard
 
 -- ---- the calls of files
+
+where_told : (told : Option Shelf) (P : Shelf → Type 0) → ((shelf : Shelf) → told ≡ Some shelf → P shelf) → IfSome told P
+where_told None P each = tt
+where_told (Some shelf) P each = each shelf refl
 
 called_last : (status : ℕ) (after : Option Shelf) (none first last : Shelf) → (status ≡ 1) → Called status after none first last → after ≡ Some last
 called_last status after none first last one called = called.all (λ e. let wrong : 1 ≡ 8 = sym one ∙ e in cc)
@@ -444,77 +449,82 @@ not_eight n status is other eight = other (sym is ∙ eight)
 other_status : (P : Type 0) (n status : ℕ) (outcome : Report) → status ≡ n → (n ≡ 1 → ⊥) → (outcome ≡ Usage → ⊥) → (outcome ≡ Usage) ↔ P → (status ≡ 1) ↔ P
 other_status P n status outcome is other asked usage = (λ one. absurd (other (sym is ∙ one)), λ p. absurd (asked (usage.1 p)))
 
-done_status : (P : Type 0) (text : List ℕ) (status : ℕ) (outcome : Report) (before after : Option (List ℕ)) (faults now : ℕ)
-    → WroteListing text status before after faults now → (outcome ≡ Usage → ⊥) → (outcome ≡ Usage) ↔ P → (status ≡ 1) ↔ P
-done_status P text status outcome before after faults now (inl whole) asked usage = other_status P 0 status outcome whole.0 (λ w. cc) asked usage
-done_status P text status outcome before after faults now (inr part) asked usage = other_status P 7 status outcome part.0 (λ w. cc) asked usage
+done_status : (P : Type 0) (text : List ℕ) (outcome : Report) (written : Written)
+    → WroteListing text written → (outcome ≡ Usage → ⊥) → (outcome ≡ Usage) ↔ P → (written.status ≡ 1) ↔ P
+done_status P text outcome written (inl whole) asked usage = other_status P 0 written.status outcome whole.0 (λ w. cc) asked usage
+done_status P text outcome written (inr part) asked usage = other_status P 7 written.status outcome part.0 (λ w. cc) asked usage
 
-status_one : (P : Type 0) (outcome : Report) (status : ℕ) (before after : Option (List ℕ)) (faults now : ℕ)
-    → (outcome ≡ Usage) ↔ P → Ends outcome status before after faults now → (status ≡ 1) ↔ P
-status_one P Usage status before after faults now usage ends = (λ one. usage.0 refl, λ p. ends.0)
-status_one P (Line n) status before after faults now usage ends = other_status P 2 status (Line n) ends.0 (λ w. cc) (λ w. cc) usage
-status_one P Link status before after faults now usage ends = other_status P 4 status Link ends.0 (λ w. cc) (λ w. cc) usage
-status_one P File status before after faults now usage ends = other_status P 5 status File ends.0 (λ w. cc) (λ w. cc) usage
-status_one P Keeper status before after faults now usage ends = other_status P 6 status Keeper ends.0 (λ w. cc) (λ w. cc) usage
-status_one P Memory status before after faults now usage ends = other_status P 8 status Memory ends.0 (λ w. cc) (λ w. cc) usage
-status_one P (Listing text) status before after faults now usage ends = done_status P text status (Listing text) before after faults now ends (λ w. cc) usage
-status_one P Sound status before after faults now usage ends = done_status P (codes "ok\n") status Sound before after faults now ends (λ w. cc) usage
-status_one P Served status before after faults now usage ends = other_status P 0 status Served ends.0 (λ w. cc) (λ w. cc) usage
-status_one P (Unsound line) status before after faults now usage ends = other_status P 3 status (Unsound line) ends.0 (λ w. cc) (λ w. cc) usage
+status_one : (P : Type 0) (outcome : Report) (written : Written)
+    → (outcome ≡ Usage) ↔ P → Ends outcome written → (written.status ≡ 1) ↔ P
+status_one P Usage written usage ends = (λ one. usage.0 refl, λ p. ends.0)
+status_one P (Line n) written usage ends = other_status P 2 written.status (Line n) ends.0 (λ w. cc) (λ w. cc) usage
+status_one P Link written usage ends = other_status P 4 written.status Link ends.0 (λ w. cc) (λ w. cc) usage
+status_one P File written usage ends = other_status P 5 written.status File ends.0 (λ w. cc) (λ w. cc) usage
+status_one P Keeper written usage ends = other_status P 6 written.status Keeper ends.0 (λ w. cc) (λ w. cc) usage
+status_one P Memory written usage ends = other_status P 8 written.status Memory ends.0 (λ w. cc) (λ w. cc) usage
+status_one P (Listing text) written usage ends = done_status P text (Listing text) written ends (λ w. cc) usage
+status_one P Sound written usage ends = done_status P (codes "ok\n") Sound written ends (λ w. cc) usage
+status_one P Served written usage ends = other_status P 0 written.status Served ends.0 (λ w. cc) (λ w. cc) usage
+status_one P (Unsound line) written usage ends = other_status P 3 written.status (Unsound line) ends.0 (λ w. cc) (λ w. cc) usage
 
 -- by what was found due
 called_all : (n status : ℕ) (told : Option Shelf) (none first last : Shelf) → status ≡ n → (n ≡ 8 → ⊥) → told ≡ Some last → Called status told none first last
 called_all n status told none first last is other called = record { all = λ e. called; some = λ e. absurd (not_eight n status is other e) }
 
-called_done : (text : List ℕ) (status : ℕ) (told : Option Shelf) (none first last : Shelf) (before after : Option (List ℕ)) (faults now : ℕ)
-    → told ≡ Some last → WroteListing text status before after faults now → Called status told none first last
-called_done text status told none first last before after faults now called (inl whole) = called_all 0 status told none first last whole.0 (λ w. cc) called
-called_done text status told none first last before after faults now called (inr part) = called_all 7 status told none first last part.0 (λ w. cc) called
+called_done : (text : List ℕ) (told : Option Shelf) (none first last : Shelf) (written : Written)
+    → told ≡ Some last → WroteListing text written → Called written.status told none first last
+called_done text told none first last written called (inl whole) = called_all 0 written.status told none first last whole.0 (λ w. cc) called
+called_done text told none first last written called (inr part) = called_all 7 written.status told none first last part.0 (λ w. cc) called
 
-has_called : (outcome : Report) (status : ℕ) (told : Option Shelf) (none first last : Shelf) (before after : Option (List ℕ)) (faults now : ℕ)
-    → HasCalled outcome told first last → Ends outcome status before after faults now → Called status told none first last
-has_called Usage status told none first last before after faults now called ends = called_all 1 status told none first last ends.0 (λ w. cc) called
-has_called (Line line) status told none first last before after faults now called ends = called_all 2 status told none first last ends.0 (λ w. cc) called
-has_called Link status told none first last before after faults now called ends = called_all 4 status told none first last ends.0 (λ w. cc) called
-has_called File status told none first last before after faults now called ends = called_all 5 status told none first last ends.0 (λ w. cc) called
-has_called Keeper status told none first last before after faults now called ends = called_all 6 status told none first last ends.0 (λ w. cc) called
-has_called Memory status told none first last before after faults now called ends = record { all = λ e. absurd (e ends.0); some = λ e. inr called }
-has_called (Listing text) status told none first last before after faults now called ends = called_done text status told none first last before after faults now called ends
-has_called Sound status told none first last before after faults now called ends = called_done (codes "ok\n") status told none first last before after faults now called ends
-has_called Served status told none first last before after faults now called ends = called_all 0 status told none first last ends.0 (λ w. cc) called
-has_called (Unsound line) status told none first last before after faults now called ends = called_all 3 status told none first last ends.0 (λ w. cc) called
+has_called : (outcome : Report) (told : Option Shelf) (none first last : Shelf) (written : Written)
+    → HasCalled outcome told first last → Ends outcome written → Called written.status told none first last
+has_called Usage told none first last written called ends = called_all 1 written.status told none first last ends.0 (λ w. cc) called
+has_called (Line line) told none first last written called ends = called_all 2 written.status told none first last ends.0 (λ w. cc) called
+has_called Link told none first last written called ends = called_all 4 written.status told none first last ends.0 (λ w. cc) called
+has_called File told none first last written called ends = called_all 5 written.status told none first last ends.0 (λ w. cc) called
+has_called Keeper told none first last written called ends = called_all 6 written.status told none first last ends.0 (λ w. cc) called
+has_called Memory told none first last written called ends = record { all = λ e. absurd (e ends.0); some = λ e. inr called }
+has_called (Listing text) told none first last written called ends = called_done text told none first last written called ends
+has_called Sound told none first last written called ends = called_done (codes "ok\n") told none first last written called ends
+has_called Served told none first last written called ends = called_all 0 written.status told none first last ends.0 (λ w. cc) called
+has_called (Unsound line) told none first last written called ends = called_all 3 written.status told none first last ends.0 (λ w. cc) called
 
-pub calls_told : {L K : Type 0} (told : Option Shelf) (link far : LinkSeen) (keeper later : KeeperSeen) (near away : L) (kept held : K) (words : List (List ℕ)) (outcome : Report)
-    (status : ℕ) (asked : Option Shelf) (before after : Option (List ℕ)) (faults now : ℕ)
-    → Prepares words told asked link far keeper later near away kept held outcome → Ends outcome status before after faults now
-    → IfSome told (λ shelf. CalledFor shelf words status asked)
-calls_told None link far keeper later near away kept held words outcome status asked before after faults now prepares ends = tt
-calls_told (Some shelf) link far keeper later near away kept held words outcome status asked before after faults now (inl p) ends =
-    called_for shelf words status asked p.command p.asks (status_one (p.command ≡ None) outcome status before after faults now p.usage ends)
-    (has_called outcome status asked shelf (first_after shelf p.command) (shelf_after shelf p.command) before after faults now p.calls ends)
-calls_told (Some shelf) link far keeper later near away kept held words outcome status asked before after faults now (inr out) ends =
-    let P : Report → Type 0 = λ r. Ends r status before after faults now in
-    called_short shelf words status asked out.calls (subst P out.memory ends).0
+module _ {L K : Type 0} (words : List (List ℕ)) (old new : Outside) (before now : Ports L K) (outcome : Report) (written : Written)
+    (prepares : Prepares words old new before now outcome) (ends : Ends outcome written) where
+  calls_of : (shelf : Shelf) → before.files ≡ Some shelf → CalledFor shelf words written.status now.files
+  calls_of shelf told =
+      elim prepares [
+        | inl p ↦
+            let calls = subst (λ (files : Option Shelf). IfSome files (λ s. HasCalled outcome now.files (first_after s p.command) (shelf_after s p.command))) told p.calls in
+            called_for shelf words written.status now.files p.command p.asks (status_one (p.command ≡ None) outcome written p.usage ends)
+            (has_called outcome now.files shelf (first_after shelf p.command) (shelf_after shelf p.command) written calls ends)
+        | inr out ↦
+            let P : Report → Type 0 = λ r. Ends r written in
+            called_short shelf words written.status now.files (out.calls ∙ told) (subst P out.memory ends).0
+      ]
+
+  pub calls_told : IfSome before.files (λ shelf. CalledFor shelf words written.status now.files)
+  calls_told = where_told before.files (λ shelf. CalledFor shelf words written.status now.files) calls_of
 
 -- ---- the keeper, where no run comes to it
 
-early_spared : {K : Type 0} (outcome : Report) (keeper later : K) (status : ℕ) (before after : Option (List ℕ)) (faults now : ℕ) → Spares outcome keeper later
-    → Ends outcome status before after faults now
-    → (status ≡ 0 → ⊥) → (status ≡ 4 → ⊥) → (status ≡ 6 → ⊥) → (status ≡ 7 → ⊥) → (status ≡ 8 → ⊥) → later ≡ keeper
-early_spared Usage keeper later status before after faults now spares ends zero four six seven eight = spares
-early_spared (Line line) keeper later status before after faults now spares ends zero four six seven eight = spares
-early_spared Link keeper later status before after faults now spares ends zero four six seven eight = absurd (four ends.0)
-early_spared File keeper later status before after faults now spares ends zero four six seven eight = spares
-early_spared Keeper keeper later status before after faults now spares ends zero four six seven eight = absurd (six ends.0)
-early_spared Memory keeper later status before after faults now spares ends zero four six seven eight = absurd (eight ends.0)
-early_spared (Listing text) keeper later status before after faults now spares ends zero four six seven eight =
+early_spared : {K : Type 0} (outcome : Report) (keeper later : K) (written : Written) → Spares outcome keeper later
+    → Ends outcome written
+    → (written.status ≡ 0 → ⊥) → (written.status ≡ 4 → ⊥) → (written.status ≡ 6 → ⊥) → (written.status ≡ 7 → ⊥) → (written.status ≡ 8 → ⊥) → later ≡ keeper
+early_spared Usage keeper later written spares ends zero four six seven eight = spares
+early_spared (Line line) keeper later written spares ends zero four six seven eight = spares
+early_spared Link keeper later written spares ends zero four six seven eight = absurd (four ends.0)
+early_spared File keeper later written spares ends zero four six seven eight = spares
+early_spared Keeper keeper later written spares ends zero four six seven eight = absurd (six ends.0)
+early_spared Memory keeper later written spares ends zero four six seven eight = absurd (eight ends.0)
+early_spared (Listing text) keeper later written spares ends zero four six seven eight =
     elim ends [
       | inl whole ↦ absurd (zero whole.0)
       | inr part ↦ absurd (seven part.0)
     ]
-early_spared Sound keeper later status before after faults now spares ends zero four six seven eight = spares
-early_spared Served keeper later status before after faults now spares ends zero four six seven eight = absurd (zero ends.0)
-early_spared (Unsound line) keeper later status before after faults now spares ends zero four six seven eight = spares
+early_spared Sound keeper later written spares ends zero four six seven eight = spares
+early_spared Served keeper later written spares ends zero four six seven eight = absurd (zero ends.0)
+early_spared (Unsound line) keeper later written spares ends zero four six seven eight = spares
 
 none_spared : {K : Type 0} (words : List (List ℕ)) (command : Option Command) (keeper later : K) → AsksFor words command → SparedBy command keeper later →
     SpellsNone words → later ≡ keeper
@@ -535,20 +545,17 @@ work_spared words (Some command) keeper later asks spared calls salt spelled =
     let P : Command → Type 0 = λ c. SparedBy (Some c) keeper later in
     subst P (sym (asks.alone (Workload calls salt) spelled)) spared
 
-pub is_spared : {L K : Type 0} (told asked : Option Shelf) (link far : LinkSeen) (first last : KeeperSeen) (words : List (List ℕ)) (outcome : Report) (near away : L)
-    (keeper later : K)
-    (status : ℕ) (before after : Option (List ℕ)) (faults now : ℕ)
-    → Spares outcome keeper later → Prepares words told asked link far first last near away keeper later outcome → Ends outcome status before after faults now
-    → IsSpared words status keeper later
-is_spared told asked link far first last words outcome near away keeper later status before after faults now spares (inl p) ends = record {
-  none = none_spared words p.command keeper later p.asks p.spared;
-  checked = check_spared words p.command keeper later p.asks p.spared;
-  worked = work_spared words p.command keeper later p.asks p.spared;
-  early = early_spared outcome keeper later status before after faults now spares ends;
+pub is_spared : {L K : Type 0} (old new : Outside) (words : List (List ℕ)) (outcome : Report) (before now : Ports L K) (written : Written)
+    → Prepares words old new before now outcome → Spares outcome before.keeper now.keeper → Ends outcome written → IsSpared words written.status before.keeper now.keeper
+is_spared old new words outcome before now written (inl p) spares ends = record {
+  none = none_spared words p.command before.keeper now.keeper p.asks p.spared;
+  checked = check_spared words p.command before.keeper now.keeper p.asks p.spared;
+  worked = work_spared words p.command before.keeper now.keeper p.asks p.spared;
+  early = early_spared outcome before.keeper now.keeper written spares ends;
 }
-is_spared told asked link far first last words outcome near away keeper later status before after faults now spares (inr out) ends = record {
+is_spared old new words outcome before now written (inr out) spares ends = record {
   none = λ no_one. out.spared;
   checked = λ records. λ spelled. out.spared;
   worked = λ calls. λ salt. λ spelled. out.spared;
-  early = early_spared outcome keeper later status before after faults now spares ends;
+  early = early_spared outcome before.keeper now.keeper written spares ends;
 }

@@ -19,9 +19,11 @@ use Rattle.mmtel_uploads.specs.declared.uploads.Upload.{Upload}
 use Rattle.mmtel_uploads.specs.declared.uploads.Upload.TheVariants as upload
 use Rattle.mmtel_words.specs.CommandLine.{Asked, Command, Serve, Replay, Check, Charges, Workload, IsCommand}
 use Rattle.mmtel_cli.specs.Asks.{IsServe, IsReplay, IsCheck, IsCharges, IsWorkload, IsOnly, SpellsNone}
-use Rattle.mmtel_reports.specs.Ends.{WroteListing, WroteNothing}
-use Rattle.mmtel_cli.specs.Keeping.{GivesNoRows, IsAskedRows, IsLoaded, IsNotLoaded, IsOpened, KeeperSeen, refuses, refuses_rows}
-use Rattle.mmtel_cli.specs.Serving.{IsBindCall, IsLinked, LinkFails, LinkSeen}
+use Rattle.mmtel_reports.specs.Ends.{WroteListing, WroteNothing, Written}
+use Rattle.mmtel_cli.specs.Keeping.{GivesNoRows, IsAskedRows, IsLoaded, IsNotLoaded, IsOpened, refuses, refuses_rows}
+use Rattle.mmtel_cli.specs.Outside.{Outside}
+use Rattle.mmtel_cli.specs.Serving.{IsBindCall, IsLinked, LinkFails}
+use Rattle.mmtel_server.specs.Seen.{KeeperSeen, LinkSeen}
 use Rattle.mmtel_cli.specs.Runs.{Counted, HasServed, Listed, ListedRows, WroteMemory, Replayed, Checked, Charged, Worked, Refused, ServedLink, Ran, RanServe, RanReplay}
 use Rattle.mmtel_cli.specs.Runs.{RanCheck, RanCharges, RanWork, RanNone, RanShort}
 use Rattle.mmtel_cli.specs.Runs.{EndsOfEvents, EndsOfScript, EndsOfDirectory, EndsOfConfig, EndsOfStore, EndsOfCharges, EndsOfUpload, EndsOfRecords}
@@ -63,31 +65,31 @@ no_other one other words only spelled apart = eqb-false (name_of other) (name_of
 
 -- ---- files that are there and good
 
-module _ (shelf : Shelf) (link far : LinkSeen) (keeper later : KeeperSeen) (words : List (List ℕ)) (asked : Asked) (directory : Directory) (events : List Event)
-    (status : ℕ) (before after : Option (List ℕ)) (faults now : ℕ) where
+module _ (shelf : Shelf) (old new : Outside) (words : List (List ℕ)) (asked : Asked) (directory : Directory) (events : List Event)
+    (written : Written) where
   -- how such a run ends
   abbrev EndsWell : Type 0
-  EndsWell = EndsOfEvents directory asked.token (Ok events) keeper later status before after faults now
+  EndsWell = EndsOfEvents directory asked.token (Ok events) old.keeper new.keeper written
 
   good_ends : (config_text script_text : List ℕ) (config script : Option (List ℕ))
       → config ≡ Some config_text → directory_of config_text ≡ Ok directory → script ≡ Some script_text → events_of directory.peers.known script_text ≡ Ok events
-      → EndsOfConfig config asked.token script keeper later status before after faults now ⊎ WroteMemory status before after faults now
-      → EndsWell ⊎ WroteMemory status before after faults now
+      → EndsOfConfig config asked.token script old.keeper new.keeper written ⊎ WroteMemory written
+      → EndsWell ⊎ WroteMemory written
   good_ends config_text script_text config script config_is directory_is script_is events_is ends =
       rw (config_is, script_is, directory_is, events_is) at ends
 
-  good_replay : IsGood shelf words asked directory events → (r : Replayed (Some shelf) keeper later words status before after faults now)
-      → EndsWell ⊎ WroteMemory status before after faults now
+  good_replay : IsGood shelf words asked directory events → (r : Replayed (Some shelf) old.keeper new.keeper words written)
+      → EndsWell ⊎ WroteMemory written
   good_replay good r =
       let same : r.asked ≡ asked = same_asked r.asked asked words r.spelled good.spelled in
       let P : Asked
-      → Type 0 = λ a. EndsOfConfig r.answers.config a.token r.answers.script keeper later status before after faults now ⊎ WroteMemory status before after faults now in
+      → Type 0 = λ a. EndsOfConfig r.answers.config a.token r.answers.script old.keeper new.keeper written ⊎ WroteMemory written in
       good_ends good.config good.script r.answers.config r.answers.script
       (r.answers.told_config ∙ ap (λ (a : Asked). answer_at shelf a.config) same ∙ good.config_there) good.config_read
       (r.answers.told_script ∙ ap (λ (a : Asked). answer_at (called shelf) a.script) same ∙ good.script_there) good.script_read
       (subst P same r.ends)
 
-  good_run : IsGood shelf words asked directory events → Ran (Some shelf) link far keeper later words status before after faults now → EndsWell ⊎ (status ≡ 8)
+  good_run : IsGood shelf words asked directory events → Ran (Some shelf) old new words written → EndsWell ⊎ (written.status ≡ 8)
   good_run good (RanReplay r) =
       elim (good_replay good r) [
         | inl ends ↦ inl ends
@@ -111,32 +113,32 @@ asks : (path : List ℕ) (calls since : Option KeeperCalls) (told : KeeperCalls)
 asks path None since told refused asked is = absurd cc
 asks path (Some calls) since told refused asked is = let same : calls ≡ told = some_is calls told is in ap refuses_rows (sym same) ∙ asked.1
 
-never_unwilling : (store : List ℕ) (keeper later : KeeperSeen) → IsWilling keeper later → IsNotLoaded store keeper later → ⊥
-never_unwilling store keeper later (inl willing) not =
-    let wrong : false ≡ true = sym willing.2 ∙ opens store keeper.calls later.calls willing.0 true not.calls willing.1 in
+never_unwilling : (store : List ℕ) (old new : KeeperSeen) → IsWilling old new → IsNotLoaded store old new → ⊥
+never_unwilling store old new (inl willing) not =
+    let wrong : false ≡ true = sym willing.2 ∙ opens store old.calls new.calls willing.0 true not.calls willing.1 in
     cc
-never_unwilling store keeper later (inr willing) not = willing not.rose
+never_unwilling store old new (inr willing) not = willing not.rose
 
-never_ungiving : (store : List ℕ) (keeper later : KeeperSeen) → IsWillingToGive keeper later → GivesNoRows store keeper later → ⊥
-never_ungiving store keeper later (inl willing) not =
-    let wrong : false ≡ true = sym willing.2 ∙ asks store keeper.calls later.calls willing.0 true not.calls willing.1 in
+never_ungiving : (store : List ℕ) (old new : KeeperSeen) → IsWillingToGive old new → GivesNoRows store old new → ⊥
+never_ungiving store old new (inl willing) not =
+    let wrong : false ≡ true = sym willing.2 ∙ asks store old.calls new.calls willing.0 true not.calls willing.1 in
     cc
-never_ungiving store keeper later (inr willing) not = willing not.rose
+never_ungiving store old new (inr willing) not = willing not.rose
 
 pub good_ones_are_listed : GoodOnesAreListed
-good_ones_are_listed shelf link far keeper later words asked directory events status before after faults now good willing ran =
-    elim (good_run shelf link far keeper later words asked directory events status before after faults now good ran) [
+good_ones_are_listed shelf old new words asked directory events written good willing ran =
+    elim (good_run shelf old new words asked directory events written good ran) [
       | inl ends ↦ elim ends [
         | inl listed ↦ inl listed
-        | inr not ↦ absurd (never_unwilling directory.store keeper later willing not.0)
+        | inr not ↦ absurd (never_unwilling directory.store old.keeper new.keeper willing not.0)
       ]
       | inr memory ↦ inr memory
     ]
 
 pub good_ones_succeed : GoodOnesSucceed
-good_ones_succeed shelf link far keeper later words asked directory events status before after faults now good willing ran kept =
-    elim (good_ones_are_listed shelf link far keeper later words asked directory events status before after faults now good willing ran) [
-      | inl listed ↦ elim listed.written [
+good_ones_succeed shelf old new words asked directory events written good willing ran kept =
+    elim (good_ones_are_listed shelf old new words asked directory events written good willing ran) [
+      | inl listed ↦ elim listed.wrote [
         | inl whole ↦ inl whole.0
         | inr part ↦ absurd (kept part.2)
       ]
@@ -144,10 +146,10 @@ good_ones_succeed shelf link far keeper later words asked directory events statu
     ]
 
 pub good_ones_want_a_keeper : GoodOnesWantAKeeper
-good_ones_want_a_keeper shelf link far keeper later calls words asked directory events status before after faults now good is unwilling ran =
-    elim (good_run shelf link far keeper later words asked directory events status before after faults now good ran) [
+good_ones_want_a_keeper shelf old new calls words asked directory events written good is unwilling ran =
+    elim (good_run shelf old new words asked directory events written good ran) [
       | inl ends ↦ elim ends [
-        | inl listed ↦ absurd (let wrong : true ≡ false = sym unwilling ∙ opens directory.store keeper.calls listed.opening.calls calls false listed.opened.calls is in cc)
+        | inl listed ↦ absurd (let wrong : true ≡ false = sym unwilling ∙ opens directory.store old.keeper.calls listed.opening.calls calls false listed.opened.calls is in cc)
         | inr not ↦ inl not.1.0
       ]
       | inr memory ↦ inr memory
@@ -155,69 +157,68 @@ good_ones_want_a_keeper shelf link far keeper later calls words asked directory 
 
 -- ---- a file that is checked
 
-told_ends : (text : Option (List ℕ)) (there : List ℕ) (status : ℕ) (before after : Option (List ℕ)) (faults now : ℕ) → text ≡ Some there
-    → EndsOfRecords text status before after faults now ⊎ WroteMemory status before after faults now → EndsOfUpload (upload_of there) status before after faults now ⊎ (status ≡ 8)
-told_ends text there status before after faults now is (inl ends) =
-    let P : Option (List ℕ) → Type 0 = λ t. EndsOfRecords t status before after faults now in
+told_ends : (text : Option (List ℕ)) (there : List ℕ) (written : Written) → text ≡ Some there
+    → EndsOfRecords text written ⊎ WroteMemory written → EndsOfUpload (upload_of there) written ⊎ (written.status ≡ 8)
+told_ends text there written is (inl ends) =
+    let P : Option (List ℕ) → Type 0 = λ t. EndsOfRecords t written in
     inl (subst P is ends)
-told_ends text there status before after faults now is (inr memory) = inr memory.0
+told_ends text there written is (inr memory) = inr memory.0
 
 pub checks_are_told : ChecksAreTold
-checks_are_told shelf link far keeper later words text status before after faults now there (RanServe v) =
+checks_are_told shelf old new words text written there (RanServe v) =
     absurd (no_other (Serve v.config v.token v.turns) (Check there.records) words v.spelled there.spelled refl)
-checks_are_told shelf link far keeper later words text status before after faults now there (RanReplay r) =
+checks_are_told shelf old new words text written there (RanReplay r) =
     absurd (no_other (Replay r.asked) (Check there.records) words r.spelled there.spelled refl)
-checks_are_told shelf link far keeper later words text status before after faults now there (RanCheck c) =
-    told_ends c.text text status before after faults now
+checks_are_told shelf old new words text written there (RanCheck c) =
+    told_ends c.text text written
     (c.told_text ∙ (ap (answer_at shelf) (same_records c.records there.records words c.spelled there.spelled) ∙ there.there)) c.ends
-checks_are_told shelf link far keeper later words text status before after faults now there (RanCharges c) =
+checks_are_told shelf old new words text written there (RanCharges c) =
     absurd (no_other (Charges c.config) (Check there.records) words c.spelled there.spelled refl)
-checks_are_told shelf link far keeper later words text status before after faults now there (RanWork w) =
+checks_are_told shelf old new words text written there (RanWork w) =
     absurd (no_other (Workload w.calls w.salt) (Check there.records) words w.spelled there.spelled refl)
-checks_are_told shelf link far keeper later words text status before after faults now there (RanNone refused) = absurd (refused.none (Check there.records) there.spelled)
-checks_are_told shelf link far keeper later words text status before after faults now there (RanShort memory spared unheard) = inr memory.0
+checks_are_told shelf old new words text written there (RanNone refused) = absurd (refused.none (Check there.records) there.spelled)
+checks_are_told shelf old new words text written there (RanShort memory spared unheard) = inr memory.0
 
 -- ---- a store whose rows are asked for
 
-kept_ends : (text : Option (List ℕ)) (there : List ℕ) (directory : Directory) (keeper later : KeeperSeen) (status : ℕ) (before after : Option (List ℕ)) (faults now : ℕ)
+kept_ends : (text : Option (List ℕ)) (there : List ℕ) (directory : Directory) (old new : KeeperSeen) (written : Written)
     → text ≡ Some there → directory_of there ≡ Ok directory
-    → EndsOfCharges text keeper later status before after faults now ⊎ WroteMemory status before after faults now
-    → EndsOfStore (Ok directory) keeper later status before after faults now ⊎ WroteMemory status before after faults now
-kept_ends text there directory keeper later status before after faults now is read ends = rw (is, read) at ends
+    → EndsOfCharges text old new written ⊎ WroteMemory written
+    → EndsOfStore (Ok directory) old new written ⊎ WroteMemory written
+kept_ends text there directory old new written is read ends = rw (is, read) at ends
 
-kept_run : (shelf : Shelf) (link far : LinkSeen) (keeper later : KeeperSeen) (words : List (List ℕ)) (directory : Directory) (status : ℕ) (before after : Option (List ℕ))
-    (faults now : ℕ)
-    → IsKept shelf words directory → Ran (Some shelf) link far keeper later words status before after faults now
-    → EndsOfStore (Ok directory) keeper later status before after faults now ⊎ WroteMemory status before after faults now
-kept_run shelf link far keeper later words directory status before after faults now kept (RanServe v) =
+kept_run : (shelf : Shelf) (old new : Outside) (words : List (List ℕ)) (directory : Directory) (written : Written)
+    → IsKept shelf words directory → Ran (Some shelf) old new words written
+    → EndsOfStore (Ok directory) old.keeper new.keeper written ⊎ WroteMemory written
+kept_run shelf old new words directory written kept (RanServe v) =
     absurd (no_other (Serve v.config v.token v.turns) (Charges kept.config) words v.spelled kept.spelled refl)
-kept_run shelf link far keeper later words directory status before after faults now kept (RanReplay r) =
+kept_run shelf old new words directory written kept (RanReplay r) =
     absurd (no_other (Replay r.asked) (Charges kept.config) words r.spelled kept.spelled refl)
-kept_run shelf link far keeper later words directory status before after faults now kept (RanCheck c) =
+kept_run shelf old new words directory written kept (RanCheck c) =
     absurd (no_other (Check c.records) (Charges kept.config) words c.spelled kept.spelled refl)
-kept_run shelf link far keeper later words directory status before after faults now kept (RanCharges c) =
-    kept_ends c.text kept.text directory keeper later status before after faults now
+kept_run shelf old new words directory written kept (RanCharges c) =
+    kept_ends c.text kept.text directory old.keeper new.keeper written
     (c.told_text ∙ (ap (answer_at shelf) (same_config c.config kept.config words c.spelled kept.spelled) ∙ kept.there)) kept.read c.ends
-kept_run shelf link far keeper later words directory status before after faults now kept (RanWork w) =
+kept_run shelf old new words directory written kept (RanWork w) =
     absurd (no_other (Workload w.calls w.salt) (Charges kept.config) words w.spelled kept.spelled refl)
-kept_run shelf link far keeper later words directory status before after faults now kept (RanNone refused) = absurd (refused.none (Charges kept.config) kept.spelled)
-kept_run shelf link far keeper later words directory status before after faults now kept (RanShort memory spared unheard) = inr memory
+kept_run shelf old new words directory written kept (RanNone refused) = absurd (refused.none (Charges kept.config) kept.spelled)
+kept_run shelf old new words directory written kept (RanShort memory spared unheard) = inr memory
 
 pub rows_are_listed : RowsAreListed
-rows_are_listed shelf link far keeper later words directory status before after faults now kept willing ran =
-    elim (kept_run shelf link far keeper later words directory status before after faults now kept ran) [
+rows_are_listed shelf old new words directory written kept willing ran =
+    elim (kept_run shelf old new words directory written kept ran) [
       | inl ends ↦ elim ends [
         | inl listed ↦ inl listed
-        | inr not ↦ absurd (never_ungiving directory.store keeper later willing not.0)
+        | inr not ↦ absurd (never_ungiving directory.store old.keeper new.keeper willing not.0)
       ]
       | inr memory ↦ inr memory.0
     ]
 
 pub rows_want_a_keeper : RowsWantAKeeper
-rows_want_a_keeper shelf link far keeper later calls words directory status before after faults now kept is unwilling ran =
-    elim (kept_run shelf link far keeper later words directory status before after faults now kept ran) [
+rows_want_a_keeper shelf old new calls words directory written kept is unwilling ran =
+    elim (kept_run shelf old new words directory written kept ran) [
       | inl ends ↦ elim ends [
-        | inl listed ↦ absurd (let wrong : true ≡ false = sym unwilling ∙ asks directory.store keeper.calls later.calls calls false listed.given.calls is in cc)
+        | inl listed ↦ absurd (let wrong : true ≡ false = sym unwilling ∙ asks directory.store old.keeper.calls new.keeper.calls calls false listed.given.calls is in cc)
         | inr not ↦ inl not.1.0
       ]
       | inr memory ↦ inr memory.0
@@ -230,64 +231,64 @@ binds : (directory : Directory) (calls since : Option LinkCalls) (told : LinkCal
 binds directory None since told bound is = absurd cc
 binds directory (Some calls) since told bound is = let same : calls ≡ told = some_is calls told is in ap fails_next (sym same) ∙ bound.1
 
-module _ (link far : LinkSeen) (keeper later : KeeperSeen) (directory : Directory) (token : List ℕ) (turns : ℕ)
-    (status : ℕ) (before after : Option (List ℕ)) (faults now : ℕ) where
+module _ (old new : Outside) (directory : Directory) (token : List ℕ) (turns : ℕ)
+    (written : Written) where
   -- how such a run ends
   abbrev EndsThere : Type 0
-  EndsThere = EndsServing directory token turns link far keeper later status before after faults now ⊎ (status ≡ 8)
+  EndsThere = EndsServing directory token turns old new written ⊎ (written.status ≡ 8)
 
   there_ends : (text : Option (List ℕ)) (there : List ℕ) → text ≡ Some there → directory_of there ≡ Ok directory
-      → EndsOfServe text token turns link far keeper later status before after faults now ⊎ WroteMemory status before after faults now
-      → EndsServing directory token turns link far keeper later status before after faults now ⊎ WroteMemory status before after faults now
+      → EndsOfServe text token turns old new written ⊎ WroteMemory written
+      → EndsServing directory token turns old new written ⊎ WroteMemory written
   there_ends text there is read ends = rw (is, read) at ends
 
-  there_or_eight : EndsServing directory token turns link far keeper later status before after faults now ⊎ WroteMemory status before after faults now → EndsThere
+  there_or_eight : EndsServing directory token turns old new written ⊎ WroteMemory written → EndsThere
   there_or_eight (inl ends) = inl ends
   there_or_eight (inr memory) = inr memory.0
 
   -- where the link could not be bound or not take in, its count of taking in rose
-  failed_rose : LinkFails directory token turns link far keeper later → Rose link.taking far.taking
+  failed_rose : LinkFails directory token turns old new → Rose old.link.taking new.link.taking
   failed_rose (inl un) = un.unlinked.rose
-  failed_rose (inr served) = subst (λ (n : ℕ). Rose n far.taking) served.linked.taking served.run.cause
+  failed_rose (inr served) = subst (λ (n : ℕ). Rose n new.link.taking) served.linked.taking served.run.cause
 
-  served_unless : IsWilling keeper later → (Rose link.taking far.taking → ⊥) → EndsThere
-      → ServedLink directory token turns link far keeper later status before after faults now ⊎ (status ≡ 8)
+  served_unless : IsWilling old.keeper new.keeper → (Rose old.link.taking new.link.taking → ⊥) → EndsThere
+      → ServedLink directory token turns old new written ⊎ (written.status ≡ 8)
   served_unless willing stood (inl (EndsServed served)) = inl served
   served_unless willing stood (inl (EndsUnlinked failed wrote)) = absurd (stood (failed_rose failed))
-  served_unless willing stood (inl (EndsUnkept not wrote)) = absurd (never_unwilling directory.store keeper later willing not)
+  served_unless willing stood (inl (EndsUnkept not wrote)) = absurd (never_unwilling directory.store old.keeper new.keeper willing not)
   served_unless willing stood (inr eight) = inr eight
 
   -- a keeper that refuses is not loaded, and a link that fails is not bound
-  never_loaded : (calls : KeeperCalls) (loaded : Texts) (opening : KeeperSeen) → keeper.calls ≡ Some calls → refuses calls ≡ true →
-      IsLoaded directory.store loaded keeper opening → ⊥
+  never_loaded : (calls : KeeperCalls) (loaded : Texts) (opening : KeeperSeen) → old.keeper.calls ≡ Some calls → refuses calls ≡ true →
+      IsLoaded directory.store loaded old.keeper opening → ⊥
   never_loaded calls loaded opening is unwilling opened =
-      let wrong : true ≡ false = sym unwilling ∙ opens directory.store keeper.calls opening.calls calls false opened.calls is in
+      let wrong : true ≡ false = sym unwilling ∙ opens directory.store old.keeper.calls opening.calls calls false opened.calls is in
       cc
 
-  unkept_unless : (calls : KeeperCalls) → keeper.calls ≡ Some calls → refuses calls ≡ true → EndsThere → (status ≡ 6) ⊎ (status ≡ 8)
-  unkept_unless calls is unwilling (inl (EndsServed served)) = absurd (never_loaded calls served.serves.loaded served.serves.opening is unwilling served.serves.opened)
-  unkept_unless calls is unwilling (inl (EndsUnlinked (inl un) wrote)) = absurd (never_loaded calls un.loaded later is unwilling un.opened)
-  unkept_unless calls is unwilling (inl (EndsUnlinked (inr served) wrote)) = absurd (never_loaded calls served.loaded served.opening is unwilling served.opened)
+  unkept_unless : (calls : KeeperCalls) → old.keeper.calls ≡ Some calls → refuses calls ≡ true → EndsThere → (written.status ≡ 6) ⊎ (written.status ≡ 8)
+  unkept_unless calls is unwilling (inl (EndsServed served)) = absurd (never_loaded calls served.serves.loaded served.serves.ready.keeper is unwilling served.serves.opened)
+  unkept_unless calls is unwilling (inl (EndsUnlinked (inl un) wrote)) = absurd (never_loaded calls un.loaded new.keeper is unwilling un.opened)
+  unkept_unless calls is unwilling (inl (EndsUnlinked (inr served) wrote)) = absurd (never_loaded calls served.loaded served.ready.keeper is unwilling served.opened)
   unkept_unless calls is unwilling (inl (EndsUnkept not wrote)) = inl wrote.0
   unkept_unless calls is unwilling (inr eight) = inr eight
 
-  never_linked : (calls : LinkCalls) (listening : LinkSeen) → link.calls ≡ Some calls → fails_next calls ≡ true → IsLinked directory link listening → ⊥
+  never_linked : (calls : LinkCalls) (listening : LinkSeen) → old.link.calls ≡ Some calls → fails_next calls ≡ true → IsLinked directory old.link listening → ⊥
   never_linked calls listening is fails linked =
-      let wrong : true ≡ false = sym fails ∙ binds directory link.calls listening.calls calls linked.calls is in
+      let wrong : true ≡ false = sym fails ∙ binds directory old.link.calls listening.calls calls linked.calls is in
       cc
 
-  unlinked_unless : (calls : LinkCalls) → IsWilling keeper later → link.calls ≡ Some calls → fails_next calls ≡ true → EndsThere → (status ≡ 4) ⊎ (status ≡ 8)
-  unlinked_unless calls willing is fails (inl (EndsServed served)) = absurd (never_linked calls served.serves.listening is fails served.serves.linked)
+  unlinked_unless : (calls : LinkCalls) → IsWilling old.keeper new.keeper → old.link.calls ≡ Some calls → fails_next calls ≡ true → EndsThere → (written.status ≡ 4) ⊎ (written.status ≡ 8)
+  unlinked_unless calls willing is fails (inl (EndsServed served)) = absurd (never_linked calls served.serves.ready.link is fails served.serves.linked)
   unlinked_unless calls willing is fails (inl (EndsUnlinked failed wrote)) = inl wrote.0
-  unlinked_unless calls willing is fails (inl (EndsUnkept not wrote)) = absurd (never_unwilling directory.store keeper later willing not)
+  unlinked_unless calls willing is fails (inl (EndsUnkept not wrote)) = absurd (never_unwilling directory.store old.keeper new.keeper willing not)
   unlinked_unless calls willing is fails (inr eight) = inr eight
 
   module _ (shelf : Shelf) (words : List (List ℕ)) where
-    there_run : IsServable shelf words directory token turns → Ran (Some shelf) link far keeper later words status before after faults now → EndsThere
+    there_run : IsServable shelf words directory token turns → Ran (Some shelf) old new words written → EndsThere
     there_run good (RanServe v) =
         let same = same_serve v.config good.config v.token token v.turns turns words v.spelled good.spelled in
-        let P : List ℕ → Type 0 = λ t. EndsOfServe v.text t v.turns link far keeper later status before after faults now ⊎ WroteMemory status before after faults now in
-        let Q : ℕ → Type 0 = λ n. EndsOfServe v.text token n link far keeper later status before after faults now ⊎ WroteMemory status before after faults now in
+        let P : List ℕ → Type 0 = λ t. EndsOfServe v.text t v.turns old new written ⊎ WroteMemory written in
+        let Q : ℕ → Type 0 = λ n. EndsOfServe v.text token n old new written ⊎ WroteMemory written in
         there_or_eight (there_ends v.text good.text (v.told_text ∙ (ap (answer_at shelf) same.0 ∙ good.there)) good.read (subst Q same.2 (subst P same.1 v.ends)))
     there_run good (RanReplay r) = absurd (no_other (Replay r.asked) (Serve good.config token turns) words r.spelled good.spelled refl)
     there_run good (RanCheck c) = absurd (no_other (Check c.records) (Serve good.config token turns) words c.spelled good.spelled refl)
@@ -297,19 +298,19 @@ module _ (link far : LinkSeen) (keeper later : KeeperSeen) (directory : Director
     there_run good (RanShort memory spared unheard) = inr memory.0
 
 pub good_ones_are_served : GoodOnesAreServed
-good_ones_are_served shelf link far keeper later words directory token turns status before after faults now good willing stood ran =
-    served_unless link far keeper later directory token turns status before after faults now willing stood
-    (there_run link far keeper later directory token turns status before after faults now shelf words good ran)
+good_ones_are_served shelf old new words directory token turns written good willing stood ran =
+    served_unless old new directory token turns written willing stood
+    (there_run old new directory token turns written shelf words good ran)
 
 pub serving_wants_a_keeper : ServingWantsAKeeper
-serving_wants_a_keeper shelf link far keeper later calls words directory token turns status before after faults now good is unwilling ran =
-    unkept_unless link far keeper later directory token turns status before after faults now calls is unwilling
-    (there_run link far keeper later directory token turns status before after faults now shelf words good ran)
+serving_wants_a_keeper shelf old new calls words directory token turns written good is unwilling ran =
+    unkept_unless old new directory token turns written calls is unwilling
+    (there_run old new directory token turns written shelf words good ran)
 
 pub serving_wants_a_link : ServingWantsALink
-serving_wants_a_link shelf link far keeper later calls words directory token turns status before after faults now good willing is fails ran =
-    unlinked_unless link far keeper later directory token turns status before after faults now calls willing is fails
-    (there_run link far keeper later directory token turns status before after faults now shelf words good ran)
+serving_wants_a_link shelf old new calls words directory token turns written good willing is fails ran =
+    unlinked_unless old new directory token turns written calls willing is fails
+    (there_run old new directory token turns written shelf words good ran)
 
 -- ---- each status
 
@@ -325,11 +326,11 @@ record Ending (Zero Three Four Six : Type 0) (status : ℕ) (faults now : ℕ) :
   kept : status ≡ 0 → now ≡ faults
   fine : (status ≡ 4 → ⊥) → (status ≡ 5 → ⊥) → (status ≡ 6 → ⊥) → (status ≡ 7 → ⊥) → list_any (λ known. known == status) (0 ∷ 1 ∷ 2 ∷ 3 ∷ 8 ∷ []) ≡ true
 
-module _ (Zero Three Four Six : Type 0) (status faults now : ℕ) where
+module _ (Zero Three Four Six : Type 0) (written : Written) where
   abbrev EndingAt : ℕ → Type 0
-  EndingAt s = Ending Zero Three Four Six s faults now
+  EndingAt s = Ending Zero Three Four Six s written.faults_before written.faults_after
 
-  ending_line : status ≡ 2 → EndingAt status
+  ending_line : written.status ≡ 2 → EndingAt written.status
   ending_line e = subst EndingAt (sym e) (record {
     known = refl;
     other = λ x. absurd cc;
@@ -342,7 +343,7 @@ module _ (Zero Three Four Six : Type 0) (status faults now : ℕ) where
     fine = λ four. λ five. λ six. λ seven. refl;
   })
 
-  ending_refused : Three → status ≡ 3 → EndingAt status
+  ending_refused : Three → written.status ≡ 3 → EndingAt written.status
   ending_refused three e = subst EndingAt (sym e) (record {
     known = refl;
     other = λ x. absurd cc;
@@ -355,7 +356,7 @@ module _ (Zero Three Four Six : Type 0) (status faults now : ℕ) where
     fine = λ four. λ five. λ six. λ seven. refl;
   })
 
-  ending_link : Four → status ≡ 4 → EndingAt status
+  ending_link : Four → written.status ≡ 4 → EndingAt written.status
   ending_link four e = subst EndingAt (sym e) (record {
     known = refl;
     other = λ x. absurd cc;
@@ -368,7 +369,7 @@ module _ (Zero Three Four Six : Type 0) (status faults now : ℕ) where
     fine = λ not. λ five. λ six. λ seven. absurd (not refl);
   })
 
-  ending_file : status ≡ 5 → EndingAt status
+  ending_file : written.status ≡ 5 → EndingAt written.status
   ending_file e = subst EndingAt (sym e) (record {
     known = refl;
     other = λ x. absurd cc;
@@ -381,7 +382,7 @@ module _ (Zero Three Four Six : Type 0) (status faults now : ℕ) where
     fine = λ four. λ five. λ six. λ seven. absurd (five refl);
   })
 
-  ending_keeper : Six → status ≡ 6 → EndingAt status
+  ending_keeper : Six → written.status ≡ 6 → EndingAt written.status
   ending_keeper rose e = subst EndingAt (sym e) (record {
     known = refl;
     other = λ x. absurd cc;
@@ -394,7 +395,7 @@ module _ (Zero Three Four Six : Type 0) (status faults now : ℕ) where
     fine = λ four. λ five. λ six. λ seven. absurd (six refl);
   })
 
-  ending_memory : status ≡ 8 → EndingAt status
+  ending_memory : written.status ≡ 8 → EndingAt written.status
   ending_memory e = subst EndingAt (sym e) (record {
     known = refl;
     other = λ x. absurd cc;
@@ -407,13 +408,12 @@ module _ (Zero Three Four Six : Type 0) (status faults now : ℕ) where
     fine = λ four. λ five. λ six. λ seven. refl;
   })
 
-  -- a text that is due of a command that is done: what it means at 0 may rest on its having been written
-  ending_written : (text : List ℕ) (before after : Option (List ℕ)) → (WroteListing text 0 before after faults now → Zero) → WroteListing text status before after faults now
-      → EndingAt status
-  ending_written text before after zero (inl w) = subst EndingAt (sym w.0) (record {
+  -- a text that is due of a command that is done
+  ending_written : (text : List ℕ) → Zero → WroteListing text written → EndingAt written.status
+  ending_written text zero (inl w) = subst EndingAt (sym w.0) (record {
     known = refl;
     other = λ x. absurd cc;
-    zero = λ x. zero (inl (refl, w.1, w.2));
+    zero = λ x. zero;
     three = λ x. absurd cc;
     four = λ x. absurd cc;
     six = λ x. absurd cc;
@@ -421,7 +421,7 @@ module _ (Zero Three Four Six : Type 0) (status faults now : ℕ) where
     kept = λ x. w.2;
     fine = λ four. λ five. λ six. λ seven. refl;
   })
-  ending_written text before after zero (inr w) = subst EndingAt (sym w.0) (record {
+  ending_written text zero (inr w) = subst EndingAt (sym w.0) (record {
     known = refl;
     other = λ x. absurd cc;
     zero = λ x. absurd cc;
@@ -434,11 +434,11 @@ module _ (Zero Three Four Six : Type 0) (status faults now : ℕ) where
   })
 
   -- where nothing is written
-  ending_nothing : (before after : Option (List ℕ)) → (WroteNothing 0 before after faults now → Zero) → WroteNothing status before after faults now → EndingAt status
-  ending_nothing before after zero w = subst EndingAt (sym w.0) (record {
+  ending_nothing : Zero → WroteNothing written → EndingAt written.status
+  ending_nothing zero w = subst EndingAt (sym w.0) (record {
     known = refl;
     other = λ x. absurd cc;
-    zero = λ x. zero (refl, w.1, w.2);
+    zero = λ x. zero;
     three = λ x. absurd cc;
     four = λ x. absurd cc;
     six = λ x. absurd cc;
@@ -450,164 +450,139 @@ module _ (Zero Three Four Six : Type 0) (status faults now : ℕ) where
 -- ---- of `replay`
 
 -- at 0 a run was listed; never 3; at 6 the keeper's count rose
-abbrev ListsAtZero : Asked → (keeper later : KeeperSeen) → Option (List ℕ) → Option (List ℕ) → ℕ → ℕ → Type 0
-ListsAtZero asked keeper later before after faults now =
-    (directory : Directory) × (events : List Event) × Listed directory asked.token events keeper later 0 before after faults now
+abbrev ListsAtZero : Asked → (old new : KeeperSeen) → Written → Type 0
+ListsAtZero asked old new written =
+    (directory : Directory) × (events : List Event) × Listed directory asked.token events old new written
 
-module _ (asked : Asked) (keeper later : KeeperSeen) (status : ℕ) (before after : Option (List ℕ)) (faults now : ℕ) where
+module _ (asked : Asked) (old new : KeeperSeen) (written : Written) where
   abbrev AtZero : Type 0
-  AtZero = ListsAtZero asked keeper later before after faults now
+  AtZero = ListsAtZero asked old new written
 
   abbrev AtSix : Type 0
-  AtSix = Rose keeper.faults later.faults
+  AtSix = Rose old.faults new.faults
 
   abbrev EndsReplay : Type 0
-  EndsReplay = Ending AtZero ⊥ ⊥ AtSix status faults now
+  EndsReplay = Ending AtZero ⊥ ⊥ AtSix written.status written.faults_before written.faults_after
 
-  ending_listed : (directory : Directory) (events : List Event) → Listed directory asked.token events keeper later status before after faults now → EndsReplay
+  ending_listed : (directory : Directory) (events : List Event) → Listed directory asked.token events old new written → EndsReplay
   ending_listed directory events l =
-      ending_written AtZero ⊥ ⊥ AtSix status faults now (listing_of l.offers) before after
-      (λ w. (
-        directory,
-        events,
-        record {
-          loaded = l.loaded;
-          opening = l.opening;
-          opened = l.opened;
-          offers = l.offers;
-          run = l.run;
-          branches = l.branches;
-          outcome = l.outcome;
-          seats = l.seats;
-          clean = l.clean;
-          written = w;
-        },
-      )) l.written
+      ending_written AtZero ⊥ ⊥ AtSix written (listing_of l.offers) (directory, events, l) l.wrote
 
-  ending_events : (directory : Directory) (events : Result (List Event) ℕ) → EndsOfEvents directory asked.token events keeper later status before after faults now → EndsReplay
+  ending_events : (directory : Directory) (events : Result (List Event) ℕ) → EndsOfEvents directory asked.token events old new written → EndsReplay
   ending_events directory (Ok events) (inl e) = ending_listed directory events e
-  ending_events directory (Ok events) (inr e) = ending_keeper AtZero ⊥ ⊥ AtSix status faults now e.0.rose e.1.0
-  ending_events directory (Err line) e = ending_line AtZero ⊥ ⊥ AtSix status faults now e.0
+  ending_events directory (Ok events) (inr e) = ending_keeper AtZero ⊥ ⊥ AtSix written e.0.rose e.1.0
+  ending_events directory (Err line) e = ending_line AtZero ⊥ ⊥ AtSix written e.0
 
-  ending_script : (directory : Directory) (script : Option (List ℕ)) → EndsOfScript directory asked.token script keeper later status before after faults now → EndsReplay
-  ending_script directory None e = ending_file AtZero ⊥ ⊥ AtSix status faults now e.0
+  ending_script : (directory : Directory) (script : Option (List ℕ)) → EndsOfScript directory asked.token script old new written → EndsReplay
+  ending_script directory None e = ending_file AtZero ⊥ ⊥ AtSix written e.0
   ending_script directory (Some script) e = ending_events directory (events_of directory.peers.known script) e
 
-  ending_directory : (directory : Result Directory ℕ) (script : Option (List ℕ)) → EndsOfDirectory directory asked.token script keeper later status before after faults now
+  ending_directory : (directory : Result Directory ℕ) (script : Option (List ℕ)) → EndsOfDirectory directory asked.token script old new written
       → EndsReplay
   ending_directory (Ok directory) script e = ending_script directory script e
-  ending_directory (Err line) script e = ending_line AtZero ⊥ ⊥ AtSix status faults now e.0
+  ending_directory (Err line) script e = ending_line AtZero ⊥ ⊥ AtSix written e.0
 
   ending_config : (config script : Option (List ℕ))
-      → EndsOfConfig config asked.token script keeper later status before after faults now ⊎ WroteMemory status before after faults now → EndsReplay
-  ending_config None script (inl e) = ending_file AtZero ⊥ ⊥ AtSix status faults now e.0
+      → EndsOfConfig config asked.token script old new written ⊎ WroteMemory written → EndsReplay
+  ending_config None script (inl e) = ending_file AtZero ⊥ ⊥ AtSix written e.0
   ending_config (Some config) script (inl e) = ending_directory (directory_of config) script e
-  ending_config config script (inr memory) = ending_memory AtZero ⊥ ⊥ AtSix status faults now memory.0
+  ending_config config script (inr memory) = ending_memory AtZero ⊥ ⊥ AtSix written memory.0
 
 -- ---- of `check`
 
-module _ (words : List (List ℕ)) (records : List ℕ) (spelled : IsCheck records words) (status : ℕ) (before after : Option (List ℕ)) (faults now : ℕ) where
+module _ (words : List (List ℕ)) (records : List ℕ) (spelled : IsCheck records words) (written : Written) where
   abbrev EndsCheck : Type 0
-  EndsCheck = Ending (ChecksOne words 0 before after faults now) (RefusesOne words) ⊥ ⊥ status faults now
+  EndsCheck = Ending (ChecksOne words written) (RefusesOne words) ⊥ ⊥ written.status written.faults_before written.faults_after
 
-  ending_upload : (text : List ℕ) (said : Upload) → upload_of text ≡ said → EndsOfUpload said status before after faults now → EndsCheck
+  ending_upload : (text : List ℕ) (said : Upload) → upload_of text ≡ said → EndsOfUpload said written → EndsCheck
   ending_upload text (upload.Accepted sheet) is e =
-      ending_written (ChecksOne words 0 before after faults now) (RefusesOne words) ⊥ ⊥ status faults now (codes "ok\n") before after
-      (λ w. record { records = records; spelled = spelled; text = text; sheet = sheet; sound = is; written = w }) e
+      ending_written (ChecksOne words written) (RefusesOne words) ⊥ ⊥ written (codes "ok\n")
+      (record { records = records; spelled = spelled; text = text; sheet = sheet; sound = is; wrote = e }) e
   ending_upload text (upload.Refused line) is e =
-      ending_refused (ChecksOne words 0 before after faults now) (RefusesOne words) ⊥ ⊥ status faults now
+      ending_refused (ChecksOne words written) (RefusesOne words) ⊥ ⊥ written
       (record { records = records; spelled = spelled; text = text; line = line; unsound = is }) e.0
 
-  ending_records : (text : Option (List ℕ)) → EndsOfRecords text status before after faults now ⊎ WroteMemory status before after faults now → EndsCheck
-  ending_records None (inl e) = ending_file (ChecksOne words 0 before after faults now) (RefusesOne words) ⊥ ⊥ status faults now e.0
+  ending_records : (text : Option (List ℕ)) → EndsOfRecords text written ⊎ WroteMemory written → EndsCheck
+  ending_records None (inl e) = ending_file (ChecksOne words written) (RefusesOne words) ⊥ ⊥ written e.0
   ending_records (Some text) (inl e) = ending_upload text (upload_of text) refl e
-  ending_records text (inr memory) = ending_memory (ChecksOne words 0 before after faults now) (RefusesOne words) ⊥ ⊥ status faults now memory.0
+  ending_records text (inr memory) = ending_memory (ChecksOne words written) (RefusesOne words) ⊥ ⊥ written memory.0
 
 -- ---- of `charges`
 
-module _ (words : List (List ℕ)) (config : List ℕ) (spelled : IsCharges config words) (keeper later : KeeperSeen) (status : ℕ) (before after : Option (List ℕ))
-    (faults now : ℕ) where
+module _ (words : List (List ℕ)) (config : List ℕ) (spelled : IsCharges config words) (old new : KeeperSeen) (written : Written) where
   abbrev EndsCharges : Type 0
-  EndsCharges = Ending (ChargesOne keeper later words 0 before after faults now) ⊥ ⊥ (Rose keeper.faults later.faults) status faults now
+  EndsCharges = Ending (ChargesOne old new words written) ⊥ ⊥ (Rose old.faults new.faults) written.status written.faults_before written.faults_after
 
-  ending_rows : (directory : Directory) → ListedRows directory.store keeper later status before after faults now → EndsCharges
+  ending_rows : (directory : Directory) → ListedRows directory.store old new written → EndsCharges
   ending_rows directory l =
-      ending_written (ChargesOne keeper later words 0 before after faults now) ⊥ ⊥ (Rose keeper.faults later.faults) status faults now (text_of l.rows) before after
-      (λ w. record { config = config; spelled = spelled; directory = directory; listed = record { rows = l.rows; given = l.given; written = w } }) l.written
+      ending_written (ChargesOne old new words written) ⊥ ⊥ (Rose old.faults new.faults) written (text_of l.rows)
+      (record { config = config; spelled = spelled; directory = directory; listed = l }) l.wrote
 
-  ending_store : (directory : Result Directory ℕ) → EndsOfStore directory keeper later status before after faults now → EndsCharges
+  ending_store : (directory : Result Directory ℕ) → EndsOfStore directory old new written → EndsCharges
   ending_store (Ok directory) (inl e) = ending_rows directory e
   ending_store (Ok directory) (inr e) =
-      ending_keeper (ChargesOne keeper later words 0 before after faults now) ⊥ ⊥ (Rose keeper.faults later.faults) status faults now e.0.rose e.1.0
-  ending_store (Err line) e = ending_line (ChargesOne keeper later words 0 before after faults now) ⊥ ⊥ (Rose keeper.faults later.faults) status faults now e.0
+      ending_keeper (ChargesOne old new words written) ⊥ ⊥ (Rose old.faults new.faults) written e.0.rose e.1.0
+  ending_store (Err line) e = ending_line (ChargesOne old new words written) ⊥ ⊥ (Rose old.faults new.faults) written e.0
 
-  ending_charges : (text : Option (List ℕ)) → EndsOfCharges text keeper later status before after faults now ⊎ WroteMemory status before after faults now → EndsCharges
-  ending_charges None (inl e) = ending_file (ChargesOne keeper later words 0 before after faults now) ⊥ ⊥ (Rose keeper.faults later.faults) status faults now e.0
+  ending_charges : (text : Option (List ℕ)) → EndsOfCharges text old new written ⊎ WroteMemory written → EndsCharges
+  ending_charges None (inl e) = ending_file (ChargesOne old new words written) ⊥ ⊥ (Rose old.faults new.faults) written e.0
   ending_charges (Some config) (inl e) = ending_store (directory_of config) e
-  ending_charges text (inr memory) = ending_memory (ChargesOne keeper later words 0 before after faults now) ⊥ ⊥ (Rose keeper.faults later.faults) status faults now memory.0
+  ending_charges text (inr memory) = ending_memory (ChargesOne old new words written) ⊥ ⊥ (Rose old.faults new.faults) written memory.0
 
 -- ---- of `workload`
 
-module _ (words : List (List ℕ)) (calls salt : ℕ) (spelled : IsWorkload calls salt words) (status : ℕ) (before after : Option (List ℕ)) (faults now : ℕ) where
+module _ (words : List (List ℕ)) (calls salt : ℕ) (spelled : IsWorkload calls salt words) (written : Written) where
   abbrev EndsWork : Type 0
-  EndsWork = Ending (WorksOne words 0 before after faults now) ⊥ ⊥ ⊥ status faults now
+  EndsWork = Ending (WorksOne words written) ⊥ ⊥ ⊥ written.status written.faults_before written.faults_after
 
-  ending_counted : (directory : Directory) → Counted directory calls salt status before after faults now → EndsWork
+  ending_counted : (directory : Directory) → Counted directory calls salt written → EndsWork
   ending_counted directory l =
-      ending_written (WorksOne words 0 before after faults now) ⊥ ⊥ ⊥ status faults now l.text before after
-      (λ w. record { calls = calls; salt = salt; spelled = spelled; directory = directory; counted = record { text = l.text; counts = l.counts; written = w } }) l.written
+      ending_written (WorksOne words written) ⊥ ⊥ ⊥ written l.text
+      (record { calls = calls; salt = salt; spelled = spelled; directory = directory; counted = l }) l.wrote
 
-  ending_work : (directory : Directory) → Counted directory calls salt status before after faults now ⊎ WroteMemory status before after faults now → EndsWork
+  ending_work : (directory : Directory) → Counted directory calls salt written ⊎ WroteMemory written → EndsWork
   ending_work directory (inl e) = ending_counted directory e
-  ending_work directory (inr memory) = ending_memory (WorksOne words 0 before after faults now) ⊥ ⊥ ⊥ status faults now memory.0
+  ending_work directory (inr memory) = ending_memory (WorksOne words written) ⊥ ⊥ ⊥ written memory.0
 
 -- ---- of `serve`
 
-module _ (words : List (List ℕ)) (config token : List ℕ) (turns : ℕ) (spelled : IsServe config token turns words) (link far : LinkSeen) (keeper later : KeeperSeen) (status : ℕ)
-    (before after : Option (List ℕ)) (faults now : ℕ) where
+module _ (words : List (List ℕ)) (config token : List ℕ) (turns : ℕ) (spelled : IsServe config token turns words) (old new : Outside) (written : Written) where
   abbrev ServesAtZero : Type 0
-  ServesAtZero = ServesOne link far keeper later words 0 before after faults now
+  ServesAtZero = ServesOne old new words written
 
   abbrev AtFour : Type 0
-  AtFour = Rose link.taking far.taking
+  AtFour = Rose old.link.taking new.link.taking
 
   abbrev AtSixToo : Type 0
-  AtSixToo = Rose keeper.faults later.faults
+  AtSixToo = Rose old.keeper.faults new.keeper.faults
 
   abbrev EndsServe : Type 0
-  EndsServe = Ending ServesAtZero ⊥ AtFour AtSixToo status faults now
+  EndsServe = Ending ServesAtZero ⊥ AtFour AtSixToo written.status written.faults_before written.faults_after
 
-  ending_there : (directory : Directory) → EndsServing directory token turns link far keeper later status before after faults now → EndsServe
+  ending_there : (directory : Directory) → EndsServing directory token turns old new written → EndsServe
   ending_there directory (EndsServed served) =
-      ending_nothing ServesAtZero ⊥ AtFour AtSixToo status faults now before after
-      (λ w. record {
-        config = config;
-        token = token;
-        turns = turns;
-        spelled = spelled;
-        directory = directory;
-        served = record { closed = served.closed; serves = served.serves; written = w };
-      }) served.written
+      ending_nothing ServesAtZero ⊥ AtFour AtSixToo written
+      (record { config = config; token = token; turns = turns; spelled = spelled; directory = directory; served = served }) served.wrote
   ending_there directory (EndsUnlinked failed wrote) =
-      ending_link ServesAtZero ⊥ AtFour AtSixToo status faults now (failed_rose link far keeper later directory token turns status before after faults now failed) wrote.0
-  ending_there directory (EndsUnkept not wrote) = ending_keeper ServesAtZero ⊥ AtFour AtSixToo status faults now not.rose wrote.0
+      ending_link ServesAtZero ⊥ AtFour AtSixToo written (failed_rose old new directory token turns written failed) wrote.0
+  ending_there directory (EndsUnkept not wrote) = ending_keeper ServesAtZero ⊥ AtFour AtSixToo written not.rose wrote.0
 
-  ending_serving : (directory : Result Directory ℕ) → EndsOfServing directory token turns link far keeper later status before after faults now → EndsServe
+  ending_serving : (directory : Result Directory ℕ) → EndsOfServing directory token turns old new written → EndsServe
   ending_serving (Ok directory) e = ending_there directory e
-  ending_serving (Err line) e = ending_line ServesAtZero ⊥ AtFour AtSixToo status faults now e.0
+  ending_serving (Err line) e = ending_line ServesAtZero ⊥ AtFour AtSixToo written e.0
 
-  ending_serve : (text : Option (List ℕ)) → EndsOfServe text token turns link far keeper later status before after faults now ⊎ WroteMemory status before after faults now
+  ending_serve : (text : Option (List ℕ)) → EndsOfServe text token turns old new written ⊎ WroteMemory written
       → EndsServe
-  ending_serve None (inl e) = ending_file ServesAtZero ⊥ AtFour AtSixToo status faults now e.0
+  ending_serve None (inl e) = ending_file ServesAtZero ⊥ AtFour AtSixToo written e.0
   ending_serve (Some config) (inl e) = ending_serving (directory_of config) e
-  ending_serve text (inr memory) = ending_memory ServesAtZero ⊥ AtFour AtSixToo status faults now memory.0
+  ending_serve text (inr memory) = ending_memory ServesAtZero ⊥ AtFour AtSixToo written memory.0
 
 -- ---- of each command
 
 -- what it means at 0, at 3, at 4 and at 6 may be weakened
-weaker : (Zero Zero' Three Three' Four Four' Six Six' : Type 0) (status faults now : ℕ) → (Zero → Zero') → (Three → Three') → (Four → Four') → (Six → Six')
-    → Ending Zero Three Four Six status faults now → Ending Zero' Three' Four' Six' status faults now
-weaker Zero Zero' Three Three' Four Four' Six Six' status faults now z t f s e = record {
+weaker : (Zero Zero' Three Three' Four Four' Six Six' : Type 0) (written : Written) → (Zero → Zero') → (Three → Three') → (Four → Four') → (Six → Six')
+    → Ending Zero Three Four Six written.status written.faults_before written.faults_after → Ending Zero' Three' Four' Six' written.status written.faults_before written.faults_after
+weaker Zero Zero' Three Three' Four Four' Six Six' written z t f s e = record {
   known = e.known;
   other = e.other;
   zero = λ is. z (e.zero is);
@@ -619,73 +594,73 @@ weaker Zero Zero' Three Three' Four Four' Six Six' status faults now z t f s e =
   fine = e.fine;
 }
 
-module _ (told : Option Shelf) (link far : LinkSeen) (keeper later : KeeperSeen) (words : List (List ℕ)) (status : ℕ) (before after : Option (List ℕ)) (faults now : ℕ) where
+module _ (told : Option Shelf) (old new : Outside) (words : List (List ℕ)) (written : Written) where
   abbrev DoneSo : Type 0
-  DoneSo = DoneAtZero link far keeper later words before after faults now
+  DoneSo = DoneAtZero old new words written
 
   abbrev TakingRose : Type 0
-  TakingRose = Rose link.taking far.taking
+  TakingRose = Rose old.link.taking new.link.taking
 
   abbrev KeeperRose : Type 0
-  KeeperRose = Rose keeper.faults later.faults
+  KeeperRose = Rose old.keeper.faults new.keeper.faults
 
   abbrev EndsAny : Type 0
-  EndsAny = Ending DoneSo (RefusesOne words) TakingRose KeeperRose status faults now
+  EndsAny = Ending DoneSo (RefusesOne words) TakingRose KeeperRose written.status written.faults_before written.faults_after
 
   -- the words spell a command, or memory ran out in reading them, and it ended so
   record EndsSome : Type 0 where
-    some : SpellsNone words → status ≡ 8
+    some : SpellsNone words → written.status ≡ 8
     end : EndsAny
 
-  of_serve : HasServed told link far keeper later words status before after faults now → EndsSome
+  of_serve : HasServed told old new words written → EndsSome
   of_serve v = record {
     some = λ no_one. absurd (no_one (Serve v.config v.token v.turns) v.spelled.spelled);
-    end = weaker (ServesOne link far keeper later words 0 before after faults now) DoneSo ⊥ (RefusesOne words) TakingRose TakingRose KeeperRose KeeperRose status faults now
+    end = weaker (ServesOne old new words written) DoneSo ⊥ (RefusesOne words) TakingRose TakingRose KeeperRose KeeperRose written
         (λ one. DoneServe one) (λ never. absurd never) (λ rose. rose) (λ rose. rose)
-        (ending_serve words v.config v.token v.turns v.spelled.spelled link far keeper later status before after faults now v.text v.ends);
+        (ending_serve words v.config v.token v.turns v.spelled.spelled old new written v.text v.ends);
   }
 
-  of_replay : Replayed told keeper later words status before after faults now → EndsSome
+  of_replay : Replayed told old.keeper new.keeper words written → EndsSome
   of_replay r = record {
     some = λ no_one. absurd (no_one (Replay r.asked) r.spelled.spelled);
-    end = weaker (ListsAtZero r.asked keeper later before after faults now) DoneSo ⊥ (RefusesOne words) ⊥ TakingRose KeeperRose KeeperRose status faults now
+    end = weaker (ListsAtZero r.asked old.keeper new.keeper written) DoneSo ⊥ (RefusesOne words) ⊥ TakingRose KeeperRose KeeperRose written
         (λ one. DoneReplay (record { asked = r.asked; spelled = r.spelled.spelled; directory = one.0; events = one.1; listed = one.2 }))
         (λ never. absurd never) (λ never. absurd never) (λ rose. rose)
-        (ending_config r.asked keeper later status before after faults now r.answers.config r.answers.script r.ends);
+        (ending_config r.asked old.keeper new.keeper written r.answers.config r.answers.script r.ends);
   }
 
-  of_check : Checked told words status before after faults now → EndsSome
+  of_check : Checked told words written → EndsSome
   of_check c = record {
     some = λ no_one. absurd (no_one (Check c.records) c.spelled.spelled);
-    end = weaker (ChecksOne words 0 before after faults now) DoneSo (RefusesOne words) (RefusesOne words) ⊥ TakingRose ⊥ KeeperRose status faults now
+    end = weaker (ChecksOne words written) DoneSo (RefusesOne words) (RefusesOne words) ⊥ TakingRose ⊥ KeeperRose written
         (λ one. DoneCheck one) (λ one. one) (λ never. absurd never) (λ never. absurd never)
-        (ending_records words c.records c.spelled.spelled status before after faults now c.text c.ends);
+        (ending_records words c.records c.spelled.spelled written c.text c.ends);
   }
 
-  of_charges : Charged told keeper later words status before after faults now → EndsSome
+  of_charges : Charged told old.keeper new.keeper words written → EndsSome
   of_charges c = record {
     some = λ no_one. absurd (no_one (Charges c.config) c.spelled.spelled);
-    end = weaker (ChargesOne keeper later words 0 before after faults now) DoneSo ⊥ (RefusesOne words) ⊥ TakingRose KeeperRose KeeperRose status faults now
+    end = weaker (ChargesOne old.keeper new.keeper words written) DoneSo ⊥ (RefusesOne words) ⊥ TakingRose KeeperRose KeeperRose written
         (λ one. DoneCharges one) (λ never. absurd never) (λ never. absurd never) (λ rose. rose)
-        (ending_charges words c.config c.spelled.spelled keeper later status before after faults now c.text c.ends);
+        (ending_charges words c.config c.spelled.spelled old.keeper new.keeper written c.text c.ends);
   }
 
-  of_work : Worked words status before after faults now → EndsSome
+  of_work : Worked words written → EndsSome
   of_work w = record {
     some = λ no_one. absurd (no_one (Workload w.calls w.salt) w.spelled.spelled);
-    end = weaker (WorksOne words 0 before after faults now) DoneSo ⊥ (RefusesOne words) ⊥ TakingRose ⊥ KeeperRose status faults now
+    end = weaker (WorksOne words written) DoneSo ⊥ (RefusesOne words) ⊥ TakingRose ⊥ KeeperRose written
         (λ one. DoneWork one) (λ never. absurd never) (λ never. absurd never) (λ never. absurd never)
-        (ending_work words w.calls w.salt w.spelled.spelled status before after faults now w.directory w.ends);
+        (ending_work words w.calls w.salt w.spelled.spelled written w.directory w.ends);
   }
 
-  of_short : WroteMemory status before after faults now → EndsSome
+  of_short : WroteMemory written → EndsSome
   of_short memory = record {
     some = λ no_one. memory.0;
-    end = ending_memory DoneSo (RefusesOne words) TakingRose KeeperRose status faults now memory.0;
+    end = ending_memory DoneSo (RefusesOne words) TakingRose KeeperRose written memory.0;
   }
 
   -- or they spell none
-  ends_so : Ran told link far keeper later words status before after faults now → EndsSome ⊎ Refused words status before after faults now
+  ends_so : Ran told old new words written → EndsSome ⊎ Refused words written
   ends_so (RanServe v) = inl (of_serve v)
   ends_so (RanReplay r) = inl (of_replay r)
   ends_so (RanCheck c) = inl (of_check c)
@@ -701,64 +676,64 @@ not_usage : (n status : ℕ) → status ≡ 1 → (n ≡ 1 → ⊥) → status �
 not_usage n status one other is = other (sym is ∙ one)
 
 pub zero_is_listed : ZeroIsListed
-zero_is_listed told link far keeper later words status before after faults now ran zero =
-    elim (ends_so told link far keeper later words status before after faults now ran) [
+zero_is_listed told old new words written ran zero =
+    elim (ends_so told old new words written ran) [
       | inl some ↦ some.end.zero zero
-      | inr refused ↦ absurd (not_usage 0 status refused.said.0 (λ w. cc) zero)
+      | inr refused ↦ absurd (not_usage 0 written.status refused.said.0 (λ w. cc) zero)
     ]
 
 pub one_is_usage : OneIsUsage
-one_is_usage told link far keeper later words status before after faults now ran =
-    elim (ends_so told link far keeper later words status before after faults now ran) [
+one_is_usage told old new words written ran =
+    elim (ends_so told old new words written ran) [
       | inl some ↦ (λ one. absurd (some.end.other one), λ no_one. inr (some.some no_one))
       | inr refused ↦ (λ one. refused.none, λ no_one. inl refused.said.0)
     ]
 
 pub three_is_refused : ThreeIsRefused
-three_is_refused told link far keeper later words status before after faults now ran three =
-    elim (ends_so told link far keeper later words status before after faults now ran) [
+three_is_refused told old new words written ran three =
+    elim (ends_so told old new words written ran) [
       | inl some ↦ some.end.three three
-      | inr refused ↦ absurd (not_usage 3 status refused.said.0 (λ w. cc) three)
+      | inr refused ↦ absurd (not_usage 3 written.status refused.said.0 (λ w. cc) three)
     ]
 
 pub four_rose : FourRose
-four_rose told link far keeper later words status before after faults now ran four =
-    elim (ends_so told link far keeper later words status before after faults now ran) [
+four_rose told old new words written ran four =
+    elim (ends_so told old new words written ran) [
       | inl some ↦ some.end.four four
-      | inr refused ↦ absurd (not_usage 4 status refused.said.0 (λ w. cc) four)
+      | inr refused ↦ absurd (not_usage 4 written.status refused.said.0 (λ w. cc) four)
     ]
 
 pub six_rose : SixRose
-six_rose told link far keeper later words status before after faults now ran six =
-    elim (ends_so told link far keeper later words status before after faults now ran) [
+six_rose told old new words written ran six =
+    elim (ends_so told old new words written ran) [
       | inl some ↦ some.end.six six
-      | inr refused ↦ absurd (not_usage 6 status refused.said.0 (λ w. cc) six)
+      | inr refused ↦ absurd (not_usage 6 written.status refused.said.0 (λ w. cc) six)
     ]
 
 pub seven_rose : SevenRose
-seven_rose told link far keeper later words status before after faults now ran seven =
-    elim (ends_so told link far keeper later words status before after faults now ran) [
+seven_rose told old new words written ran seven =
+    elim (ends_so told old new words written ran) [
       | inl some ↦ some.end.rose seven
-      | inr refused ↦ absurd (not_usage 7 status refused.said.0 (λ w. cc) seven)
+      | inr refused ↦ absurd (not_usage 7 written.status refused.said.0 (λ w. cc) seven)
     ]
 
 pub zero_kept : ZeroKept
-zero_kept told link far keeper later words status before after faults now ran zero =
-    elim (ends_so told link far keeper later words status before after faults now ran) [
+zero_kept told old new words written ran zero =
+    elim (ends_so told old new words written ran) [
       | inl some ↦ some.end.kept zero
-      | inr refused ↦ absurd (not_usage 0 status refused.said.0 (λ w. cc) zero)
+      | inr refused ↦ absurd (not_usage 0 written.status refused.said.0 (λ w. cc) zero)
     ]
 
 pub statuses_are_these : StatusesAreThese
-statuses_are_these told link far keeper later words status before after faults now ran =
-    elim (ends_so told link far keeper later words status before after faults now ran) [
+statuses_are_these told old new words written ran =
+    elim (ends_so told old new words written ran) [
       | inl some ↦ some.end.known
       | inr refused ↦ rw (refused.said.0) refl
     ]
 
 pub no_fault_no_failure : NoFaultNoFailure
-no_fault_no_failure told link far keeper later words status before after faults now ran earlier since counts files stood kept sink =
-    elim (ends_so told link far keeper later words status before after faults now ran) [
+no_fault_no_failure told old new words written ran earlier since counts files stood kept sink =
+    elim (ends_so told old new words written ran) [
       | inl some ↦ some.end.fine (λ four. stood (some.end.four four)) (λ five. files (counts.rose five)) (λ six. kept (some.end.six six)) (λ seven. sink (some.end.rose seven))
       | inr refused ↦ rw (refused.said.0) refl
     ]
@@ -766,27 +741,27 @@ no_fault_no_failure told link far keeper later words status before after faults 
 -- ---- where memory ran out
 
 pub eight_is_short : EightIsShort
-eight_is_short told link far keeper later words status before after faults now (RanServe v) eight =
+eight_is_short told old new words written (RanServe v) eight =
     ShortServe (record { config = v.config; token = v.token; turns = v.turns; spelled = v.spelled.spelled; text = v.text; stopped = v.stopped eight })
-eight_is_short told link far keeper later words status before after faults now (RanReplay r) eight =
+eight_is_short told old new words written (RanReplay r) eight =
     ShortReplay (record { asked = r.asked; spelled = r.spelled.spelled; config = r.answers.config; script = r.answers.script; stopped = r.stopped eight })
-eight_is_short told link far keeper later words status before after faults now (RanCheck c) eight = ShortCheck c.records c.spelled.spelled
-eight_is_short told link far keeper later words status before after faults now (RanCharges c) eight =
+eight_is_short told old new words written (RanCheck c) eight = ShortCheck c.records c.spelled.spelled
+eight_is_short told old new words written (RanCharges c) eight =
     ShortCharges (record { config = c.config; spelled = c.spelled.spelled; text = c.text; stopped = c.stopped eight })
-eight_is_short told link far keeper later words status before after faults now (RanWork w) eight = ShortWork w.calls w.salt w.spelled.spelled
-eight_is_short told link far keeper later words status before after faults now (RanNone refused) eight =
-    absurd (not_usage 8 status refused.said.0 (λ w. cc) eight)
-eight_is_short told link far keeper later words status before after faults now (RanShort memory spared unheard) eight = ShortWords spared unheard
+eight_is_short told old new words written (RanWork w) eight = ShortWork w.calls w.salt w.spelled.spelled
+eight_is_short told old new words written (RanNone refused) eight =
+    absurd (not_usage 8 written.status refused.said.0 (λ w. cc) eight)
+eight_is_short told old new words written (RanShort memory spared unheard) eight = ShortWords spared unheard
 
 pub charges_keep : ChargesKeep
-charges_keep told link far keeper later words status before after faults now (RanServe v) config spelled =
+charges_keep told old new words written (RanServe v) config spelled =
     absurd (no_other (Serve v.config v.token v.turns) (Charges config) words v.spelled spelled refl)
-charges_keep told link far keeper later words status before after faults now (RanReplay r) config spelled =
+charges_keep told old new words written (RanReplay r) config spelled =
     absurd (no_other (Replay r.asked) (Charges config) words r.spelled spelled refl)
-charges_keep told link far keeper later words status before after faults now (RanCheck c) config spelled =
+charges_keep told old new words written (RanCheck c) config spelled =
     absurd (no_other (Check c.records) (Charges config) words c.spelled spelled refl)
-charges_keep told link far keeper later words status before after faults now (RanCharges c) config spelled = c.held
-charges_keep told link far keeper later words status before after faults now (RanWork w) config spelled =
+charges_keep told old new words written (RanCharges c) config spelled = c.held
+charges_keep told old new words written (RanWork w) config spelled =
     absurd (no_other (Workload w.calls w.salt) (Charges config) words w.spelled spelled refl)
-charges_keep told link far keeper later words status before after faults now (RanNone refused) config spelled = absurd (refused.none (Charges config) spelled)
-charges_keep told link far keeper later words status before after faults now (RanShort memory spared unheard) config spelled = ap (λ (k : KeeperSeen). k.held) spared
+charges_keep told old new words written (RanNone refused) config spelled = absurd (refused.none (Charges config) spelled)
+charges_keep told old new words written (RanShort memory spared unheard) config spelled = ap (λ (k : KeeperSeen). k.held) spared

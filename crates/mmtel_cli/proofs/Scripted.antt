@@ -22,17 +22,18 @@ use Rattle.mmtel_run.specs.Short.{IsShort, IsShortRun}
 use Rattle.mmtel_run.specs.World.{World, beginning}
 use Rattle.mmtel_run_laws.specs.Secret.{OffersKeepTheSecret}
 use Rattle.mmtel_script.specs.Script.{unheard}
-use Rattle.mmtel_server.specs.Driven.{Driven, EachAnswers, EachAnswersButLast, EachCounted, EachRead, EndsAfter, HeardMore, LastAnswers, to_come, with_all}
+use Rattle.mmtel_server.specs.Driven.{Driven, EachAnswers, EachAnswersButLast, EachCounted, EachRead, EndsAfter, HeardMore, LastAnswers, ReadEach, to_come, with_all}
 use Rattle.mmtel_server.specs.Charged.{RowsCharged, took_last}
 use Rattle.mmtel_server_decisions.specs.Handed.{Handed, HandedCounted}
 use Rattle.mmtel_server.specs.Laws.{EachReadOut, IsEventReadOut, ReadOutSaysAll, UnfailedAreReadOut}
+use Rattle.mmtel_server.specs.Seen.{KeeperSeen, ServingState}
 use Rattle.mmtel_server.specs.Stands.{Serves, Went}
 use Rattle.mmtel_server.specs.Stepped.{call_of}
 use Rattle.mmtel_server.specs.declared.servers.Server.{Server}
 use Rattle.mmtel_serving.specs.Calls.{Answers, Call, Counted, MayBeCalled, WasCalled, asks, none, stores}
 use Rattle.mmtel_types.specs.declared.numbers.Account.{Account}
 use Rattle.mmtel_web.specs.Answers.{Kept, failed, made, no_memory}
-use Rattle.mmtel_cli.specs.Keeping.{IsBoundStill, seen}
+use Rattle.mmtel_cli.specs.Keeping.{IsBoundStill}
 use Rattle.mmtel_cli.specs.KnownEvents.{IsUnheard, OffersAllOf}
 use Rattle.mmtel_cli.specs.Listings.{OffersRun}
 
@@ -76,10 +77,10 @@ record WholeOf (d : Directory) (events : List Event) (happened : List Happened) 
   read : notices d whole ≡ notices d happened
   uploads : uploads_of d.names whole ≡ uploads_of d.names happened
   counted : (faults count : ℕ) → EachCounted happened faults count → EachCounted whole faults count
-  asked : (held left : Option Held) (calls since : Option KeeperCalls) → EachAnswers d.names happened held left calls since → EachAnswers d.names whole held left calls since
+  asked : (old new : KeeperSeen) → EachAnswers d.names happened old new → EachAnswers d.names whole old new
 
 whole_none : (d : Directory) → WholeOf d [] []
-whole_none d = record { whole = []; heard = refl; read = refl; uploads = refl; counted = λ faults. λ count. λ e. e; asked = λ held. λ left. λ calls. λ since. λ e. e }
+whole_none d = record { whole = []; heard = refl; read = refl; uploads = refl; counted = λ faults. λ count. λ e. e; asked = λ old. λ new. λ e. e }
 
 -- a notice of so much
 abbrev noticing : (at : ℕ) → Digest → (took : Bool) → Notice
@@ -104,15 +105,16 @@ module _ (all : ReadOutSaysAll) (d : Directory) where
         uploads =
             ap (λ (u : Option (Account × List ℕ)). option_to_list u ++ uploads_of d.names rest.whole) put
             ∙ ap (λ (l : Texts). option_to_list (upload_at d.names one.event one.kept) ++ l) rest.uploads;
-        counted = λ faults. λ count. λ e. (e.0, e.1, e.2, (e.3.0, rest.counted e.1 count e.3.1));
-        asked = λ held. λ left. λ calls. λ since. λ e. (
+        counted = λ faults. λ count. λ e. (e.0, record { between = e.1.between; counted = e.1.counted; handed = e.1.handed }, rest.counted e.0 count e.2);
+        asked = λ old. λ new. λ e. (
           e.0,
-          e.1,
-          e.2,
-          e.3,
-          e.4,
-          subst (λ (c : Call). Answers c one.kept one.rows held e.0 calls e.2) call e.5,
-          (e.6.0, rest.asked e.1 left e.3 since e.6.1),
+          record {
+            between = e.1.between;
+            answers = subst (λ (c : Call). Answers c one.kept one.rows old.held e.1.between.held old.calls e.1.between.calls) call e.1.answers;
+            waiting = e.1.waiting;
+            handed = e.1.handed;
+          },
+          rest.asked e.0 new e.2,
         );
       }
 
@@ -188,8 +190,8 @@ handed_stands false before now rose = omega (arith, rose)
 count_stands : (happened : List Happened) (faults count : ℕ) → EachCounted happened faults count → StandsAtLeast faults count
 count_stands [] faults count e = omega (arith, e)
 count_stands (one ∷ happened) faults count e =
-    stands_then faults e.0 count (asked_stands one.kept faults e.0 e.2)
-    (stands_then e.0 e.1 count (handed_stands one.took e.0 e.1 e.3.0) (count_stands happened e.1 count e.3.1))
+    stands_then faults e.1.between count (asked_stands one.kept faults e.1.between e.1.counted)
+    (stands_then e.1.between e.0 count (handed_stands one.took e.1.between e.0 e.1.handed) (count_stands happened e.0 count e.2))
 
 -- what rose in between rose
 rose_between : (faults asked between count : ℕ) → StandsAtLeast faults asked → Rose asked between → StandsAtLeast between count → Rose faults count
@@ -207,10 +209,10 @@ took_unless false faults asked between count a rose b kept = absurd (kept (rose_
 took_where_kept : (one : Happened) (happened : List Happened) (faults count : ℕ) → EachCounted (one ∷ happened) faults count → (Rose faults count → ⊥) →
     took_last (one ∷ happened) ≡ true
 took_where_kept one [] faults count e kept =
-    took_unless one.took faults e.0 e.1 count (asked_stands one.kept faults e.0 e.2) e.3.0 (count_stands [] e.1 count e.3.1) kept
+    took_unless one.took faults e.1.between e.0 count (asked_stands one.kept faults e.1.between e.1.counted) e.1.handed (count_stands [] e.0 count e.2) kept
 took_where_kept one (other ∷ happened) faults count e kept =
-    let before = stands_then faults e.0 e.1 (asked_stands one.kept faults e.0 e.2) (handed_stands one.took e.0 e.1 e.3.0) in
-    took_where_kept other happened e.1 count e.3.1 (λ (rose : Rose e.1 count). kept (rose_behind faults e.1 count before rose))
+    let before = stands_then faults e.1.between e.0 (asked_stands one.kept faults e.1.between e.1.counted) (handed_stands one.took e.1.between e.0 e.1.handed) in
+    took_where_kept other happened e.0 count e.2 (λ (rose : Rose e.0 count). kept (rose_behind faults e.0 count before rose))
 
 -- none waits then
 pub none_waits : (d : Directory) (token : List ℕ) (loaded : Texts) (fuel : ℕ) (happened : List Happened) (faults count : ℕ) → EachCounted happened faults count
@@ -244,23 +246,26 @@ handed_still took [] held left calls since h = rw h.1.1 refl
 handed_still true (row ∷ rows) held left calls since h = called_still false calls since h.1
 handed_still false (row ∷ rows) held left calls since h = called_still true calls since h.1
 
-pub bound_still : (names : WebDirectory) (happened : List Happened) (held left : Option Held) (calls since : Option KeeperCalls) → EachAnswers names happened held left calls since
-    → IsBoundStill calls since
-bound_still names [] held left calls since e = rw e.1 refl
-bound_still names (one ∷ happened) held left calls since e =
-    bound_still names happened e.1 left e.3 since e.6.1
-    ∙ (handed_still one.took e.4 e.0 e.1 e.2 e.3 e.6.0 ∙ answer_still (call_of names one.event) one.kept one.rows held e.0 calls e.2 e.5)
+-- the same calls are bound to the same
+same_still : (calls since : Option KeeperCalls) → since ≡ calls → IsBoundStill calls since
+same_still calls since same = ap (λ (told : Option KeeperCalls). option_map (λ (c : KeeperCalls). c.path) told) same
 
-last_still : (names : WebDirectory) (last : List Happened) (held left : Option Held) (calls since : Option KeeperCalls) → LastAnswers names last held left calls since
-    → IsBoundStill calls since
-last_still names [] held left calls since e = rw e.1 refl
-last_still names (one ∷ []) held left calls since e =
-    maybe_still e.0 since e.2.1 ∙ answer_still (call_of names one.event) one.kept one.rows held left calls e.0 e.2.0
-last_still names (one ∷ other ∷ happened) held left calls since e = absurd e
+pub bound_still : (names : WebDirectory) (happened : List Happened) (old new : KeeperSeen) → EachAnswers names happened old new → IsBoundStill old.calls new.calls
+bound_still names [] old new e = same_still old.calls new.calls e.1
+bound_still names (one ∷ happened) old new e =
+    let this = e.1 in
+    bound_still names happened e.0 new e.2
+    ∙ (handed_still one.took this.waiting this.between.held e.0.held this.between.calls e.0.calls this.handed
+    ∙ answer_still (call_of names one.event) one.kept one.rows old.held this.between.held old.calls this.between.calls this.answers)
 
-pub bound_but_last : (names : WebDirectory) (happened : List Happened) (held left : Option Held) (calls since : Option KeeperCalls)
-    → EachAnswersButLast names happened held left calls since → IsBoundStill calls since
-bound_but_last names happened held left calls since e = last_still names e.1 e.2 left e.3 since e.5.1 ∙ bound_still names e.0 held e.2 calls e.3 e.5.0
+last_still : (names : WebDirectory) (last : List Happened) (old new : KeeperSeen) → LastAnswers names last old new → IsBoundStill old.calls new.calls
+last_still names [] old new e = same_still old.calls new.calls e.1
+last_still names (one ∷ []) old new e =
+    maybe_still e.0 new.calls e.2.1 ∙ answer_still (call_of names one.event) one.kept one.rows old.held new.held old.calls e.0 e.2.0
+last_still names (one ∷ other ∷ happened) old new e = absurd e
+
+pub bound_but_last : (names : WebDirectory) (happened : List Happened) (old new : KeeperSeen) → EachAnswersButLast names happened old new → IsBoundStill old.calls new.calls
+bound_but_last names happened old new e = last_still names e.last e.between new e.rest ∙ bound_still names e.done old e.between e.each
 
 -- ---- the run of a script
 
@@ -320,33 +325,31 @@ holds_whole d token loaded fuel es xs same uploads held left h =
     h.2
     ∙ (ap (λ (u : Texts). option_map (with_all u h.0) held) uploads ∙ ap (λ (rows : List Row). option_map (with_all (uploads_of d.names xs) rows) held) filed)
 
-both_zero : (p : ℕ → ℕ → Type 0) (m n : ℕ) → m ≡ 0 → n ≡ 0 → p m n → p 0 0
+pub both_zero : (p : ℕ → ℕ → Type 0) (m n : ℕ) → m ≡ 0 → n ≡ 0 → p m n → p 0 0
 both_zero p m n first second x = subst (λ k. p k 0) first (subst (λ k. p m k) second x)
 
 no_more : (a b c : ℕ) → a ≤ b → b ≤ c → a ≤ c
 no_more a b c x y = omega (arith, x, y)
 
-module _ (unfailed : UnfailedAreReadOut) (all : ReadOutSaysAll) (keeps : OffersKeepTheSecret) (d : Directory) (token : List ℕ) (loaded : Texts) where
-  pub offers_run : (ear : Ear) (later : Option Ear) (held left : Option Held) (calls since : Option KeeperCalls) (faults count turns : ℕ)
-      (old : Server) (out : List Offer) (new : Server) (now : List Offer) (closed : Bool)
-      → Driven (Some ear) later 0 0 held left calls since faults count turns old out new now (Ok closed)
-      → ear ≡ unheard ear.events → length ear.events ≤ turns → Went d token loaded [] [] old out
-      → OffersRun d token loaded ear.events (seen held calls faults) (seen left since count) now
-  offers_run ear None held left calls since faults count turns old out new now closed driven begins enough went = absurd driven.made.told
-  offers_run ear (Some later) held left calls since faults count turns old out new now closed driven begins enough went =
-      let serves : Serves d token loaded [] old = record { fuel = went.fuel; enough = went.enough; stands = went.did.stands } in
+module _ (unfailed : UnfailedAreReadOut) (all : ReadOutSaysAll) (keeps : OffersKeepTheSecret) (d : Directory) (token : List ℕ) (loaded : Texts) (turns : ℕ) (old new : ServingState)
+    (out now : List Offer) (closed : Bool) (driven : Driven turns old new out now (Ok closed)) (went : Went d token loaded [] [] old.server out) where
+  offers_run : (ear : Ear) (later : Option Ear) → HeardMore (Some ear) later (events_in driven.happened) → EndsAfter turns later (length driven.happened) (Ok closed)
+      → ReadEach (Some ear) later 0 0 → ear ≡ unheard ear.events → length ear.events ≤ turns → OffersRun d token loaded ear.events old.keeper new.keeper now
+  offers_run ear None told ends each begins enough = absurd told
+  offers_run ear (Some later) told ends each begins enough =
+      let serves : Serves d token loaded [] old.server = record { fuel = went.fuel; enough = went.enough; stands = went.did.stands } in
       let unread : ear.reads ≡ [] = ap (λ (e : Ear). e.reads) begins in
-      let came = came_of ear later (events_in driven.happened) unread driven.made.told in
-      let long = long_enough ear later turns (length driven.happened) closed (events_in driven.happened) enough unread driven.made.told
-      (count_events driven.happened) driven.made.ends in
-      let read = read_out unfailed ear later driven.read.0 unread driven.read.1 driven.read.2 in
+      let came = came_of ear later (events_in driven.happened) unread told in
+      let long = long_enough ear later turns (length driven.happened) closed (events_in driven.happened) enough unread told (count_events driven.happened) ends in
+      let read = read_out unfailed ear later each.0 unread each.1 each.2 in
       let w = whole_of all d ear.events later.reads driven.happened came long read in
       let few : IsShortRun d token loaded w.whole → IsShortRun d token loaded driven.happened = short_same d token loaded driven.happened w.whole (sym w.read) in
       let answers : IsShortRun d token loaded w.whole
-      → EachAnswers d.names w.whole held left calls since = λ short. w.asked held left calls since (driven.made.keeper.answers d token loaded [] serves (few short)) in
+      → EachAnswers d.names w.whole old.keeper new.keeper = λ short. w.asked old.keeper new.keeper (driven.made.keeper.answers d token loaded [] serves (few short)) in
       let exact : IsShortRun d token loaded w.whole → Gives d token loaded w.whole now = λ short.
-      gives_same d token loaded driven.happened w.whole (sym w.read) now (given_by d token loaded driven.happened new now (driven.did d token loaded [] [] went (few short))) in
-      let count_whole : EachCounted w.whole faults count = w.counted faults count driven.made.keeper.counted in
+      gives_same d token loaded driven.happened w.whole (sym w.read) now
+      (given_by d token loaded driven.happened new.server now (driven.did d token loaded [] [] went (few short))) in
+      let count_whole : EachCounted w.whole old.keeper.faults new.keeper.faults = w.counted old.keeper.faults new.keeper.faults driven.made.keeper.counted in
       record {
         happened = w.whole;
         heard = w.heard;
@@ -354,33 +357,25 @@ module _ (unfailed : UnfailedAreReadOut) (all : ReadOutSaysAll) (keeps : OffersK
         exact = exact;
         secret = λ short. keeps d token loaded w.whole now (exact short);
         asked = answers;
-        bound = λ short. bound_still d.names w.whole held left calls since (answers short);
+        bound = λ short. bound_still d.names w.whole old.keeper new.keeper (answers short);
         held = λ short. λ fuel. λ enough.
-            holds_whole d token loaded fuel driven.happened w.whole (sym w.read) (sym w.uploads) held left
+            holds_whole d token loaded fuel driven.happened w.whole (sym w.read) (sym w.uploads) old.keeper.held new.keeper.held
             (driven.made.keeper.sheets d token loaded [] fuel (enough_same d token loaded driven.happened w.whole (sym w.read) fuel enough) serves (few short));
         charged = λ short. λ fuel. λ enough.
             let charged = charged_same d token loaded driven.happened w.whole (sym w.read) fuel
             (driven.made.charged d token loaded [] fuel serves (few short) (enough_same d token loaded driven.happened w.whole (sym w.read) fuel enough)) in
-            record { rows = charged; taken = none_waits d token loaded fuel w.whole faults count count_whole charged };
+            record { rows = charged; taken = none_waits d token loaded fuel w.whole old.keeper.faults new.keeper.faults count_whole charged };
       }
 
-  -- the same of a link of which it is known that it has two counts of 0
-  offers_known : (ear : Ear) (later : Option Ear) (giving gave : ℕ) (held left : Option Held) (calls since : Option KeeperCalls) (faults count turns : ℕ)
-      (old : Server) (out : List Offer) (new : Server) (now : List Offer) (closed : Bool)
-      → Driven (Some ear) later giving gave held left calls since faults count turns old out new now (Ok closed)
-      → giving ≡ 0 → gave ≡ 0 → ear ≡ unheard ear.events → length ear.events ≤ turns → Went d token loaded [] [] old out
-      → OffersRun d token loaded ear.events (seen held calls faults) (seen left since count) now
-  offers_known ear later giving gave held left calls since faults count turns old out new now closed driven stood stands =
-      offers_run ear later held left calls since faults count turns old out new now closed
-      (both_zero (λ m n. Driven (Some ear) later m n held left calls since faults count turns old out new now (Ok closed)) giving gave stood stands driven)
+  -- the same of a link of which it is known that it has two counts of 0, and so many events
+  offers_known : (ear later : Option Ear) (giving gave events : ℕ) → HeardMore ear later (events_in driven.happened) → EndsAfter turns later (length driven.happened) (Ok closed)
+      → ReadEach ear later giving gave → giving ≡ 0 → gave ≡ 0 → IsUnheard events ear → events ≤ turns → OffersAllOf ear d token loaded old.keeper new.keeper now
+  offers_known None later giving gave events told ends each stood stands fresh enough = absurd fresh
+  offers_known (Some ear) later giving gave events told ends each stood stands fresh enough =
+      offers_run ear later told ends (both_zero (λ m n. ReadEach (Some ear) later m n) giving gave stood stands each) fresh.0
+      (no_more (length ear.events) events turns fresh.1 enough)
 
-  -- and so many events
-  pub offers_all_of : (ear later : Option Ear) (giving gave : ℕ) (held left : Option Held) (calls since : Option KeeperCalls) (faults count turns events : ℕ)
-      (old : Server) (out : List Offer) (new : Server) (now : List Offer) (closed : Bool)
-      → Driven ear later giving gave held left calls since faults count turns old out new now (Ok closed)
-      → giving ≡ 0 → gave ≡ 0 → IsUnheard events ear → events ≤ turns → Went d token loaded [] [] old out
-      → OffersAllOf ear d token loaded (seen held calls faults) (seen left since count) now
-  offers_all_of None later giving gave held left calls since faults count turns events old out new now closed driven stood stands fresh enough went = absurd fresh
-  offers_all_of (Some ear) later giving gave held left calls since faults count turns events old out new now closed driven stood stands fresh enough went =
-      offers_known ear later giving gave held left calls since faults count turns old out new now closed driven stood stands fresh.0
-      (no_more (length ear.events) events turns fresh.1 enough) went
+  pub offers_all_of : (events : ℕ) → old.link.giving ≡ 0 → new.link.giving ≡ 0 → IsUnheard events old.link.ear → events ≤ turns
+      → OffersAllOf old.link.ear d token loaded old.keeper new.keeper now
+  offers_all_of events stood stands fresh enough =
+      offers_known old.link.ear new.link.ear old.link.giving new.link.giving events driven.made.told driven.made.ends driven.read stood stands fresh enough

@@ -4,8 +4,7 @@ use Rattle.std.specs.Prelude.{OnOk, OnErr}
 use Rattle.mmtel_directory.specs.declared.directories.Directory.{Directory}
 use Rattle.mmtel_giving.specs.Giving.{Gave, LostNoMore, IsBoundStill as ListensStill}
 use Rattle.mmtel_in_force.specs.Texts.{Texts}
-use Rattle.mmtel_keeper.specs.Kept.{Held, KeeperCalls}
-use Rattle.mmtel_link.specs.Told.{Ear, Given, IsBind, LinkCalls}
+use Rattle.mmtel_link.specs.Told.{IsBind, LinkCalls}
 use Rattle.mmtel_outside.specs.Counts.{HasCause, Rose}
 use Rattle.mmtel_outside.specs.declared.events.Offer.{Offer}
 use Rattle.mmtel_run.specs.Events.{Happened, events_in}
@@ -16,6 +15,7 @@ use Rattle.mmtel_serve.specs.Served.{GaveOn, KeptTheSecret, ReadsAll, StoppedGiv
 use Rattle.mmtel_server.specs.Charged.{Charged}
 use Rattle.mmtel_server.specs.Driven.{AnswersAll, CameToOutcome, ChargedSeats, EachCounted, EndsAfter, HasDriveCause, HasFailedByNumber, HeardMore, HoldsUploads, SentClean}
 use Rattle.mmtel_server.specs.Driven.{StandsOrRose}
+use Rattle.mmtel_server.specs.Seen.{LinkSeen, ServingState}
 use Rattle.mmtel_server.specs.Stands.{IsCut, Serves, Went}
 use Rattle.mmtel_server.specs.declared.driving.DriveFault.{DriveFault}
 use Rattle.mmtel_server.specs.declared.driving.DriveFault.TheVariants.{LinkFault, NoMemory}
@@ -24,8 +24,9 @@ use Rattle.mmtel_types.specs.declared.numbers.Failed.{Failed}
 use Rattle.mmtel_cli.proofs.Scripted.{bound_still, none_waits}
 use Rattle.mmtel_cli.proofs.Stopping.{holds_all, kept_up_to}
 use Rattle.mmtel_cli.specs.Found.{CountsLink, IsServedBy, IsSuited}
-use Rattle.mmtel_cli.specs.Keeping.{IsLoaded, KeeperSeen, seen}
-use Rattle.mmtel_cli.specs.Serving.{IsBindCall, IsLinked, IsNotLinked, LinkSeen, ServesLink, ServesRun, line_seen}
+use Rattle.mmtel_cli.specs.Keeping.{IsLoaded}
+use Rattle.mmtel_cli.specs.Outside.{Outside}
+use Rattle.mmtel_cli.specs.Serving.{IsBindCall, IsLinked, IsNotLinked, ServesLink, ServesRun}
 use Rattle.mmtel_cli.specs.Stopped.{GaveUpToLast, StoppedServing, UnservedServing}
 use Rattle.mmtel_reports.specs.declared.reports.Report.{Report}
 use Rattle.mmtel_reports.specs.declared.reports.Report.TheVariants.{Link, Memory, Served}
@@ -42,51 +43,46 @@ no_bind_call : (T : Type 0) (directory : Directory) (calls after : Option LinkCa
 no_bind_call T directory None after e is = is
 no_bind_call T directory (Some calls) after e is = (is.1, is.2)
 
-module _ (directory : Directory) (ear later : Option Ear) (given now : Option Given) (calls after : Option LinkCalls) (taking taken giving gave : ℕ) where
-  abbrev Near : LinkSeen
-  Near = line_seen ear given calls taking giving
-
-  abbrev Far : LinkSeen
-  Far = line_seen later now after taken gave
-
-  pub linked : {T : Type 0} (result : Result T Failed) → later ≡ ear → now ≡ given → gave ≡ giving → IsBind calls after directory.sip directory.web result →
-      HasCause taking taken result
-      → OnOk result (IsLinked directory Near Far)
-  linked (Ok x) heard same gave_same bind cause = record {
-    calls = bind_call directory calls after x bind;
+module _ (directory : Directory) (old new : LinkSeen) where
+  pub linked : {T : Type 0} (result : Result T Failed) → new.ear ≡ old.ear → new.given ≡ old.given → new.giving ≡ old.giving
+      → IsBind old.calls new.calls directory.sip directory.web result → HasCause old.taking new.taking result → OnOk result (IsLinked directory old new)
+  linked (Ok x) heard given giving bind cause = record {
+    calls = bind_call directory old.calls new.calls x bind;
     heard = heard;
-    given = same;
+    given = given;
     taking = cause.kept;
-    giving = gave_same;
+    giving = giving;
   }
-  linked (Err e) heard same gave_same bind cause = tt
+  linked (Err e) heard given giving bind cause = tt
 
-  pub not_linked : {T : Type 0} (result : Result T Failed) → later ≡ ear → now ≡ given → gave ≡ giving → IsBind calls after directory.sip directory.web result →
-      HasCause taking taken result
-      → OnErr result (IsNotLinked directory Near Far)
-  not_linked (Ok x) heard same gave_same bind cause = tt
-  not_linked (Err e) heard same gave_same bind cause = record {
-    calls = no_bind_call _ directory calls after e bind;
+  pub not_linked : {T : Type 0} (result : Result T Failed) → new.ear ≡ old.ear → new.given ≡ old.given → new.giving ≡ old.giving
+      → IsBind old.calls new.calls directory.sip directory.web result → HasCause old.taking new.taking result → OnErr result (IsNotLinked directory old new)
+  not_linked (Ok x) heard given giving bind cause = tt
+  not_linked (Err e) heard given giving bind cause = record {
+    calls = no_bind_call _ directory old.calls new.calls e bind;
     heard = heard;
-    given = same;
+    given = given;
     rose = cause.failed;
-    giving = gave_same;
+    giving = giving;
   }
 
 -- ---- the run
 
-module _ (directory : Directory) (token : List ℕ) (loaded : Texts) (turns : ℕ) (old : Server) (serves : Serves directory token loaded [] old) (suited : IsSuited directory token)
-    (ear later : Option Ear) (given now : Option Given) (calls after : Option LinkCalls) (taking taken giving gave : ℕ)
-    (held left : Option Held) (asked since : Option KeeperCalls) (faults count : ℕ) where
+-- what is seen beside the server
+abbrev beside : ServingState → Outside
+beside state = record { link = state.link; keeper = state.keeper }
+
+module _ (directory : Directory) (token : List ℕ) (loaded : Texts) (turns : ℕ) (old new : ServingState) (serves : Serves directory token loaded [] old.server)
+    (suited : IsSuited directory token) (listens : ListensStill old.link.calls new.link.calls) (lost : LostNoMore old.link.given new.link.given ⊎ Rose old.link.giving new.link.giving)
+    (stands : StandsOrRose old.link.giving new.link.giving) where
   serves_run : (result : Result Bool DriveFault) (happened : List Happened)
-      → HeardMore ear later (events_in happened) → ReadsAll ear later given now giving gave result → EndsAfter turns later (length happened) result → ListensStill calls after →
-      HasDriveCause taking taken result → HasFailedByNumber after result
-      → LostNoMore given now ⊎ Rose giving gave → StandsOrRose giving gave → EachCounted happened faults count
-      → GaveOn happened old given now → KeptTheSecret happened old given now → AnswersAll happened old held left asked since → HoldsUploads happened old held left
-      → Charged happened old → CameToOutcome happened old → ChargedSeats happened old → SentClean happened old
-      → ServesRun directory token loaded turns (line_seen ear given calls taking giving) (line_seen later now after taken gave) (seen held asked faults)
-      (seen left since count) result
-  serves_run result happened heard read ends listens cause number lost stands counted gave_on kept answers sheets charged outcome seats clean = record {
+      → HeardMore old.link.ear new.link.ear (events_in happened) → ReadsAll old.link new.link result → EndsAfter turns new.link.ear (length happened) result
+      → HasDriveCause old.link.taking new.link.taking result → HasFailedByNumber new.link.calls result → EachCounted happened old.keeper.faults new.keeper.faults
+      → GaveOn happened old.server old.link.given new.link.given → KeptTheSecret happened old.server old.link.given new.link.given
+      → AnswersAll happened old.server old.keeper new.keeper → HoldsUploads happened old.server old.keeper.held new.keeper.held
+      → Charged happened old.server → CameToOutcome happened old.server → ChargedSeats happened old.server → SentClean happened old.server
+      → ServesRun directory token loaded turns (beside old) (beside new) result
+  serves_run result happened heard read ends cause number counted gave_on kept answers sheets charged outcome seats clean = record {
     happened = happened;
     heard = heard;
     read = read;
@@ -100,24 +96,25 @@ module _ (directory : Directory) (token : List ℕ) (loaded : Texts) (turns : �
     exact = λ short. λ fuel. λ enough.
         let here = gave_on directory token loaded [] fuel serves short enough in
         let same : gives directory token loaded fuel happened ≡ here.0 = here.1 in
-        subst (λ (offers : List Offer). Gave directory.peers.known offers given now) (sym same) here.2;
+        subst (λ (offers : List Offer). Gave directory.peers.known offers old.link.given new.link.given) (sym same) here.2;
     secret = λ short.
         let secret = kept directory token loaded serves short in
         (secret.0, secret.1, λ seer. λ addr. λ at. secret.2 seer addr suited.apart at);
     asked = λ short. answers directory token loaded [] serves short;
-    bound = λ short. bound_still directory.names happened held left asked since (answers directory token loaded [] serves short);
-    held = λ short. λ fuel. λ enough. holds_all directory token loaded happened held left fuel (sheets directory token loaded [] fuel enough serves short);
+    bound = λ short. bound_still directory.names happened old.keeper new.keeper (answers directory token loaded [] serves short);
+    held = λ short. λ fuel. λ enough.
+        holds_all directory token loaded happened old.keeper.held new.keeper.held fuel (sheets directory token loaded [] fuel enough serves short);
     charged = λ short. λ fuel. λ enough.
         let rows = charged directory token loaded [] fuel serves short enough in
-        record { rows = rows; taken = none_waits directory token loaded fuel happened faults count counted rows };
+        record { rows = rows; taken = none_waits directory token loaded fuel happened old.keeper.faults new.keeper.faults counted rows };
     outcome = λ short. outcome directory token loaded [] serves short;
     seats = λ short. seats directory token loaded [] serves short;
     clean = λ short. clean directory token loaded [] serves short suited.home suited.text;
   }
 
   -- of a run from its first event on, what was given where memory ran out
-  gave_up_to : (happened : List Happened) → StoppedGiving happened old given now → IsShortRun directory token loaded happened → (fuel : ℕ)
-      → IsEnough directory token loaded fuel happened → GaveUpToLast directory token loaded happened fuel given now
+  gave_up_to : (happened : List Happened) → StoppedGiving happened old.server old.link.given new.link.given → IsShortRun directory token loaded happened → (fuel : ℕ)
+      → IsEnough directory token loaded fuel happened → GaveUpToLast directory token loaded happened fuel old.link.given new.link.given
   gave_up_to happened s short fuel enough =
       let few = subst (λ (l : List Happened). IsShortRun directory token loaded l) s.parts short in
       let so_far = subst (λ (l : List Happened). IsEnough directory token loaded fuel l) s.parts enough in
@@ -133,32 +130,22 @@ module _ (directory : Directory) (token : List ℕ) (loaded : Texts) (turns : �
         gave = here.2;
       }
 
-  run_closed : (new : Server) (closed : Bool) → serve.Served ear later giving gave given now held left asked since faults count turns old new (Ok closed)
-      → ListensStill calls after → HasDriveCause {T = Bool} taking taken (Ok closed) → HasFailedByNumber {T = Bool} after (Ok closed) → LostNoMore given now ⊎ Rose giving gave →
-      StandsOrRose giving gave
-      → ServesRun directory token loaded turns (line_seen ear given calls taking giving) (line_seen later now after taken gave) (seen held asked faults)
-      (seen left since count) (Ok closed)
-  run_closed new closed s listens cause number lost stands =
-      serves_run (Ok closed) s.happened s.made.told s.read s.made.ends listens cause number lost stands s.made.keeper.counted s.given_all.1 s.kept s.made.keeper.answers
-      s.made.keeper.sheets
-      s.made.charged s.made.outcome s.made.seats s.made.clean
+  run_closed : (closed : Bool) → serve.Served turns old new (Ok closed) → HasDriveCause {T = Bool} old.link.taking new.link.taking (Ok closed)
+      → HasFailedByNumber {T = Bool} new.link.calls (Ok closed) → ServesRun directory token loaded turns (beside old) (beside new) (Ok closed)
+  run_closed closed s cause number =
+      serves_run (Ok closed) s.happened s.made.told s.read s.made.ends cause number s.made.keeper.counted s.given_all.1 s.kept s.made.keeper.answers
+      s.made.keeper.sheets s.made.charged s.made.outcome s.made.seats s.made.clean
 
-  run_broken : (new : Server) → serve.Served ear later giving gave given now held left asked since faults count turns old new (Err LinkFault)
-      → ListensStill calls after → HasDriveCause {T = Bool} taking taken (Err LinkFault) → HasFailedByNumber {T = Bool} after (Err LinkFault) →
-      LostNoMore given now ⊎ Rose giving gave → StandsOrRose giving gave
-      → ServesRun directory token loaded turns (line_seen ear given calls taking giving) (line_seen later now after taken gave) (seen held asked faults)
-      (seen left since count) (Err LinkFault)
-  run_broken new s listens cause number lost stands =
-      serves_run (Err LinkFault) s.happened s.made.told s.read s.made.ends listens cause number lost stands s.made.keeper.counted s.given_all.1 s.kept s.made.keeper.answers
-      s.made.keeper.sheets
-      s.made.charged s.made.outcome s.made.seats s.made.clean
+  run_broken : serve.Served turns old new (Err LinkFault) → HasDriveCause {T = Bool} old.link.taking new.link.taking (Err LinkFault)
+      → HasFailedByNumber {T = Bool} new.link.calls (Err LinkFault) → ServesRun directory token loaded turns (beside old) (beside new) (Err LinkFault)
+  run_broken s cause number =
+      serves_run (Err LinkFault) s.happened s.made.told s.read s.made.ends cause number s.made.keeper.counted s.given_all.1 s.kept s.made.keeper.answers
+      s.made.keeper.sheets s.made.charged s.made.outcome s.made.seats s.made.clean
 
   -- memory ran out
-  run_stopped : (new : Server) → serve.Served ear later giving gave given now held left asked since faults count turns old new (Err NoMemory)
-      → ListensStill calls after → HasDriveCause {T = Bool} taking taken (Err NoMemory) → LostNoMore given now ⊎ Rose giving gave → StandsOrRose giving gave
-      → StoppedServing directory token loaded turns (line_seen ear given calls taking giving) (line_seen later now after taken gave) (seen held asked faults)
-      (seen left since count)
-  run_stopped new s listens cause lost stands = record {
+  run_stopped : serve.Served turns old new (Err NoMemory) → HasDriveCause {T = Bool} old.link.taking new.link.taking (Err NoMemory)
+      → StoppedServing directory token loaded turns (beside old) (beside new)
+  run_stopped s cause = record {
     happened = s.happened;
     heard = s.made.told;
     read = s.read;
@@ -171,7 +158,7 @@ module _ (directory : Directory) (token : List ℕ) (loaded : Texts) (turns : �
     secret = λ short.
         let secret = s.kept directory token loaded serves short in
         (secret.0, secret.1, λ seer. λ addr. λ at. secret.2 seer addr suited.apart at);
-    kept = kept_up_to directory token loaded s.happened old serves held left asked since faults count s.made.keeper s.made.charged;
+    kept = kept_up_to directory token loaded s.happened old.server serves old.keeper new.keeper s.made.keeper s.made.charged;
     outcome = λ short. s.made.outcome directory token loaded [] serves short;
     seats = λ short. s.made.seats directory token loaded [] serves short;
     clean = λ short. s.made.clean directory token loaded [] serves short suited.home suited.text;
@@ -180,63 +167,56 @@ module _ (directory : Directory) (token : List ℕ) (loaded : Texts) (turns : �
 -- ---- with the keeper and the link before it
 
 -- what is so of a server of this configuration over a link that was bound and a keeper that was loaded
-serves_link : (directory : Directory) (token : List ℕ) (loaded : Texts) (turns : ℕ) (line listening far : LinkSeen) (kept opening later : KeeperSeen)
-    (result : Result Bool DriveFault)
-    → IsSuited directory token → IsLinked directory line listening → IsLoaded directory.store loaded kept opening
-    → ServesRun directory token loaded turns listening far opening later result → ServesLink directory token turns line far kept later result
-serves_link directory token loaded turns line listening far kept opening later result suited linked opened run = record {
+serves_link : (directory : Directory) (token : List ℕ) (loaded : Texts) (turns : ℕ) (start ready new : Outside) (result : Result Bool DriveFault)
+    → IsSuited directory token → IsLinked directory start.link ready.link → IsLoaded directory.store loaded start.keeper ready.keeper
+    → ServesRun directory token loaded turns ready new result → ServesLink directory token turns start new result
+serves_link directory token loaded turns start ready new result suited linked opened run = record {
   loaded = loaded;
-  opening = opening;
+  ready = ready;
   opened = opened;
-  listening = listening;
   linked = linked;
   run = run;
   branches = suited.branches;
 }
 
-module _ (turns : ℕ) (ear later : Option Ear) (given now : Option Given) (calls after : Option LinkCalls) (taking taken giving gave : ℕ)
-    (held left : Option Held) (asked since : Option KeeperCalls) (faults count : ℕ) (old new : Server) where
+module _ (turns : ℕ) (old new : ServingState) where
+  -- what else is so of its link
+  abbrev Beside : Type 0
+  Beside = ListensStill old.link.calls new.link.calls × ((LostNoMore old.link.given new.link.given ⊎ Rose old.link.giving new.link.giving) × StandsOrRose old.link.giving new.link.giving)
+
   -- whatever server it was made of
   abbrev ServedAs : Report → Type 0
   ServedAs outcome =
-      (directory : Directory) (token : List ℕ) (loaded : Texts) (line : LinkSeen) (kept : KeeperSeen) → Serves directory token loaded [] old
-      → IsLinked directory line (line_seen ear given calls taking giving) → IsLoaded directory.store loaded kept (seen held asked faults)
-      → IsServedBy directory token turns line (line_seen later now after taken gave) kept (seen left since count) outcome
+      (directory : Directory) (token : List ℕ) (loaded : Texts) (start : Outside) → Serves directory token loaded [] old.server
+      → IsLinked directory start.link old.link → IsLoaded directory.store loaded start.keeper old.keeper → IsServedBy directory token turns start (beside new) outcome
 
-  pub served_closed : (closed : Bool) → serve.Served ear later giving gave given now held left asked since faults count turns old new (Ok closed)
-      → ListensStill calls after → HasDriveCause {T = Bool} taking taken (Ok closed) → HasFailedByNumber {T = Bool} after (Ok closed) → LostNoMore given now ⊎ Rose giving gave →
-      StandsOrRose giving gave → ServedAs Served
-  served_closed closed s listens cause number lost stands = λ directory. λ token. λ loaded. λ line. λ kept. λ serves. λ linked. λ opened. λ suited. (
+  pub served_closed : (closed : Bool) → serve.Served turns old new (Ok closed) → Beside → HasDriveCause {T = Bool} old.link.taking new.link.taking (Ok closed)
+      → HasFailedByNumber {T = Bool} new.link.calls (Ok closed) → ServedAs Served
+  served_closed closed s more cause number = λ directory. λ token. λ loaded. λ start. λ serves. λ linked. λ opened. λ suited. (
     closed,
-    serves_link directory token loaded turns line _ _ kept _ _ (Ok closed) suited linked opened
-        (run_closed directory token loaded turns old serves suited ear later given now calls after taking taken giving gave held left asked since faults count new closed s
-        listens cause number lost stands),
+    serves_link directory token loaded turns start (beside old) (beside new) (Ok closed) suited linked opened
+        (run_closed directory token loaded turns old new serves suited more.0 more.1.0 more.1.1 closed s cause number),
   )
 
-  pub served_broken : (e : DriveFault) → e ≡ LinkFault → serve.Served ear later giving gave given now held left asked since faults count turns old new (Err e)
-      → ListensStill calls after → HasDriveCause {T = Bool} taking taken (Err e) → HasFailedByNumber {T = Bool} after (Err e) → LostNoMore given now ⊎ Rose giving gave →
-      StandsOrRose giving gave → ServedAs Link
-  served_broken e is served listens cause number lost stands = λ directory. λ token. λ loaded. λ line. λ kept. λ serves. λ linked. λ opened. λ suited.
-      let s = subst (λ (f : DriveFault). serve.Served ear later giving gave given now held left asked since faults count turns old new (Err f)) is served in
-      let last = subst (λ (f : DriveFault). HasFailedByNumber {T = Bool} after (Err f)) is number in
-      let by = subst (λ (f : DriveFault). HasDriveCause {T = Bool} taking taken (Err f)) is cause in
-      inr (serves_link directory token loaded turns line _ _ kept _ _ (Err LinkFault) suited linked opened
-      (run_broken directory token loaded turns old serves suited ear later given now calls after taking taken giving gave held left asked since faults count new s listens
-      by last lost stands))
+  pub served_broken : (e : DriveFault) → e ≡ LinkFault → serve.Served turns old new (Err e) → Beside → HasDriveCause {T = Bool} old.link.taking new.link.taking (Err e)
+      → HasFailedByNumber {T = Bool} new.link.calls (Err e) → ServedAs Link
+  served_broken e is served more cause number = λ directory. λ token. λ loaded. λ start. λ serves. λ linked. λ opened. λ suited.
+      let s = subst (λ (f : DriveFault). serve.Served turns old new (Err f)) is served in
+      let last = subst (λ (f : DriveFault). HasFailedByNumber {T = Bool} new.link.calls (Err f)) is number in
+      let by = subst (λ (f : DriveFault). HasDriveCause {T = Bool} old.link.taking new.link.taking (Err f)) is cause in
+      inr (serves_link directory token loaded turns start (beside old) (beside new) (Err LinkFault) suited linked opened
+      (run_broken directory token loaded turns old new serves suited more.0 more.1.0 more.1.1 s by last))
 
-  pub served_stopped : (e : DriveFault) → e ≡ NoMemory → serve.Served ear later giving gave given now held left asked since faults count turns old new (Err e)
-      → ListensStill calls after → HasDriveCause {T = Bool} taking taken (Err e) → LostNoMore given now ⊎ Rose giving gave → StandsOrRose giving gave → ServedAs Memory
-  served_stopped e is served listens cause lost stands = λ directory. λ token. λ loaded. λ line. λ kept. λ serves. λ linked. λ opened. λ suited.
-      let s = subst (λ (f : DriveFault). serve.Served ear later giving gave given now held left asked since faults count turns old new (Err f)) is served in
-      let by = subst (λ (f : DriveFault). HasDriveCause {T = Bool} taking taken (Err f)) is cause in
+  pub served_stopped : (e : DriveFault) → e ≡ NoMemory → serve.Served turns old new (Err e) → Beside → HasDriveCause {T = Bool} old.link.taking new.link.taking (Err e) → ServedAs Memory
+  served_stopped e is served more cause = λ directory. λ token. λ loaded. λ start. λ serves. λ linked. λ opened. λ suited.
+      let s = subst (λ (f : DriveFault). serve.Served turns old new (Err f)) is served in
+      let by = subst (λ (f : DriveFault). HasDriveCause {T = Bool} old.link.taking new.link.taking (Err f)) is cause in
       UnservedServing (record {
         loaded = loaded;
-        opening = _;
+        ready = beside old;
         opened = opened;
-        listening = _;
         linked = linked;
-        serving = run_stopped directory token loaded turns old serves suited ear later given now calls after taking taken giving gave held left asked since faults count new s
-            listens by lost stands;
+        serving = run_stopped directory token loaded turns old new serves suited more.0 more.1.0 more.1.1 s by;
         branches = suited.branches;
       })
 

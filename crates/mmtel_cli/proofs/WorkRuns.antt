@@ -41,9 +41,9 @@ handed_zero false before counted = absurd (rose_not before counted)
 each_zero : (happened : List Happened) (before : ℕ) → EachCounted happened before 0 → before ≡ 0
 each_zero [] before counted = sym counted
 each_zero (one ∷ happened) before counted =
-    let later = each_zero happened counted.1 counted.3.1 in
-    let handed = handed_zero one.took counted.0 (subst (λ (n : ℕ). HandedCounted one.took counted.0 n) later counted.3.0) in
-    counted_zero one.kept before (subst (λ (n : ℕ). Counted one.kept before n) handed.1 counted.2)
+    let later = each_zero happened counted.0 counted.2 in
+    let handed = handed_zero one.took counted.1.between (subst (λ (n : ℕ). HandedCounted one.took counted.1.between n) later counted.1.handed) in
+    counted_zero one.kept before (subst (λ (n : ℕ). Counted one.kept before n) handed.1 counted.1.counted)
 
 -- so the keeper took what waited at the end of each event
 abbrev AllTook : List Happened → Type 0
@@ -53,9 +53,9 @@ AllTook (one ∷ happened) = (one.took ≡ true) × AllTook happened
 all_took : (happened : List Happened) (before : ℕ) → EachCounted happened before 0 → AllTook happened
 all_took [] before counted = tt
 all_took (one ∷ happened) before counted =
-    let later = each_zero happened counted.1 counted.3.1 in
-    let handed = handed_zero one.took counted.0 (subst (λ (n : ℕ). HandedCounted one.took counted.0 n) later counted.3.0) in
-    (handed.0, all_took happened counted.1 counted.3.1)
+    let later = each_zero happened counted.0 counted.2 in
+    let handed = handed_zero one.took counted.1.between (subst (λ (n : ℕ). HandedCounted one.took counted.1.between n) later counted.1.handed) in
+    (handed.0, all_took happened counted.0 counted.2)
 
 -- ---- a workload's events are datagrams
 

@@ -1,5 +1,5 @@
 -- A workload: what was offered, and what was counted.
-use Rattle.std.proofs.Common.{◌≡◌, ℕ, List, length, subst, Some, None, Result, Ok, Err}
+use Rattle.std.proofs.Common.{◌≡◌, ℕ, List, length, subst, Result, Ok, Err}
 use Rattle.std.specs.Prelude.{IfOk}
 use Rattle.mmtel_charging.specs.declared.rows.Row.{Row}
 use Rattle.mmtel_directory.specs.declared.directories.Directory.{Directory}
@@ -8,15 +8,14 @@ use Rattle.mmtel_keeper.specs.Kept.{Held}
 use Rattle.mmtel_outside.specs.declared.events.Event.{Event}
 use Rattle.mmtel_outside.specs.declared.events.Offer.{Offer}
 use Rattle.mmtel_workload.specs.Events.{work_events}
-use Rattle.mmtel_cli.specs.Keeping.{seen}
 use Rattle.mmtel_cli.specs.Listings.{OffersRun}
 use Rattle.mmtel_cli.proofs.WorkRuns.{offers_known, rows_known}
 use Rattle.mmtel_cli.specs.Workloads.{Counts, diversions_in, keeper_of, nothing_held, work_loaded, work_text, work_token}
 
 -- what was offered over this token and these texts was offered over those of a workload
 pub offers_work : {E : Type 0} (directory : Directory) (result : Result (List Offer) E) (token : List ℕ) (loaded : Texts) (events : List Event) (opening held : Held)
-    → token ≡ work_token → loaded ≡ work_loaded → IfOk result (OffersRun directory token loaded events (seen (Some opening) None 0) (seen (Some held) None 0))
-    → IfOk result (OffersRun directory work_token work_loaded events (seen (Some opening) None 0) (seen (Some held) None 0))
+    → token ≡ work_token → loaded ≡ work_loaded → IfOk result (OffersRun directory token loaded events (keeper_of opening) (keeper_of held))
+    → IfOk result (OffersRun directory work_token work_loaded events (keeper_of opening) (keeper_of held))
 offers_work directory result token loaded events opening held token_is loaded_is run = rw (token_is, loaded_is) at run
 
 -- the run is that of the calls, over a keeper that held nothing

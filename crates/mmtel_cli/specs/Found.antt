@@ -6,52 +6,54 @@ use Rattle.mmtel_directory.specs.declared.directories.Directory.{Directory}
 use Rattle.mmtel_outside.specs.Counts.{Rose}
 use Rattle.mmtel_outside.specs.Shelf.{Shelf}
 use Rattle.mmtel_run_laws.specs.Secret.{BranchesAreRead}
+use Rattle.mmtel_server.specs.Seen.{KeeperSeen}
 use Rattle.mmtel_trust.specs.Peers.{are_apart}
 use Rattle.mmtel_words.specs.CommandLine.{Command, Serve, Replay, Check, Charges, Workload}
 use Rattle.mmtel_cli.specs.Due as due
 use Rattle.mmtel_cli.specs.Due.{Due}
-use Rattle.mmtel_cli.specs.Keeping.{GivesNoRows, IsNotLoaded, KeeperSeen}
+use Rattle.mmtel_cli.specs.Keeping.{GivesNoRows, IsNotLoaded}
 use Rattle.mmtel_cli.specs.Listings.{Lists, ListsRows}
-use Rattle.mmtel_cli.specs.Serving.{LinkFails, LinkSeen, ServesLink}
+use Rattle.mmtel_cli.specs.Outside.{Outside}
+use Rattle.mmtel_cli.specs.Serving.{LinkFails, ServesLink}
 use Rattle.mmtel_cli.specs.Stopped.{HasStopped, StoppedServe}
 use Rattle.mmtel_cli.specs.Workloads.{Counts}
 use Rattle.mmtel_reports.specs.declared.reports.Report.{Report}
 use Rattle.mmtel_reports.specs.declared.reports.Report.TheVariants.{Usage, Line, Link, File, Keeper, Memory, Listing, Sound, Served, Unsound}
 
 -- the text lists the run or the rows that are to be listed, or counts what a workload comes to
-abbrev pub IsListing : (keeper later : KeeperSeen) → List ℕ → Due → Type 0
-IsListing keeper later text due.Usage = ⊥
-IsListing keeper later text (due.Line number) = ⊥
-IsListing keeper later text due.File = ⊥
-IsListing keeper later text (due.Run directory token events) = Lists directory token events keeper later text
-IsListing keeper later text (due.Rows store) = ListsRows store keeper later text
-IsListing keeper later text (due.Work calls salt directory) = Counts directory calls salt text
-IsListing keeper later text due.Sound = ⊥
-IsListing keeper later text (due.Unsound line) = ⊥
+abbrev pub IsListing : (old new : KeeperSeen) → List ℕ → Due → Type 0
+IsListing old new text due.Usage = ⊥
+IsListing old new text (due.Line number) = ⊥
+IsListing old new text due.File = ⊥
+IsListing old new text (due.Run directory token events) = Lists directory token events old new text
+IsListing old new text (due.Rows store) = ListsRows store old new text
+IsListing old new text (due.Work calls salt directory) = Counts directory calls salt text
+IsListing old new text due.Sound = ⊥
+IsListing old new text (due.Unsound line) = ⊥
 
 -- a run or rows are to be listed, and the keeper could not be bound to the store, or not answer
-abbrev pub IsUnkept : (keeper later : KeeperSeen) → Due → Type 0
-IsUnkept keeper later due.Usage = ⊥
-IsUnkept keeper later (due.Line number) = ⊥
-IsUnkept keeper later due.File = ⊥
-IsUnkept keeper later (due.Run directory token events) = IsNotLoaded directory.store keeper later
-IsUnkept keeper later (due.Rows store) = GivesNoRows store keeper later
-IsUnkept keeper later (due.Work calls salt directory) = ⊥
-IsUnkept keeper later due.Sound = ⊥
-IsUnkept keeper later (due.Unsound line) = ⊥
+abbrev pub IsUnkept : (old new : KeeperSeen) → Due → Type 0
+IsUnkept old new due.Usage = ⊥
+IsUnkept old new (due.Line number) = ⊥
+IsUnkept old new due.File = ⊥
+IsUnkept old new (due.Run directory token events) = IsNotLoaded directory.store old new
+IsUnkept old new (due.Rows store) = GivesNoRows store old new
+IsUnkept old new (due.Work calls salt directory) = ⊥
+IsUnkept old new due.Sound = ⊥
+IsUnkept old new (due.Unsound line) = ⊥
 
 -- what was found due is what is due, unless the keeper failed or memory ran out, where the keeper had been asked so much
-abbrev pub IsDue : (keeper later : KeeperSeen) → Report → Due → Type 0
-IsDue keeper later Memory wanted = HasStopped keeper later wanted
-IsDue keeper later Usage wanted = wanted ≡ due.Usage
-IsDue keeper later (Line line) wanted = wanted ≡ due.Line line
-IsDue keeper later Link wanted = ⊥
-IsDue keeper later File wanted = wanted ≡ due.File
-IsDue keeper later Keeper wanted = IsUnkept keeper later wanted
-IsDue keeper later (Listing text) wanted = IsListing keeper later text wanted
-IsDue keeper later Sound wanted = wanted ≡ due.Sound
-IsDue keeper later Served wanted = ⊥
-IsDue keeper later (Unsound line) wanted = wanted ≡ due.Unsound line
+abbrev pub IsDue : (old new : KeeperSeen) → Report → Due → Type 0
+IsDue old new Memory wanted = HasStopped old new wanted
+IsDue old new Usage wanted = wanted ≡ due.Usage
+IsDue old new (Line line) wanted = wanted ≡ due.Line line
+IsDue old new Link wanted = ⊥
+IsDue old new File wanted = wanted ≡ due.File
+IsDue old new Keeper wanted = IsUnkept old new wanted
+IsDue old new (Listing text) wanted = IsListing old new text wanted
+IsDue old new Sound wanted = wanted ≡ due.Sound
+IsDue old new Served wanted = ⊥
+IsDue old new (Unsound line) wanted = wanted ≡ due.Unsound line
 
 -- the calls that are due were made; or memory ran out, at the first of them or after the last
 abbrev pub HasCalled : Report → Option Shelf → Shelf → Shelf → Type 0
@@ -126,18 +128,18 @@ pub record IsSuited (directory : Directory) (token : List ℕ) : Type 0 where
 
 -- a configuration that was read is to be served, and so it came: the link was served; or the keeper could not be loaded, or the link not be bound or not take in what comes
 -- next; or memory ran out, where so much had been done
-abbrev pub IsServedBy : Directory → (token : List ℕ) → (turns : ℕ) → (link far : LinkSeen) → (keeper later : KeeperSeen) → Report → Type 0
-IsServedBy directory token turns link far keeper later Memory = IsSuited directory token → StoppedServe directory token turns link far keeper later
-IsServedBy directory token turns link far keeper later Usage = ⊥
-IsServedBy directory token turns link far keeper later (Line line) = ⊥
-IsServedBy directory token turns link far keeper later Link = IsSuited directory token → LinkFails directory token turns link far keeper later
-IsServedBy directory token turns link far keeper later File = ⊥
-IsServedBy directory token turns link far keeper later Keeper = IsNotLoaded directory.store keeper later
-IsServedBy directory token turns link far keeper later (Listing text) = ⊥
-IsServedBy directory token turns link far keeper later Sound = ⊥
-IsServedBy directory token turns link far keeper later Served =
-    IsSuited directory token → (closed : Bool) × ServesLink directory token turns link far keeper later (Ok closed)
-IsServedBy directory token turns link far keeper later (Unsound line) = ⊥
+abbrev pub IsServedBy : Directory → (token : List ℕ) → (turns : ℕ) → (old new : Outside) → Report → Type 0
+IsServedBy directory token turns old new Memory = IsSuited directory token → StoppedServe directory token turns old new
+IsServedBy directory token turns old new Usage = ⊥
+IsServedBy directory token turns old new (Line line) = ⊥
+IsServedBy directory token turns old new Link = IsSuited directory token → LinkFails directory token turns old new
+IsServedBy directory token turns old new File = ⊥
+IsServedBy directory token turns old new Keeper = IsNotLoaded directory.store old.keeper new.keeper
+IsServedBy directory token turns old new (Listing text) = ⊥
+IsServedBy directory token turns old new Sound = ⊥
+IsServedBy directory token turns old new Served =
+    IsSuited directory token → (closed : Bool) × ServesLink directory token turns old new (Ok closed)
+IsServedBy directory token turns old new (Unsound line) = ⊥
 
 -- the keeper was loaded before
 abbrev pub IsServing : Report → Type 0

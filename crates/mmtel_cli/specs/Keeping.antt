@@ -7,16 +7,8 @@ use Rattle.mmtel_in_force.specs.Texts.{Texts}
 use Rattle.mmtel_keeper.specs.Kept.{Held, KeeperCalls, called, fails_next}
 use Rattle.mmtel_keeper.specs.Migration.{IsHeldMigrated}
 use Rattle.mmtel_outside.specs.Counts.{Rose}
+use Rattle.mmtel_server.specs.Seen.{KeeperSeen}
 use Rattle.mmtel_cli.specs.Asks.{IsCheck, IsWorkload, SpellsNone}
-
--- what is seen of a keeper: what it holds and its calls, where it tells them, and the count of its faults
-pub record KeeperSeen : Type 0 where
-  pub held : Option Held
-  pub calls : Option KeeperCalls
-  pub faults : ℕ
-
-abbrev pub seen : Option Held → Option KeeperCalls → ℕ → KeeperSeen
-seen held calls faults = record { held = held; calls = calls; faults = faults }
 
 -- ---- binding and loading
 
@@ -54,35 +46,37 @@ AreHeldMigrated None after = after ≡ None
 AreHeldMigrated (Some held) after = (later : Held) × (after ≡ Some later) × IsHeldMigrated held later
 
 -- it was bound to the path, migrated and loaded, and gave these texts, which are those that it holds then, where it tells them
-pub record IsLoaded (path : List ℕ) (loaded : Texts) (keeper later : KeeperSeen) : Type 0 where
-  pub calls : IsOpened path keeper.calls later.calls false
-  pub told : IfSome later.held (λ held. loaded ≡ held.sheets)
-  pub held : AreHeldMigrated keeper.held later.held
-  pub count : later.faults ≡ keeper.faults
+pub record IsLoaded (path : List ℕ) (loaded : Texts) (old new : KeeperSeen) : Type 0 where
+  pub calls : IsOpened path old.calls new.calls false
+  pub told : IfSome new.held (λ held. loaded ≡ held.sheets)
+  pub held : AreHeldMigrated old.held new.held
+  pub count : new.faults ≡ old.faults
 
 -- it was bound to the path and asked for its rows, and gave these, which are those that it holds, where it tells them
-pub record GivesRows (path : List ℕ) (rows : List Row) (keeper later : KeeperSeen) : Type 0 where
-  pub calls : IsAskedRows path keeper.calls later.calls false
-  pub told : IfSome keeper.held (λ held. rows ≡ held.rows)
-  pub held : later.held ≡ keeper.held
-  pub count : later.faults ≡ keeper.faults
+pub record GivesRows (path : List ℕ) (rows : List Row) (old new : KeeperSeen) : Type 0 where
+  pub calls : IsAskedRows path old.calls new.calls false
+  pub told : IfSome old.held (λ held. rows ≡ held.rows)
+  pub held : new.held ≡ old.held
+  pub count : new.faults ≡ old.faults
 
 -- as before, or each record of the first version replaced
 abbrev pub MayBeMigrated : (before after : Option Held) → Type 0
 MayBeMigrated before after = (after ≡ before) ⊎ AreHeldMigrated before after
 
--- it could not be bound to the path, not be migrated or not be loaded: its count of faults rose. What it holds is as before where it was not migrated
-pub record IsNotLoaded (path : List ℕ) (keeper later : KeeperSeen) : Type 0 where
-  pub calls : IsOpened path keeper.calls later.calls true
-  pub held : MayBeMigrated keeper.held later.held
-  pub early : IfSome keeper.calls (λ calls. refuses_rows calls ≡ true → later.held ≡ keeper.held)
-  pub rose : Rose keeper.faults later.faults
+-- it could not be bound to the path, not be migrated or not be loaded: its count of faults rose. Where it tells its calls, what it holds is as before if it was not
+-- migrated, and else each record of the first version was replaced
+pub record IsNotLoaded (path : List ℕ) (old new : KeeperSeen) : Type 0 where
+  pub calls : IsOpened path old.calls new.calls true
+  pub held : MayBeMigrated old.held new.held
+  pub early : IfSome old.calls (λ calls. refuses_rows calls ≡ true → new.held ≡ old.held)
+  pub late : IfSome old.calls (λ calls. refuses_rows calls ≡ false → AreHeldMigrated old.held new.held)
+  pub rose : Rose old.faults new.faults
 
 -- it could not be bound to the path, or not give its rows: its count of faults rose, and what it holds is as before
-pub record GivesNoRows (path : List ℕ) (keeper later : KeeperSeen) : Type 0 where
-  pub calls : IsAskedRows path keeper.calls later.calls true
-  pub held : later.held ≡ keeper.held
-  pub rose : Rose keeper.faults later.faults
+pub record GivesNoRows (path : List ℕ) (old new : KeeperSeen) : Type 0 where
+  pub calls : IsAskedRows path old.calls new.calls true
+  pub held : new.held ≡ old.held
+  pub rose : Rose old.faults new.faults
 
 -- memory ran out in these calls, or behind them: it was asked to bind the path, or bound to it and then asked, and refused none of them
 abbrev pub MayBeAsked : (path : List ℕ) → Option KeeperCalls → Option KeeperCalls → Type 0
@@ -94,16 +88,16 @@ MayBeOpened path None after = after ≡ None
 MayBeOpened path (Some calls) after = MayBeAsked path (Some calls) after ⊎ IsOpened path (Some calls) after false
 
 -- and nothing else was asked of it
-pub record IsOnlyOpened (path : List ℕ) (keeper later : KeeperSeen) : Type 0 where
-  pub calls : MayBeOpened path keeper.calls later.calls
-  pub held : MayBeMigrated keeper.held later.held
-  pub count : later.faults ≡ keeper.faults
+pub record IsOnlyOpened (path : List ℕ) (old new : KeeperSeen) : Type 0 where
+  pub calls : MayBeOpened path old.calls new.calls
+  pub held : MayBeMigrated old.held new.held
+  pub count : new.faults ≡ old.faults
 
 -- the same where its rows are asked
-pub record IsOnlyAsked (path : List ℕ) (keeper later : KeeperSeen) : Type 0 where
-  pub calls : MayBeAsked path keeper.calls later.calls
-  pub held : later.held ≡ keeper.held
-  pub count : later.faults ≡ keeper.faults
+pub record IsOnlyAsked (path : List ℕ) (old new : KeeperSeen) : Type 0 where
+  pub calls : MayBeAsked path old.calls new.calls
+  pub held : new.held ≡ old.held
+  pub count : new.faults ≡ old.faults
 
 -- ---- in a run
 

@@ -5,7 +5,7 @@ use Rattle.mmtel_in_force.specs.Texts.{Texts}
 use Rattle.mmtel_link.specs.Told.{Ear}
 use Rattle.mmtel_outside.specs.declared.events.Offer.{Offer}
 use Rattle.mmtel_script.specs.Script.{unheard}
-use Rattle.mmtel_cli.specs.Keeping.{KeeperSeen}
+use Rattle.mmtel_server.specs.Seen.{KeeperSeen}
 use Rattle.mmtel_cli.specs.Listings.{OffersRun}
 use Rattle.mmtel_cli.specs.Stopped.{StoppedRun}
 
@@ -19,11 +19,11 @@ IsUnheard events None = ⊥
 IsUnheard events (Some ear) = (ear ≡ unheard ear.events) × (length ear.events ≤ events)
 
 -- what the server offered in the run of all of its events
-abbrev pub OffersAllOf : Option Ear → Directory → (token : List ℕ) → (loaded : Texts) → (keeper later : KeeperSeen) → List Offer → Type 0
-OffersAllOf None directory token loaded keeper later offers = ⊥
-OffersAllOf (Some ear) directory token loaded keeper later offers = OffersRun directory token loaded ear.events keeper later offers
+abbrev pub OffersAllOf : Option Ear → Directory → (token : List ℕ) → (loaded : Texts) → (old new : KeeperSeen) → List Offer → Type 0
+OffersAllOf None directory token loaded old new offers = ⊥
+OffersAllOf (Some ear) directory token loaded old new offers = OffersRun directory token loaded ear.events old new offers
 
 -- or memory ran out in that run
-abbrev pub StopsAllOf : Option Ear → Directory → (token : List ℕ) → (loaded : Texts) → (keeper later : KeeperSeen) → Type 0
-StopsAllOf None directory token loaded keeper later = ⊥
-StopsAllOf (Some ear) directory token loaded keeper later = StoppedRun directory token loaded ear.events keeper later
+abbrev pub StopsAllOf : Option Ear → Directory → (token : List ℕ) → (loaded : Texts) → (old new : KeeperSeen) → Type 0
+StopsAllOf None directory token loaded old new = ⊥
+StopsAllOf (Some ear) directory token loaded old new = StoppedRun directory token loaded ear.events old new

@@ -1,6 +1,8 @@
 -- What public clauses cite, which a user of the crate has to believe.
 -- What the words ask for:
 pub mod Asks
+-- What is seen of the link and of the keeper:
+pub mod Outside
 -- A whole run: what was written, answered and asked of the files, the keeper and the link, and offered; and what follows of each status:
 pub mod Runs
 pub mod Listings

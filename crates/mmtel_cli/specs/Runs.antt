@@ -18,65 +18,62 @@ use Rattle.mmtel_run_laws.specs.Rows.{SeatsAreChargedOnce}
 use Rattle.mmtel_run_laws.specs.Secret.{BranchesAreRead}
 use Rattle.mmtel_listing.specs.Listing.{listing_of}
 use Rattle.mmtel_script.specs.Script.{events_of}
+use Rattle.mmtel_server.specs.Seen.{KeeperSeen}
 use Rattle.mmtel_uploads.specs.Uploads.{upload_of}
 use Rattle.mmtel_uploads.specs.declared.uploads.Upload.{Upload}
 use Rattle.mmtel_uploads.specs.declared.uploads.Upload.TheVariants as upload
 use Rattle.mmtel_words.specs.CommandLine.{Asked, Serve, Replay, Check, Charges, Workload}
 use Rattle.mmtel_cli.specs.Asks.{IsServe, IsReplay, IsCheck, IsCharges, IsWorkload, IsOnly, SpellsNone}
 use Rattle.mmtel_cli.specs.Due.{due_of_charges, due_of_config, shelf_of_config}
-use Rattle.mmtel_reports.specs.Ends.{Wrote, WroteListing, WroteNothing, line_text}
-use Rattle.mmtel_cli.specs.Keeping.{GivesNoRows, GivesRows, IsLoaded, IsNotLoaded, KeeperSeen}
+use Rattle.mmtel_reports.specs.Ends.{Said, WroteListing, WroteNothing, Written, line_text}
+use Rattle.mmtel_cli.specs.Keeping.{GivesNoRows, GivesRows, IsLoaded, IsNotLoaded}
 use Rattle.mmtel_cli.specs.Listings.{OffersRun}
-use Rattle.mmtel_cli.specs.Serving.{LinkFails, LinkSeen, ServesLink}
+use Rattle.mmtel_cli.specs.Outside.{Outside}
+use Rattle.mmtel_cli.specs.Serving.{LinkFails, ServesLink}
 use Rattle.mmtel_cli.specs.Stopped.{HasStopped, StopsOfServe}
 use Rattle.mmtel_cli.specs.Workloads.{Counts, work_config}
 
 -- ---- what was written, and the status
 
--- this text, with this status
-abbrev pub Said : List ℕ → ℕ → ℕ → Option (List ℕ) → Option (List ℕ) → ℕ → ℕ → Type 0
-Said text wanted status before after faults now = (status ≡ wanted) × Wrote text before after faults now
-
 -- want of memory: status 8, and `memory`
-abbrev pub WroteMemory : ℕ → Option (List ℕ) → Option (List ℕ) → ℕ → ℕ → Type 0
-WroteMemory status before after faults now = Said (codes "memory\n") 8 status before after faults now
+abbrev pub WroteMemory : Written → Type 0
+WroteMemory written = Said (codes "memory\n") 8 written
 
 -- no words of the command: status 1, and `usage`
-abbrev pub WroteUsage : ℕ → Option (List ℕ) → Option (List ℕ) → ℕ → ℕ → Type 0
-WroteUsage status before after faults now = Said (codes "usage\n") 1 status before after faults now
+abbrev pub WroteUsage : Written → Type 0
+WroteUsage written = Said (codes "usage\n") 1 written
 
 -- the first line that breaks a grammar: status 2, and its number
-abbrev pub WroteLine : ℕ → ℕ → Option (List ℕ) → Option (List ℕ) → ℕ → ℕ → Type 0
-WroteLine line status before after faults now = Said (line_text line) 2 status before after faults now
+abbrev pub WroteLine : ℕ → Written → Type 0
+WroteLine line written = Said (line_text line) 2 written
 
 -- a file that could not be read: status 5, and `file`
-abbrev pub WroteFile : ℕ → Option (List ℕ) → Option (List ℕ) → ℕ → ℕ → Type 0
-WroteFile status before after faults now = Said (codes "file\n") 5 status before after faults now
+abbrev pub WroteFile : Written → Type 0
+WroteFile written = Said (codes "file\n") 5 written
 
 -- a keeper that could not be bound, or not be migrated, not be loaded or not give its rows: status 6, and `keeper`
-abbrev pub WroteKeeper : ℕ → Option (List ℕ) → Option (List ℕ) → ℕ → ℕ → Type 0
-WroteKeeper status before after faults now = Said (codes "keeper\n") 6 status before after faults now
+abbrev pub WroteKeeper : Written → Type 0
+WroteKeeper written = Said (codes "keeper\n") 6 written
 
 -- a link that could not be bound, or not take in what comes next: status 4, and `link`
-abbrev pub WroteLink : ℕ → Option (List ℕ) → Option (List ℕ) → ℕ → ℕ → Type 0
-WroteLink status before after faults now = Said (codes "link\n") 4 status before after faults now
+abbrev pub WroteLink : Written → Type 0
+WroteLink written = Said (codes "link\n") 4 written
 
 -- a file that is no service record: status 3, and the line that tells its first fault
-abbrev pub WroteFault : List ℕ → ℕ → Option (List ℕ) → Option (List ℕ) → ℕ → ℕ → Type 0
-WroteFault line status before after faults now = Said line 3 status before after faults now
+abbrev pub WroteFault : List ℕ → Written → Type 0
+WroteFault line written = Said line 3 written
 
 -- ---- what was offered
 
 -- the run of these events was listed
-pub record Listed (directory : Directory) (token : List ℕ) (events : List Event) (keeper later : KeeperSeen) (status : ℕ)
-    (before after : Option (List ℕ)) (faults now : ℕ) : Type 0 where
+pub record Listed (directory : Directory) (token : List ℕ) (events : List Event) (old new : KeeperSeen) (written : Written) : Type 0 where
   -- the keeper was bound to the store of the configuration, migrated, and gave these texts,
   pub loaded : Texts
   pub opening : KeeperSeen
-  pub opened : IsLoaded directory.store loaded keeper opening
+  pub opened : IsLoaded directory.store loaded old opening
   -- this is what the server offered over them,
   pub offers : List Offer
-  pub run : OffersRun directory token loaded events opening later offers
+  pub run : OffersRun directory token loaded events opening new offers
   -- the branches that the server draws are read as they are written, which the secret of the run asks for;
   pub branches : BranchesAreRead directory token
   -- where the run is short, each of its calls came to what the precedence of services makes of how its attempts ended and of how things stood when it reached each target,
@@ -87,106 +84,93 @@ pub record Listed (directory : Directory) (token : List ℕ) (events : List Even
   -- each message that was built has its own lines and nobody else's, and what was offered to peers are the texts of these,
   pub clean : IsShortRun directory token loaded run.happened → SendsCleanMessages directory token loaded run.happened
   -- and its listing was written: whole with status 0, and else a front of it with status 7
-  pub written : WroteListing (listing_of offers) status before after faults now
+  pub wrote : WroteListing (listing_of offers) written
 
 -- ---- how a run ends, by what the files answer
 
 -- once the script was read: the run was listed, or the keeper could not be bound to the store of the configuration, not be migrated or not be loaded
-abbrev pub EndsOfEvents : Directory → List ℕ → Result (List Event) ℕ → (keeper later : KeeperSeen) → ℕ → Option (List ℕ) → Option (List ℕ) → ℕ → ℕ → Type 0
-EndsOfEvents directory token (Ok events) keeper later status before after faults now =
-    Listed directory token events keeper later status before after faults now
-    ⊎ (IsNotLoaded directory.store keeper later × WroteKeeper status before after faults now)
-EndsOfEvents directory token (Err line) keeper later status before after faults now = WroteLine line status before after faults now
+abbrev pub EndsOfEvents : Directory → List ℕ → Result (List Event) ℕ → (old new : KeeperSeen) → Written → Type 0
+EndsOfEvents directory token (Ok events) old new written =
+    Listed directory token events old new written ⊎ (IsNotLoaded directory.store old new × WroteKeeper written)
+EndsOfEvents directory token (Err line) old new written = WroteLine line written
 
 -- once the script was asked for
-abbrev pub EndsOfScript : Directory → List ℕ → Option (List ℕ) → (keeper later : KeeperSeen) → ℕ → Option (List ℕ) → Option (List ℕ) → ℕ → ℕ → Type 0
-EndsOfScript directory token None keeper later status before after faults now = WroteFile status before after faults now
-EndsOfScript directory token (Some script) keeper later status before after faults now =
-    EndsOfEvents directory token (events_of directory.peers.known script) keeper later status before after faults now
+abbrev pub EndsOfScript : Directory → List ℕ → Option (List ℕ) → (old new : KeeperSeen) → Written → Type 0
+EndsOfScript directory token None old new written = WroteFile written
+EndsOfScript directory token (Some script) old new written = EndsOfEvents directory token (events_of directory.peers.known script) old new written
 
 -- once the configuration was read; `script` is what the files answer for the script
-abbrev pub EndsOfDirectory : Result Directory ℕ → List ℕ → Option (List ℕ) → (keeper later : KeeperSeen) → ℕ → Option (List ℕ) → Option (List ℕ) → ℕ → ℕ → Type 0
-EndsOfDirectory (Ok directory) token script keeper later status before after faults now = EndsOfScript directory token script keeper later status before after faults now
-EndsOfDirectory (Err line) token script keeper later status before after faults now = WroteLine line status before after faults now
+abbrev pub EndsOfDirectory : Result Directory ℕ → List ℕ → Option (List ℕ) → (old new : KeeperSeen) → Written → Type 0
+EndsOfDirectory (Ok directory) token script old new written = EndsOfScript directory token script old new written
+EndsOfDirectory (Err line) token script old new written = WroteLine line written
 
 -- once the configuration was asked for
-abbrev pub EndsOfConfig : Option (List ℕ) → List ℕ → Option (List ℕ) → (keeper later : KeeperSeen) → ℕ → Option (List ℕ) → Option (List ℕ) → ℕ → ℕ → Type 0
-EndsOfConfig None token script keeper later status before after faults now = WroteFile status before after faults now
-EndsOfConfig (Some config) token script keeper later status before after faults now =
-    EndsOfDirectory (directory_of config) token script keeper later status before after faults now
+abbrev pub EndsOfConfig : Option (List ℕ) → List ℕ → Option (List ℕ) → (old new : KeeperSeen) → Written → Type 0
+EndsOfConfig None token script old new written = WroteFile written
+EndsOfConfig (Some config) token script old new written = EndsOfDirectory (directory_of config) token script old new written
 
 -- ---- how a check ends
 
 -- of a text that is a service record, or is none (3GPP TS 24.623 §5)
-abbrev pub EndsOfUpload : Upload → ℕ → Option (List ℕ) → Option (List ℕ) → ℕ → ℕ → Type 0
-EndsOfUpload (upload.Accepted sheet) status before after faults now = WroteListing (codes "ok\n") status before after faults now
-EndsOfUpload (upload.Refused line) status before after faults now = WroteFault line status before after faults now
+abbrev pub EndsOfUpload : Upload → Written → Type 0
+EndsOfUpload (upload.Accepted sheet) written = WroteListing (codes "ok\n") written
+EndsOfUpload (upload.Refused line) written = WroteFault line written
 
 -- once the file was asked for
-abbrev pub EndsOfRecords : Option (List ℕ) → ℕ → Option (List ℕ) → Option (List ℕ) → ℕ → ℕ → Type 0
-EndsOfRecords None status before after faults now = WroteFile status before after faults now
-EndsOfRecords (Some text) status before after faults now = EndsOfUpload (upload_of text) status before after faults now
+abbrev pub EndsOfRecords : Option (List ℕ) → Written → Type 0
+EndsOfRecords None written = WroteFile written
+EndsOfRecords (Some text) written = EndsOfUpload (upload_of text) written
 
 -- ---- how the writing of a keeper's rows ends
 
 -- the keeper was bound to the store and gave these rows, and their text was written: whole with status 0, and else a front of it with status 7 (RFC 4180, 3GPP TS 32.260 §5)
-pub record ListedRows (store : List ℕ) (keeper later : KeeperSeen) (status : ℕ) (before after : Option (List ℕ)) (faults now : ℕ) : Type 0 where
+pub record ListedRows (store : List ℕ) (old new : KeeperSeen) (written : Written) : Type 0 where
   pub rows : List Row
-  pub given : GivesRows store rows keeper later
-  pub written : WroteListing (text_of rows) status before after faults now
+  pub given : GivesRows store rows old new
+  pub wrote : WroteListing (text_of rows) written
 
 -- once the configuration was read: its store's rows were written, or the keeper could not be bound to it or not give them
-abbrev pub EndsOfStore : Result Directory ℕ → (keeper later : KeeperSeen) → ℕ → Option (List ℕ) → Option (List ℕ) → ℕ → ℕ → Type 0
-EndsOfStore (Ok directory) keeper later status before after faults now =
-    ListedRows directory.store keeper later status before after faults now
-    ⊎ (GivesNoRows directory.store keeper later × WroteKeeper status before after faults now)
-EndsOfStore (Err line) keeper later status before after faults now = WroteLine line status before after faults now
+abbrev pub EndsOfStore : Result Directory ℕ → (old new : KeeperSeen) → Written → Type 0
+EndsOfStore (Ok directory) old new written =
+    ListedRows directory.store old new written ⊎ (GivesNoRows directory.store old new × WroteKeeper written)
+EndsOfStore (Err line) old new written = WroteLine line written
 
 -- once the configuration was asked for
-abbrev pub EndsOfCharges : Option (List ℕ) → (keeper later : KeeperSeen) → ℕ → Option (List ℕ) → Option (List ℕ) → ℕ → ℕ → Type 0
-EndsOfCharges None keeper later status before after faults now = WroteFile status before after faults now
-EndsOfCharges (Some config) keeper later status before after faults now = EndsOfStore (directory_of config) keeper later status before after faults now
+abbrev pub EndsOfCharges : Option (List ℕ) → (old new : KeeperSeen) → Written → Type 0
+EndsOfCharges None old new written = WroteFile written
+EndsOfCharges (Some config) old new written = EndsOfStore (directory_of config) old new written
 
 -- ---- how a workload ends
 
 -- the text counts what a server of its configuration makes of so many calls by the salt, and was written: whole with status 0, and else a front of it with status 7
-pub record Counted (directory : Directory) (calls salt : ℕ) (status : ℕ) (before after : Option (List ℕ)) (faults now : ℕ) : Type 0 where
+pub record Counted (directory : Directory) (calls salt : ℕ) (written : Written) : Type 0 where
   pub text : List ℕ
   pub counts : Counts directory calls salt text
-  pub written : WroteListing text status before after faults now
+  pub wrote : WroteListing text written
 
 -- ---- how serving ends
 
 -- the turns were made, or the link was closed: the link was served over what the keeper gave, as the definitions of the run say (`ServesRun`), and nothing was written
-pub record ServedLink (directory : Directory) (token : List ℕ) (turns : ℕ) (link far : LinkSeen) (keeper later : KeeperSeen) (status : ℕ)
-    (before after : Option (List ℕ)) (faults now : ℕ) : Type 0 where
+pub record ServedLink (directory : Directory) (token : List ℕ) (turns : ℕ) (old new : Outside) (written : Written) : Type 0 where
   pub closed : Bool
-  pub serves : ServesLink directory token turns link far keeper later (Ok closed)
-  pub written : WroteNothing status before after faults now
+  pub serves : ServesLink directory token turns old new (Ok closed)
+  pub wrote : WroteNothing written
 
 -- or the link could not be bound or not take in what comes next; or the keeper could not be bound to the store of the configuration, not be migrated or not be loaded
-pub data EndsServing (directory : Directory) (token : List ℕ) (turns : ℕ) (link far : LinkSeen) (keeper later : KeeperSeen) (status : ℕ)
-    (before after : Option (List ℕ)) (faults now : ℕ) : Type 0 where
-  EndsServed : ServedLink directory token turns link far keeper later status before after faults now →
-      EndsServing directory token turns link far keeper later status before after faults now
-  EndsUnlinked : LinkFails directory token turns link far keeper later → WroteLink status before after faults now →
-      EndsServing directory token turns link far keeper later status before after faults now
-  EndsUnkept : IsNotLoaded directory.store keeper later → WroteKeeper status before after faults now →
-      EndsServing directory token turns link far keeper later status before after faults now
+pub data EndsServing (directory : Directory) (token : List ℕ) (turns : ℕ) (old new : Outside) (written : Written) : Type 0 where
+  EndsServed : ServedLink directory token turns old new written → EndsServing directory token turns old new written
+  EndsUnlinked : LinkFails directory token turns old new → WroteLink written → EndsServing directory token turns old new written
+  EndsUnkept : IsNotLoaded directory.store old.keeper new.keeper → WroteKeeper written → EndsServing directory token turns old new written
 
 -- once the configuration was read
-abbrev pub EndsOfServing : Result Directory ℕ → (token : List ℕ) → (turns : ℕ) → (link far : LinkSeen) → (keeper later : KeeperSeen) → ℕ →
-    Option (List ℕ) → Option (List ℕ) → ℕ → ℕ → Type 0
-EndsOfServing (Ok directory) token turns link far keeper later status before after faults now =
-    EndsServing directory token turns link far keeper later status before after faults now
-EndsOfServing (Err line) token turns link far keeper later status before after faults now = WroteLine line status before after faults now
+abbrev pub EndsOfServing : Result Directory ℕ → (token : List ℕ) → (turns : ℕ) → (old new : Outside) → Written → Type 0
+EndsOfServing (Ok directory) token turns old new written = EndsServing directory token turns old new written
+EndsOfServing (Err line) token turns old new written = WroteLine line written
 
 -- once it was asked for
-abbrev pub EndsOfServe : Option (List ℕ) → (token : List ℕ) → (turns : ℕ) → (link far : LinkSeen) → (keeper later : KeeperSeen) → ℕ →
-    Option (List ℕ) → Option (List ℕ) → ℕ → ℕ → Type 0
-EndsOfServe None token turns link far keeper later status before after faults now = WroteFile status before after faults now
-EndsOfServe (Some config) token turns link far keeper later status before after faults now =
-    EndsOfServing (directory_of config) token turns link far keeper later status before after faults now
+abbrev pub EndsOfServe : Option (List ℕ) → (token : List ℕ) → (turns : ℕ) → (old new : Outside) → Written → Type 0
+EndsOfServe None token turns old new written = WroteFile written
+EndsOfServe (Some config) token turns old new written = EndsOfServing (directory_of config) token turns old new written
 
 -- ---- a run
 
@@ -198,69 +182,67 @@ pub record Answered (told : Option Shelf) (asked : Asked) : Type 0 where
   pub told_script : IfSome told (λ shelf. script ≡ answer_at (called shelf) asked.script)
 
 -- the words spell a `replay`, and it ended as the files' answers and the keeper's say; or memory ran out, where the keeper had been asked so much (`Stopped`)
-pub record Replayed (told : Option Shelf) (keeper later : KeeperSeen) (words : List (List ℕ)) (status : ℕ) (before after : Option (List ℕ)) (faults now : ℕ) : Type 0 where
+pub record Replayed (told : Option Shelf) (old new : KeeperSeen) (words : List (List ℕ)) (written : Written) : Type 0 where
   pub asked : Asked
   pub spelled : IsOnly (Replay asked) words
   pub answers : Answered told asked
-  pub ends : EndsOfConfig answers.config asked.token answers.script keeper later status before after faults now ⊎ WroteMemory status before after faults now
-  pub stopped : status ≡ 8 → HasStopped keeper later (due_of_config answers.config asked.token answers.script)
+  pub ends : EndsOfConfig answers.config asked.token answers.script old new written ⊎ WroteMemory written
+  pub stopped : written.status ≡ 8 → HasStopped old new (due_of_config answers.config asked.token answers.script)
 
 -- the words spell a `check`, and it ended as the files' answer for RECORDS says, which is that of the first call where the files tell; or memory ran out
-pub record Checked (told : Option Shelf) (words : List (List ℕ)) (status : ℕ) (before after : Option (List ℕ)) (faults now : ℕ) : Type 0 where
+pub record Checked (told : Option Shelf) (words : List (List ℕ)) (written : Written) : Type 0 where
   pub records : List ℕ
   pub spelled : IsOnly (Check records) words
   pub text : Option (List ℕ)
   pub told_text : IfSome told (λ shelf. text ≡ answer_at shelf records)
-  pub ends : EndsOfRecords text status before after faults now ⊎ WroteMemory status before after faults now
+  pub ends : EndsOfRecords text written ⊎ WroteMemory written
 
 -- the words spell a `charges`, and it ended as the files' answer for CONFIG, which is that of the first call where the files tell, and the keeper's say; or memory ran out,
 -- where the keeper had been asked so much; whatever the status, it holds what it held
-pub record Charged (told : Option Shelf) (keeper later : KeeperSeen) (words : List (List ℕ)) (status : ℕ) (before after : Option (List ℕ)) (faults now : ℕ) : Type 0 where
+pub record Charged (told : Option Shelf) (old new : KeeperSeen) (words : List (List ℕ)) (written : Written) : Type 0 where
   pub config : List ℕ
   pub spelled : IsOnly (Charges config) words
   pub text : Option (List ℕ)
   pub told_text : IfSome told (λ shelf. text ≡ answer_at shelf config)
-  pub ends : EndsOfCharges text keeper later status before after faults now ⊎ WroteMemory status before after faults now
-  pub stopped : status ≡ 8 → HasStopped keeper later (due_of_charges text)
-  pub held : later.held ≡ keeper.held
+  pub ends : EndsOfCharges text old new written ⊎ WroteMemory written
+  pub stopped : written.status ≡ 8 → HasStopped old new (due_of_charges text)
+  pub held : new.held ≡ old.held
 
 -- the words spell a `workload`; its configuration is of the grammar, so no line of that is told, and it ended so; or memory ran out
-pub record Worked (words : List (List ℕ)) (status : ℕ) (before after : Option (List ℕ)) (faults now : ℕ) : Type 0 where
+pub record Worked (words : List (List ℕ)) (written : Written) : Type 0 where
   pub calls : ℕ
   pub salt : ℕ
   pub spelled : IsOnly (Workload calls salt) words
   pub directory : Directory
   pub reads : directory_of work_config ≡ Ok directory
-  pub ends : Counted directory calls salt status before after faults now ⊎ WroteMemory status before after faults now
+  pub ends : Counted directory calls salt written ⊎ WroteMemory written
 
 -- the words spell a `serve`, and it ended as the files' answer for CONFIG, which is that of the first call where the files tell, and the keeper's and the link's say; or memory
 -- ran out, where so much had been done
-pub record HasServed (told : Option Shelf) (link far : LinkSeen) (keeper later : KeeperSeen) (words : List (List ℕ)) (status : ℕ)
-    (before after : Option (List ℕ)) (faults now : ℕ) : Type 0 where
+pub record HasServed (told : Option Shelf) (old new : Outside) (words : List (List ℕ)) (written : Written) : Type 0 where
   pub config : List ℕ
   pub token : List ℕ
   pub turns : ℕ
   pub spelled : IsOnly (Serve config token turns) words
   pub text : Option (List ℕ)
   pub told_text : IfSome told (λ shelf. text ≡ answer_at shelf config)
-  pub ends : EndsOfServe text token turns link far keeper later status before after faults now ⊎ WroteMemory status before after faults now
-  pub stopped : status ≡ 8 → StopsOfServe text token turns link far keeper later
+  pub ends : EndsOfServe text token turns old new written ⊎ WroteMemory written
+  pub stopped : written.status ≡ 8 → StopsOfServe text token turns old new
 
 -- the words spell no command
-pub record Refused (words : List (List ℕ)) (status : ℕ) (before after : Option (List ℕ)) (faults now : ℕ) : Type 0 where
+pub record Refused (words : List (List ℕ)) (written : Written) : Type 0 where
   pub none : SpellsNone words
-  pub said : WroteUsage status before after faults now
+  pub said : WroteUsage written
 
 -- one of these; or memory ran out in reading the words, and nothing was asked of the keeper and of the link
-pub data Ran (told : Option Shelf) (link far : LinkSeen) (keeper later : KeeperSeen) (words : List (List ℕ)) (status : ℕ)
-    (before after : Option (List ℕ)) (faults now : ℕ) : Type 0 where
-  RanServe : HasServed told link far keeper later words status before after faults now → Ran told link far keeper later words status before after faults now
-  RanReplay : Replayed told keeper later words status before after faults now → Ran told link far keeper later words status before after faults now
-  RanCheck : Checked told words status before after faults now → Ran told link far keeper later words status before after faults now
-  RanCharges : Charged told keeper later words status before after faults now → Ran told link far keeper later words status before after faults now
-  RanWork : Worked words status before after faults now → Ran told link far keeper later words status before after faults now
-  RanNone : Refused words status before after faults now → Ran told link far keeper later words status before after faults now
-  RanShort : WroteMemory status before after faults now → later ≡ keeper → far ≡ link → Ran told link far keeper later words status before after faults now
+pub data Ran (told : Option Shelf) (old new : Outside) (words : List (List ℕ)) (written : Written) : Type 0 where
+  RanServe : HasServed told old new words written → Ran told old new words written
+  RanReplay : Replayed told old.keeper new.keeper words written → Ran told old new words written
+  RanCheck : Checked told words written → Ran told old new words written
+  RanCharges : Charged told old.keeper new.keeper words written → Ran told old new words written
+  RanWork : Worked words written → Ran told old new words written
+  RanNone : Refused words written → Ran told old new words written
+  RanShort : WroteMemory written → new.keeper ≡ old.keeper → new.link ≡ old.link → Ran told old new words written
 
 -- ---- the calls of files
 

@@ -3,7 +3,7 @@ use Rattle.std.specs.Prelude.{◌≡◌, ◌≢◌, ◌⊎◌, ℕ, Bool, true, 
 use Rattle.mmtel_directory.specs.declared.directories.Directory.{Directory}
 use Rattle.mmtel_giving.specs.Giving.{Gave, LostNoMore, IsBoundStill as ListensStill}
 use Rattle.mmtel_in_force.specs.Texts.{Texts}
-use Rattle.mmtel_link.specs.Told.{Ear, Given, LinkCalls, called, fails_next}
+use Rattle.mmtel_link.specs.Told.{LinkCalls, called, fails_next}
 use Rattle.mmtel_outside.specs.Counts.{Rose}
 use Rattle.mmtel_outside.specs.declared.events.Offer.{Offer}
 use Rattle.mmtel_run.specs.Events.{Happened, events_in}
@@ -16,25 +16,16 @@ use Rattle.mmtel_run_laws.specs.Seen.{texts_seen}
 use Rattle.mmtel_run_laws.specs.Secret.{BranchesAreRead, SeesAlike}
 use Rattle.mmtel_serve.specs.Served.{ReadsAll, SentTo}
 use Rattle.mmtel_server.specs.Driven.{EachAnswers, EachCounted, EndsAfter, HasDriveCause, HasFailedByNumber, HeardMore, StandsOrRose}
+use Rattle.mmtel_server.specs.Seen.{LinkSeen}
 use Rattle.mmtel_server.specs.declared.driving.DriveFault.{DriveFault}
 use Rattle.mmtel_server.specs.declared.driving.DriveFault.TheVariants.{LinkFault}
 use Rattle.mmtel_trust.specs.Peers.{addr_of}
 use Rattle.mmtel_types.specs.declared.addrs.Addr.{Addr}
 use Rattle.mmtel_types.specs.declared.numbers.Peer.{Peer}
 use Rattle.mmtel_cli.specs.Asks.{IsServe}
-use Rattle.mmtel_cli.specs.Keeping.{IsBoundStill, IsLoaded, KeeperSeen}
+use Rattle.mmtel_cli.specs.Keeping.{IsBoundStill, IsLoaded}
 use Rattle.mmtel_cli.specs.Listings.{ChargesAll, HoldsAll}
-
--- what is seen of a link: what it heard, what it was given and its calls, where it tells them, and the counts of its faults of taking in and of giving out
-pub record LinkSeen : Type 0 where
-  pub ear : Option Ear
-  pub given : Option Given
-  pub calls : Option LinkCalls
-  pub taking : ℕ
-  pub giving : ℕ
-
-abbrev pub line_seen : Option Ear → Option Given → Option LinkCalls → (taking giving : ℕ) → LinkSeen
-line_seen ear given calls taking giving = record { ear = ear; given = given; calls = calls; taking = taking; giving = giving }
+use Rattle.mmtel_cli.specs.Outside.{Outside}
 
 -- ---- binding
 
@@ -46,52 +37,52 @@ IsBindCall directory (Some calls) after false =
 IsBindCall directory (Some calls) after true = (after ≡ Some (called calls)) × (fails_next calls ≡ true)
 
 -- it was bound to the addresses of the configuration, for datagrams and for web connections; nothing came then, and it was given nothing
-pub record IsLinked (directory : Directory) (link later : LinkSeen) : Type 0 where
-  pub calls : IsBindCall directory link.calls later.calls false
-  pub heard : later.ear ≡ link.ear
-  pub given : later.given ≡ link.given
-  pub taking : later.taking ≡ link.taking
-  pub giving : later.giving ≡ link.giving
+pub record IsLinked (directory : Directory) (old new : LinkSeen) : Type 0 where
+  pub calls : IsBindCall directory old.calls new.calls false
+  pub heard : new.ear ≡ old.ear
+  pub given : new.given ≡ old.given
+  pub taking : new.taking ≡ old.taking
+  pub giving : new.giving ≡ old.giving
 
 -- it could not be bound to them: its count of taking in rose, and else it is as before
-pub record IsNotLinked (directory : Directory) (link later : LinkSeen) : Type 0 where
-  pub calls : IsBindCall directory link.calls later.calls true
-  pub heard : later.ear ≡ link.ear
-  pub given : later.given ≡ link.given
-  pub rose : Rose link.taking later.taking
-  pub giving : later.giving ≡ link.giving
+pub record IsNotLinked (directory : Directory) (old new : LinkSeen) : Type 0 where
+  pub calls : IsBindCall directory old.calls new.calls true
+  pub heard : new.ear ≡ old.ear
+  pub given : new.given ≡ old.given
+  pub rose : Rose old.taking new.taking
+  pub giving : new.giving ≡ old.giving
 
 -- ---- serving
 
 -- what was heard of a link in so many turns at most, made of it over the texts that were loaded and a keeper, and given to it
-pub record ServesRun (directory : Directory) (token : List ℕ) (loaded : Texts) (turns : ℕ) (link later : LinkSeen) (keeper after : KeeperSeen)
+pub record ServesRun (directory : Directory) (token : List ℕ) (loaded : Texts) (turns : ℕ) (old new : Outside)
     (result : Result Bool DriveFault) : Type 0 where
   -- this happened: where the link tells what it hears it heard exactly these events more, one a turn, of web connections the bytes that were read;
   pub happened : List Happened
-  pub heard : HeardMore link.ear later.ear (events_in happened)
-  pub read : ReadsAll link.ear later.ear link.given later.given link.giving later.giving result
-  pub ends : EndsAfter turns later.ear (length happened) result
+  pub heard : HeardMore old.link.ear new.link.ear (events_in happened)
+  pub read : ReadsAll old.link new.link result
+  pub ends : EndsAfter turns new.link.ear (length happened) result
   -- it is bound to where it was; its count of taking in rose at a fault alone, which, where it tells its calls, comes by the number of the last of them; and something that it
   -- was given was lost only where its count of giving out rose;
-  pub listens : ListensStill link.calls later.calls
-  pub cause : HasDriveCause link.taking later.taking result
-  pub number : HasFailedByNumber later.calls result
-  pub lost : LostNoMore link.given later.given ⊎ Rose link.giving later.giving
-  pub giving : StandsOrRose link.giving later.giving
-  pub counted : EachCounted happened keeper.faults after.faults
+  pub listens : ListensStill old.link.calls new.link.calls
+  pub cause : HasDriveCause old.link.taking new.link.taking result
+  pub number : HasFailedByNumber new.link.calls result
+  pub lost : LostNoMore old.link.given new.link.given ⊎ Rose old.link.giving new.link.giving
+  pub giving : StandsOrRose old.link.giving new.link.giving
+  pub counted : EachCounted happened old.keeper.faults new.keeper.faults
   -- where the run is short the link was given exactly what the definitions of the run give, each datagram at the address of its peer and each reply on a web connection, in
   -- their order,
   pub exact : IsShortRun directory token loaded happened → (fuel : ℕ) → IsEnough directory token loaded fuel happened →
-      Gave directory.peers.known (gives directory token loaded fuel happened) link.given later.given
+      Gave directory.peers.known (gives directory token loaded fuel happened) old.link.given new.link.given
   -- what was sent to the address of an untrusted peer keeps the secret of restricted callers (RFC 3323, RFC 3325 §7),
   pub secret : IsShortRun directory token loaded happened → (offers : List Offer) × SeesAlike directory token loaded happened offers
-      × ((seer : Peer) (addr : Addr) → addr_of seer directory.peers.known ≡ Some addr → SentTo addr link.given later.given (texts_seen seer offers))
+      × ((seer : Peer) (addr : Addr) → addr_of seer directory.peers.known ≡ Some addr → SentTo addr old.link.given new.link.given (texts_seen seer offers))
   -- the keeper was asked what each event asks of it, was handed the rows that waited at its end, and nothing else, and so answered; it is bound to where it was, and holds
   -- what it held with the uploads that were kept and the rows that it took; and the calls and the seats of the run are charged exactly,
-  pub asked : IsShortRun directory token loaded happened → EachAnswers directory.names happened keeper.held after.held keeper.calls after.calls
-  pub bound : IsShortRun directory token loaded happened → IsBoundStill keeper.calls after.calls
-  pub held : IsShortRun directory token loaded happened → HoldsAll directory token loaded happened keeper.held after.held
-  pub charged : IsShortRun directory token loaded happened → ChargesAll directory token loaded happened keeper.faults after.faults
+  pub asked : IsShortRun directory token loaded happened → EachAnswers directory.names happened old.keeper new.keeper
+  pub bound : IsShortRun directory token loaded happened → IsBoundStill old.keeper.calls new.keeper.calls
+  pub held : IsShortRun directory token loaded happened → HoldsAll directory token loaded happened old.keeper.held new.keeper.held
+  pub charged : IsShortRun directory token loaded happened → ChargesAll directory token loaded happened old.keeper.faults new.keeper.faults
   -- and each call came to its outcome, each seat that was left was charged once, on its account and in the order of the steps, and each message that was built has its own lines
   pub outcome : IsShortRun directory token loaded happened → CallsComeToOutcome directory token loaded happened
   pub seats : IsShortRun directory token loaded happened → SeatsAreChargedOnce directory token loaded happened
@@ -99,26 +90,24 @@ pub record ServesRun (directory : Directory) (token : List ℕ) (loaded : Texts)
 
 -- the keeper was bound to the store of the configuration, migrated, and gave these texts, then the link was bound to its addresses, each once, and this is what serving it
 -- came to
-pub record ServesLink (directory : Directory) (token : List ℕ) (turns : ℕ) (link far : LinkSeen) (keeper later : KeeperSeen) (result : Result Bool DriveFault) : Type 0 where
+pub record ServesLink (directory : Directory) (token : List ℕ) (turns : ℕ) (old new : Outside) (result : Result Bool DriveFault) : Type 0 where
   pub loaded : Texts
-  pub opening : KeeperSeen
-  pub opened : IsLoaded directory.store loaded keeper opening
-  pub listening : LinkSeen
-  pub linked : IsLinked directory link listening
-  pub run : ServesRun directory token loaded turns listening far opening later result
+  pub ready : Outside
+  pub opened : IsLoaded directory.store loaded old.keeper ready.keeper
+  pub linked : IsLinked directory old.link ready.link
+  pub run : ServesRun directory token loaded turns ready new result
   -- the branches that the server draws are read as they are written, which the secret of the run asks for
   pub branches : BranchesAreRead directory token
 
 -- the keeper was loaded, and the link could not be bound
-pub record IsUnlinked (directory : Directory) (link far : LinkSeen) (keeper later : KeeperSeen) : Type 0 where
+pub record IsUnlinked (directory : Directory) (old new : Outside) : Type 0 where
   pub loaded : Texts
-  pub opened : IsLoaded directory.store loaded keeper later
-  pub unlinked : IsNotLinked directory link far
+  pub opened : IsLoaded directory.store loaded old.keeper new.keeper
+  pub unlinked : IsNotLinked directory old.link new.link
 
 -- the link could not be bound, or not take in what comes next: what it was given before is as at every other end
-abbrev pub LinkFails : Directory → (token : List ℕ) → (turns : ℕ) → (link far : LinkSeen) → (keeper later : KeeperSeen) → Type 0
-LinkFails directory token turns link far keeper later =
-    IsUnlinked directory link far keeper later ⊎ ServesLink directory token turns link far keeper later (Err LinkFault)
+abbrev pub LinkFails : Directory → (token : List ℕ) → (turns : ℕ) → (old new : Outside) → Type 0
+LinkFails directory token turns old new = IsUnlinked directory old new ⊎ ServesLink directory token turns old new (Err LinkFault)
 
 -- ---- where nothing is asked of it
 

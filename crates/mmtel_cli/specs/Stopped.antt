@@ -21,27 +21,29 @@ use Rattle.mmtel_serve.specs.Served.{ReadsButLast, SentTo}
 use Rattle.mmtel_server.specs.Charged.{RowsCharged}
 use Rattle.mmtel_server.specs.Driven.{EachAnswersButLast, EachCountedButLast, HeardMore, StandsOrRose}
 use Rattle.mmtel_server.specs.Laws.{EachReadOut}
+use Rattle.mmtel_server.specs.Seen.{KeeperSeen}
 use Rattle.mmtel_server.specs.Stands.{IsCut}
 use Rattle.mmtel_trust.specs.Peers.{addr_of}
 use Rattle.mmtel_types.specs.declared.addrs.Addr.{Addr}
 use Rattle.mmtel_types.specs.declared.numbers.Peer.{Peer}
 use Rattle.mmtel_cli.specs.Due as due
 use Rattle.mmtel_cli.specs.Due.{Due}
-use Rattle.mmtel_cli.specs.Keeping.{IsBoundStill, IsLoaded, IsOnlyAsked, IsOnlyOpened, KeeperSeen}
+use Rattle.mmtel_cli.specs.Keeping.{IsBoundStill, IsLoaded, IsOnlyAsked, IsOnlyOpened}
 use Rattle.mmtel_cli.specs.Listings.{HoldsAll, OffersRun}
-use Rattle.mmtel_cli.specs.Serving.{IsLinked, LinkSeen}
+use Rattle.mmtel_cli.specs.Outside.{Outside}
+use Rattle.mmtel_cli.specs.Serving.{IsLinked}
 
 -- ---- the keeper
 
 -- where memory ran out in the last of these events, or behind it
-pub record KeptUpTo (directory : Directory) (token : List ℕ) (loaded : Texts) (happened : List Happened) (keeper later : KeeperSeen) : Type 0 where
+pub record KeptUpTo (directory : Directory) (token : List ℕ) (loaded : Texts) (happened : List Happened) (old new : KeeperSeen) : Type 0 where
   -- the keeper was asked what each event before the last asks of it, and was handed the rows that waited at its end, and so answered; of the last one it was asked no more
   -- than that, and took none of its rows;
-  pub asked : IsShortRun directory token loaded happened → EachAnswersButLast directory.names happened keeper.held later.held keeper.calls later.calls
-  pub counted : EachCountedButLast happened keeper.faults later.faults
+  pub asked : IsShortRun directory token loaded happened → EachAnswersButLast directory.names happened old new
+  pub counted : EachCountedButLast happened old.faults new.faults
   -- it is bound to where it was, and holds what it held with the uploads that were kept and the rows that it took;
-  pub bound : IsShortRun directory token loaded happened → IsBoundStill keeper.calls later.calls
-  pub held : IsShortRun directory token loaded happened → HoldsAll directory token loaded happened keeper.held later.held
+  pub bound : IsShortRun directory token loaded happened → IsBoundStill old.calls new.calls
+  pub held : IsShortRun directory token loaded happened → HoldsAll directory token loaded happened old.held new.held
   -- these, and those that wait, are all that the calls and the seats of the run closed
   pub charged : IsShortRun directory token loaded happened → (fuel : ℕ) → IsEnough directory token loaded fuel happened →
       RowsCharged directory (world_after directory token loaded fuel happened) happened
@@ -49,111 +51,110 @@ pub record KeptUpTo (directory : Directory) (token : List ℕ) (loaded : Texts) 
 -- ---- of `replay`
 
 -- in the run of a script's events, of which so many came, of web connections with the bytes that were read: each was read out but the last, if memory ran out in that
-pub record StoppedRun (directory : Directory) (token : List ℕ) (loaded : Texts) (events : List Event) (keeper later : KeeperSeen) : Type 0 where
+pub record StoppedRun (directory : Directory) (token : List ℕ) (loaded : Texts) (events : List Event) (old new : KeeperSeen) : Type 0 where
   pub happened : List Happened
   pub reads : List ℕ
   pub last : List ℕ
   pub heard : events_in happened ≡ heard_of events (reads ++ last)
   pub one : length last ≤ 1
   pub read : EachReadOut events reads
-  pub kept : KeptUpTo directory token loaded happened keeper later
+  pub kept : KeptUpTo directory token loaded happened old new
 
 -- over a keeper that was loaded: before the first event, in the run, or behind it, in listing what was offered
-pub data StoppedOver (directory : Directory) (token : List ℕ) (loaded : Texts) (events : List Event) (keeper later : KeeperSeen) : Type 0 where
-  StoppedFirst : later ≡ keeper → StoppedOver directory token loaded events keeper later
-  StoppedWithin : StoppedRun directory token loaded events keeper later → StoppedOver directory token loaded events keeper later
-  StoppedBehind : (offers : List Offer) → OffersRun directory token loaded events keeper later offers → StoppedOver directory token loaded events keeper later
+pub data StoppedOver (directory : Directory) (token : List ℕ) (loaded : Texts) (events : List Event) (old new : KeeperSeen) : Type 0 where
+  StoppedFirst : new ≡ old → StoppedOver directory token loaded events old new
+  StoppedWithin : StoppedRun directory token loaded events old new → StoppedOver directory token loaded events old new
+  StoppedBehind : (offers : List Offer) → OffersRun directory token loaded events old new offers → StoppedOver directory token loaded events old new
 
 -- the keeper was bound to the store of the configuration, migrated, and gave these texts
-pub record StoppedLoaded (directory : Directory) (token : List ℕ) (events : List Event) (keeper later : KeeperSeen) : Type 0 where
+pub record StoppedLoaded (directory : Directory) (token : List ℕ) (events : List Event) (old new : KeeperSeen) : Type 0 where
   pub loaded : Texts
   pub opening : KeeperSeen
-  pub opened : IsLoaded directory.store loaded keeper opening
-  pub over : StoppedOver directory token loaded events opening later
+  pub opened : IsLoaded directory.store loaded old opening
+  pub over : StoppedOver directory token loaded events opening new
 
 -- before the keeper was asked anything, in opening it, or behind that
-pub data StoppedReplay (directory : Directory) (token : List ℕ) (events : List Event) (keeper later : KeeperSeen) : Type 0 where
-  StoppedReading : later ≡ keeper → StoppedReplay directory token events keeper later
-  StoppedOpening : IsOnlyOpened directory.store keeper later → StoppedReplay directory token events keeper later
-  StoppedRunning : StoppedLoaded directory token events keeper later → StoppedReplay directory token events keeper later
+pub data StoppedReplay (directory : Directory) (token : List ℕ) (events : List Event) (old new : KeeperSeen) : Type 0 where
+  StoppedReading : new ≡ old → StoppedReplay directory token events old new
+  StoppedOpening : IsOnlyOpened directory.store old new → StoppedReplay directory token events old new
+  StoppedRunning : StoppedLoaded directory token events old new → StoppedReplay directory token events old new
 
 -- ---- of `charges`
 
 -- before the keeper was asked anything; or it was bound and asked for its rows, and no more
-abbrev pub StoppedRows : (store : List ℕ) → (keeper later : KeeperSeen) → Type 0
-StoppedRows store keeper later = (later ≡ keeper) ⊎ IsOnlyAsked store keeper later
+abbrev pub StoppedRows : (store : List ℕ) → (old new : KeeperSeen) → Type 0
+StoppedRows store old new = (new ≡ old) ⊎ IsOnlyAsked store old new
 
 -- ---- by what is due, where no link is asked
 
-abbrev pub HasStopped : (keeper later : KeeperSeen) → Due → Type 0
-HasStopped keeper later due.Usage = later ≡ keeper
-HasStopped keeper later (due.Line number) = later ≡ keeper
-HasStopped keeper later due.File = later ≡ keeper
-HasStopped keeper later (due.Run directory token events) = StoppedReplay directory token events keeper later
-HasStopped keeper later (due.Rows store) = StoppedRows store keeper later
-HasStopped keeper later (due.Work calls salt directory) = later ≡ keeper
-HasStopped keeper later due.Sound = later ≡ keeper
-HasStopped keeper later (due.Unsound line) = later ≡ keeper
+abbrev pub HasStopped : (old new : KeeperSeen) → Due → Type 0
+HasStopped old new due.Usage = new ≡ old
+HasStopped old new (due.Line number) = new ≡ old
+HasStopped old new due.File = new ≡ old
+HasStopped old new (due.Run directory token events) = StoppedReplay directory token events old new
+HasStopped old new (due.Rows store) = StoppedRows store old new
+HasStopped old new (due.Work calls salt directory) = new ≡ old
+HasStopped old new due.Sound = new ≡ old
+HasStopped old new (due.Unsound line) = new ≡ old
 
 -- ---- of `serve`
 
 -- of what is offered in the run in which this happened the link was given all up to the last event, and of what the last one adds a front, where it tells that
-pub record GaveUpToLast (directory : Directory) (token : List ℕ) (loaded : Texts) (happened : List Happened) (fuel : ℕ) (given now : Option Given) : Type 0 where
+pub record GaveUpToLast (directory : Directory) (token : List ℕ) (loaded : Texts) (happened : List Happened) (fuel : ℕ) (old new : Option Given) : Type 0 where
   pub done : List Happened
   pub last : List Happened
   pub parts : happened ≡ done ++ last
   pub one : length last ≤ 1
   pub offers : List Offer
   pub front : IsCut (gives directory token loaded fuel done) offers (gives directory token loaded fuel happened)
-  pub gave : Gave directory.peers.known offers given now
+  pub gave : Gave directory.peers.known offers old new
 
 -- in taking in what comes next, in doing an event, or in giving what it makes the server offer
-pub record StoppedServing (directory : Directory) (token : List ℕ) (loaded : Texts) (turns : ℕ) (link later : LinkSeen) (keeper after : KeeperSeen) : Type 0 where
+pub record StoppedServing (directory : Directory) (token : List ℕ) (loaded : Texts) (turns : ℕ) (old new : Outside) : Type 0 where
   -- these events came, one a turn; of web connections with the bytes that were read,
   pub happened : List Happened
-  pub heard : HeardMore link.ear later.ear (events_in happened)
-  pub read : ReadsButLast link.ear later.ear link.given later.given link.giving later.giving
+  pub heard : HeardMore old.link.ear new.link.ear (events_in happened)
+  pub read : ReadsButLast old.link.ear new.link.ear old.link.given new.link.given old.link.giving new.link.giving
   pub ends : length happened ≤ turns
   -- the link is bound to where it was, its count of taking in stands, and something was lost only where that of giving out rose;
-  pub listens : ListensStill link.calls later.calls
-  pub taking : later.taking ≡ link.taking
-  pub lost : LostNoMore link.given later.given ⊎ Rose link.giving later.giving
-  pub giving : StandsOrRose link.giving later.giving
+  pub listens : ListensStill old.link.calls new.link.calls
+  pub taking : new.link.taking ≡ old.link.taking
+  pub lost : LostNoMore old.link.given new.link.given ⊎ Rose old.link.giving new.link.giving
+  pub giving : StandsOrRose old.link.giving new.link.giving
   -- it was given what is due but for the end, so what was sent to the address of an untrusted peer is a front of what keeps the secret of restricted callers,
   pub gave : IsShortRun directory token loaded happened → (fuel : ℕ) → IsEnough directory token loaded fuel happened →
-      GaveUpToLast directory token loaded happened fuel link.given later.given
+      GaveUpToLast directory token loaded happened fuel old.link.given new.link.given
   pub secret : IsShortRun directory token loaded happened → (offers : List Offer) × SeesAlike directory token loaded happened offers
       × ((seer : Peer) (addr : Addr) → addr_of seer directory.peers.known ≡ Some addr →
-      (front : List (List ℕ)) × (rest : List (List ℕ)) × (front ++ rest ≡ texts_seen seer offers) × SentTo addr link.given later.given front)
+      (front : List (List ℕ)) × (rest : List (List ℕ)) × (front ++ rest ≡ texts_seen seer offers) × SentTo addr old.link.given new.link.given front)
   -- so it is of the keeper; and each call came to its outcome, each seat that was left was charged once, and what was offered has its own lines
-  pub kept : KeptUpTo directory token loaded happened keeper after
+  pub kept : KeptUpTo directory token loaded happened old.keeper new.keeper
   pub outcome : IsShortRun directory token loaded happened → CallsComeToOutcome directory token loaded happened
   pub seats : IsShortRun directory token loaded happened → SeatsAreChargedOnce directory token loaded happened
   pub clean : IsShortRun directory token loaded happened → SendsCleanMessages directory token loaded happened
 
 -- the keeper was bound to the store of the configuration, migrated, and gave these texts, and then the link was bound to its addresses
-pub record StoppedLinked (directory : Directory) (token : List ℕ) (turns : ℕ) (link far : LinkSeen) (keeper later : KeeperSeen) : Type 0 where
+pub record StoppedLinked (directory : Directory) (token : List ℕ) (turns : ℕ) (old new : Outside) : Type 0 where
   pub loaded : Texts
-  pub opening : KeeperSeen
-  pub opened : IsLoaded directory.store loaded keeper opening
-  pub listening : LinkSeen
-  pub linked : IsLinked directory link listening
-  pub serving : StoppedServing directory token loaded turns listening far opening later
+  pub ready : Outside
+  pub opened : IsLoaded directory.store loaded old.keeper ready.keeper
+  pub linked : IsLinked directory old.link ready.link
+  pub serving : StoppedServing directory token loaded turns ready new
   pub branches : BranchesAreRead directory token
 
 -- before anything was asked of the keeper and the link; in opening the keeper; behind binding the link; or in serving it
-pub data StoppedServe (directory : Directory) (token : List ℕ) (turns : ℕ) (link far : LinkSeen) (keeper later : KeeperSeen) : Type 0 where
-  UnservedReading : later ≡ keeper → far ≡ link → StoppedServe directory token turns link far keeper later
-  UnservedOpening : IsOnlyOpened directory.store keeper later → far ≡ link → StoppedServe directory token turns link far keeper later
-  UnservedListening : (loaded : Texts) → IsLoaded directory.store loaded keeper later → IsLinked directory link far → StoppedServe directory token turns link far keeper later
-  UnservedServing : StoppedLinked directory token turns link far keeper later → StoppedServe directory token turns link far keeper later
+pub data StoppedServe (directory : Directory) (token : List ℕ) (turns : ℕ) (old new : Outside) : Type 0 where
+  UnservedReading : new.keeper ≡ old.keeper → new.link ≡ old.link → StoppedServe directory token turns old new
+  UnservedOpening : IsOnlyOpened directory.store old.keeper new.keeper → new.link ≡ old.link → StoppedServe directory token turns old new
+  UnservedListening : (loaded : Texts) → IsLoaded directory.store loaded old.keeper new.keeper → IsLinked directory old.link new.link → StoppedServe directory token turns old new
+  UnservedServing : StoppedLinked directory token turns old new → StoppedServe directory token turns old new
 
 -- once the configuration was read
-abbrev pub StopsServing : Result Directory ℕ → (token : List ℕ) → (turns : ℕ) → (link far : LinkSeen) → (keeper later : KeeperSeen) → Type 0
-StopsServing (Ok directory) token turns link far keeper later = StoppedServe directory token turns link far keeper later
-StopsServing (Err line) token turns link far keeper later = (later ≡ keeper) × (far ≡ link)
+abbrev pub StopsServing : Result Directory ℕ → (token : List ℕ) → (turns : ℕ) → (old new : Outside) → Type 0
+StopsServing (Ok directory) token turns old new = StoppedServe directory token turns old new
+StopsServing (Err line) token turns old new = (new.keeper ≡ old.keeper) × (new.link ≡ old.link)
 
 -- once it was asked for
-abbrev pub StopsOfServe : Option (List ℕ) → (token : List ℕ) → (turns : ℕ) → (link far : LinkSeen) → (keeper later : KeeperSeen) → Type 0
-StopsOfServe None token turns link far keeper later = (later ≡ keeper) × (far ≡ link)
-StopsOfServe (Some config) token turns link far keeper later = StopsServing (directory_of config) token turns link far keeper later
+abbrev pub StopsOfServe : Option (List ℕ) → (token : List ℕ) → (turns : ℕ) → (old new : Outside) → Type 0
+StopsOfServe None token turns old new = (new.keeper ≡ old.keeper) × (new.link ≡ old.link)
+StopsOfServe (Some config) token turns old new = StopsServing (directory_of config) token turns old new

@@ -15,7 +15,7 @@ use Rattle.mmtel_run.specs.Run.{IsEnough, world_after}
 use Rattle.mmtel_run.specs.Short.{IsShortRun}
 use Rattle.mmtel_web.specs.Answers.{made}
 use Rattle.mmtel_workload.specs.Events.{work_events}
-use Rattle.mmtel_cli.specs.Keeping.{KeeperSeen, seen}
+use Rattle.mmtel_server.specs.Seen.{KeeperSeen}
 use Rattle.mmtel_cli.specs.Listings.{OffersRun}
 
 -- its configuration
@@ -60,7 +60,7 @@ work_text calls offers rows diverted =
 
 -- its keeper: it holds this, and none of its calls failed
 abbrev pub keeper_of : Held → KeeperSeen
-keeper_of held = seen (Some held) None 0
+keeper_of held = record { held = Some held; calls = None; faults = 0 }
 
 -- an event happened in which nothing was asked of the keeper, and it took the charging rows that waited at its end
 abbrev pub taken : Event → Happened

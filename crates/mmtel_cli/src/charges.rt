@@ -4,10 +4,11 @@ ghost use Rattle.mmtel_cli.specs.Due as due;
 ghost use Rattle.mmtel_cli.specs.Due.{due_of_charges};
 ghost use Rattle.mmtel_cli.specs.Found.{CountsFiles, IsDue, IsRead, Spares};
 ghost use Rattle.mmtel_cli.specs.Gives.{GivesCharges};
-ghost use Rattle.mmtel_cli.specs.Keeping.{GivesNoRows, GivesRows, IsOnlyAsked, seen};
+ghost use Rattle.mmtel_cli.specs.Keeping.{GivesNoRows, GivesRows, IsOnlyAsked};
 ghost use Rattle.mmtel_cli.specs.Listings.{ListsRows};
 ghost use Rattle.mmtel_keeper.specs.declared.keepers.KeepFault.TheVariants as fault;
 ghost use Rattle.mmtel_outside.specs.Shelf.{called};
+ghost use Rattle.mmtel_server.specs.Seen.{keeper_seen};
 
 use mmtel_charging::{Row, rows_text};
 use mmtel_directory::{DirectoryFault, read_directory};
@@ -19,12 +20,12 @@ use std::alloc::Global;
 
 /// Binds a keeper to the place of that name, and asks for the rows that it holds there.
 fn rows_kept<K: Keeper>(alloc: Global, keeper: &mut K, store: &[u8]) -> Result<List<Row>, KeepFault>
-    ensures given { IfOk result (λ rows. GivesRows store.now rows (seen (K.held keeper.old) (K.calls keeper.old) (K.faults keeper.old))
-        (seen (K.held keeper.new) (K.calls keeper.new) (K.faults keeper.new))) }
-    ensures failed { IsErrOf result fault.Failed → GivesNoRows store.now (seen (K.held keeper.old) (K.calls keeper.old) (K.faults keeper.old))
-        (seen (K.held keeper.new) (K.calls keeper.new) (K.faults keeper.new)) }
-    ensures stopped { IsErrOf result fault.NoMemory → IsOnlyAsked store.now (seen (K.held keeper.old) (K.calls keeper.old) (K.faults keeper.old))
-        (seen (K.held keeper.new) (K.calls keeper.new) (K.faults keeper.new)) }
+    ensures given { IfOk result (λ rows.
+        GivesRows store.now rows (keeper_seen K.Keeper keeper.old) (keeper_seen K.Keeper keeper.new)) }
+    ensures failed { IsErrOf result fault.Failed →
+        GivesNoRows store.now (keeper_seen K.Keeper keeper.old) (keeper_seen K.Keeper keeper.new) }
+    ensures stopped { IsErrOf result fault.NoMemory →
+        IsOnlyAsked store.now (keeper_seen K.Keeper keeper.old) (keeper_seen K.Keeper keeper.new) }
     ensures held { K.held keeper.new ≡ K.held keeper.old }
 {
     keeper.bind(alloc, store)?;
@@ -33,12 +34,12 @@ fn rows_kept<K: Keeper>(alloc: Global, keeper: &mut K, store: &[u8]) -> Result<L
 
 /// The text of the rows that a keeper holds at the place of that name.
 fn rows_listed<K: Keeper>(alloc: Global, keeper: &mut K, store: &[u8]) -> Result<Text, KeepFault>
-    ensures lists { IfOk result (λ text. ListsRows store.now (seen (K.held keeper.old) (K.calls keeper.old) (K.faults keeper.old))
-        (seen (K.held keeper.new) (K.calls keeper.new) (K.faults keeper.new)) text) }
-    ensures failed { IsErrOf result fault.Failed → GivesNoRows store.now (seen (K.held keeper.old) (K.calls keeper.old) (K.faults keeper.old))
-        (seen (K.held keeper.new) (K.calls keeper.new) (K.faults keeper.new)) }
-    ensures stopped { IsErrOf result fault.NoMemory → IsOnlyAsked store.now (seen (K.held keeper.old) (K.calls keeper.old) (K.faults keeper.old))
-        (seen (K.held keeper.new) (K.calls keeper.new) (K.faults keeper.new)) }
+    ensures lists { IfOk result (λ text.
+        ListsRows store.now (keeper_seen K.Keeper keeper.old) (keeper_seen K.Keeper keeper.new) text) }
+    ensures failed { IsErrOf result fault.Failed →
+        GivesNoRows store.now (keeper_seen K.Keeper keeper.old) (keeper_seen K.Keeper keeper.new) }
+    ensures stopped { IsErrOf result fault.NoMemory →
+        IsOnlyAsked store.now (keeper_seen K.Keeper keeper.old) (keeper_seen K.Keeper keeper.new) }
     ensures held { K.held keeper.new ≡ K.held keeper.old }
 {
     let rows = rows_kept(alloc, keeper, store)?;
@@ -48,8 +49,8 @@ fn rows_listed<K: Keeper>(alloc: Global, keeper: &mut K, store: &[u8]) -> Result
 
 /// What is due over the store of that name.
 fn over_store<K: Keeper>(alloc: Global, keeper: &mut K, store: &[u8]) -> Report
-    ensures due { IsDue (seen (K.held keeper.old) (K.calls keeper.old) (K.faults keeper.old))
-        (seen (K.held keeper.new) (K.calls keeper.new) (K.faults keeper.new)) result (due.Rows store.now) }
+    ensures due { IsDue (keeper_seen K.Keeper keeper.old) (keeper_seen K.Keeper keeper.new)
+        result (due.Rows store.now) }
     ensures held { K.held keeper.new ≡ K.held keeper.old }
     ensures read { IsRead result }
     ensures spares { Spares result keeper.old keeper.new }
@@ -63,8 +64,8 @@ fn over_store<K: Keeper>(alloc: Global, keeper: &mut K, store: &[u8]) -> Report
 
 /// What is due once the configuration's text is there.
 fn over_text<K: Keeper>(alloc: Global, config: &Text, keeper: &mut K) -> Report
-    ensures due { IsDue (seen (K.held keeper.old) (K.calls keeper.old) (K.faults keeper.old))
-        (seen (K.held keeper.new) (K.calls keeper.new) (K.faults keeper.new)) result (due_of_charges (Some config.now)) }
+    ensures due { IsDue (keeper_seen K.Keeper keeper.old) (keeper_seen K.Keeper keeper.new)
+        result (due_of_charges (Some config.now)) }
     ensures held { K.held keeper.new ≡ K.held keeper.old }
     ensures read { IsRead result }
     ensures spares { Spares result keeper.old keeper.new }
@@ -87,8 +88,8 @@ pub fn over_charges<F: Files, K: Keeper>(
     files: &mut F,
     keeper: &mut K,
 ) -> Report
-    ensures gives { GivesCharges (F.told files.old) (seen (K.held keeper.old) (K.calls keeper.old) (K.faults keeper.old))
-        (seen (K.held keeper.new) (K.calls keeper.new) (K.faults keeper.new)) config.now result }
+    ensures gives { GivesCharges (F.told files.old) (keeper_seen K.Keeper keeper.old) (keeper_seen K.Keeper keeper.new)
+        config.now result }
     ensures calls { IfSome (F.told files.old) (λ shelf. F.told files.new ≡ Some (called shelf)) }
     ensures count { CountsFiles result (F.faults files.old) (F.faults files.new) }
     ensures asked { result ≢ Report.Usage }

@@ -3,8 +3,8 @@ ghost use Rattle.std.specs.Prelude.{◌≡◌, ◌≢◌, IfSome, Some};
 ghost use Rattle.mmtel_cli.specs.Due.{due_of_records};
 ghost use Rattle.mmtel_cli.specs.Found.{CountsFiles, IsDue, IsRead};
 ghost use Rattle.mmtel_cli.specs.Gives.{GivesRecords};
-ghost use Rattle.mmtel_cli.specs.Keeping.{KeeperSeen};
 ghost use Rattle.mmtel_outside.specs.Shelf.{called};
+ghost use Rattle.mmtel_server.specs.Seen.{KeeperSeen};
 
 use mmtel_outside::{FileFault, Files};
 use mmtel_reports::Report;

@@ -1,6 +1,6 @@
 //! A run over a keeper and the events of a link, or of a script, to its end.
 ghost use Rattle.std.specs.Prelude.{◌≡◌, ◌≤◌, ◌⊎◌, ℕ, List, [], IfOk, IsErrOf, OnErr, OnOk};
-ghost use Rattle.mmtel_cli.specs.Keeping.{IsLoaded, IsNotLoaded, IsOnlyOpened, seen};
+ghost use Rattle.mmtel_cli.specs.Keeping.{IsLoaded, IsNotLoaded, IsOnlyOpened};
 ghost use Rattle.mmtel_cli.specs.KnownEvents.{IsUnheard, NeverFails, OffersAllOf, StopsAllOf};
 ghost use Rattle.mmtel_cli.specs.Listings.{Lists, ListsOver};
 ghost use Rattle.mmtel_cli.specs.Stopped.{StoppedOver, StoppedReplay};
@@ -8,6 +8,7 @@ ghost use Rattle.mmtel_directory.specs.declared.directories.Directory.{Directory
 ghost use Rattle.mmtel_in_force.specs.Texts.{Texts};
 ghost use Rattle.mmtel_keeper.specs.declared.keepers.KeepFault.TheVariants as fault;
 ghost use Rattle.mmtel_script.specs.Script.{unheard};
+ghost use Rattle.mmtel_server.specs.Seen.{keeper_seen};
 ghost use Rattle.mmtel_server.specs.Stands.{Went};
 
 use mmtel_directory::Directory;
@@ -29,12 +30,12 @@ pub fn open<K: Keeper>(
     keeper: &mut K,
     store: &[u8],
 ) -> Result<List<(Account, Text)>, KeepFault>
-    ensures loaded { IfOk result (λ loaded. IsLoaded store.now loaded (seen (K.held keeper.old) (K.calls keeper.old) (K.faults keeper.old))
-        (seen (K.held keeper.new) (K.calls keeper.new) (K.faults keeper.new))) }
-    ensures failed { IsErrOf result fault.Failed → IsNotLoaded store.now (seen (K.held keeper.old) (K.calls keeper.old) (K.faults keeper.old))
-        (seen (K.held keeper.new) (K.calls keeper.new) (K.faults keeper.new)) }
-    ensures stopped { IsErrOf result fault.NoMemory → IsOnlyOpened store.now (seen (K.held keeper.old) (K.calls keeper.old) (K.faults keeper.old))
-        (seen (K.held keeper.new) (K.calls keeper.new) (K.faults keeper.new)) }
+    ensures loaded { IfOk result (λ loaded.
+        IsLoaded store.now loaded (keeper_seen K.Keeper keeper.old) (keeper_seen K.Keeper keeper.new)) }
+    ensures failed { IsErrOf result fault.Failed →
+        IsNotLoaded store.now (keeper_seen K.Keeper keeper.old) (keeper_seen K.Keeper keeper.new) }
+    ensures stopped { IsErrOf result fault.NoMemory →
+        IsOnlyOpened store.now (keeper_seen K.Keeper keeper.old) (keeper_seen K.Keeper keeper.new) }
 {
     keeper.bind(alloc, store)?;
     keeper.migrate(alloc)?;
@@ -53,12 +54,14 @@ fn drive_over<L: Link, K: Keeper, C: Ledger>(
 ) -> Result<(), NoMemory>
     requires unfailing { NeverFails L.taking L.giving }
     requires unheard { IsUnheard events (L.ear link.old) }
-    ensures run { OnOk result ((directory : Directory) (token : List ℕ) (loaded : Texts) → Went directory token loaded [] [] server.old out.old →
-        OffersAllOf (L.ear link.old) directory token loaded (seen (K.held keeper.old) (K.calls keeper.old) (K.faults keeper.old))
-        (seen (K.held keeper.new) (K.calls keeper.new) (K.faults keeper.new)) out.new) }
-    ensures stopped { OnErr result ((directory : Directory) (token : List ℕ) (loaded : Texts) → Went directory token loaded [] [] server.old out.old →
-        StopsAllOf (L.ear link.old) directory token loaded (seen (K.held keeper.old) (K.calls keeper.old) (K.faults keeper.old))
-        (seen (K.held keeper.new) (K.calls keeper.new) (K.faults keeper.new))) }
+    ensures run { OnOk result ((directory : Directory) (token : List ℕ) (loaded : Texts) →
+        Went directory token loaded [] [] server.old out.old →
+        OffersAllOf (L.ear link.old) directory token loaded
+        (keeper_seen K.Keeper keeper.old) (keeper_seen K.Keeper keeper.new) out.new) }
+    ensures stopped { OnErr result ((directory : Directory) (token : List ℕ) (loaded : Texts) →
+        Went directory token loaded [] [] server.old out.old →
+        StopsAllOf (L.ear link.old) directory token loaded
+        (keeper_seen K.Keeper keeper.old) (keeper_seen K.Keeper keeper.new)) }
 {
     connections_are_read_out();
     runs_keep_the_secret();
@@ -84,11 +87,11 @@ pub fn offered<L: Link, K: Keeper, C: Ledger>(
     requires bounded { directory.bound ≤ 16 }
     requires unfailing { NeverFails L.taking L.giving }
     requires unheard { IsUnheard events (L.ear link.old) }
-    ensures run { IfOk result (OffersAllOf (L.ear link.old) directory token.now loaded.now (seen (K.held keeper.old) (K.calls keeper.old) (K.faults keeper.old))
-        (seen (K.held keeper.new) (K.calls keeper.new) (K.faults keeper.new))) }
-    ensures stopped { OnErr result ((seen (K.held keeper.new) (K.calls keeper.new) (K.faults keeper.new) ≡ seen (K.held keeper.old) (K.calls keeper.old) (K.faults keeper.old))
-        ⊎ StopsAllOf (L.ear link.old) directory token.now loaded.now (seen (K.held keeper.old) (K.calls keeper.old) (K.faults keeper.old))
-        (seen (K.held keeper.new) (K.calls keeper.new) (K.faults keeper.new))) }
+    ensures run { IfOk result (OffersAllOf (L.ear link.old) directory token.now loaded.now
+        (keeper_seen K.Keeper keeper.old) (keeper_seen K.Keeper keeper.new)) }
+    ensures stopped { OnErr result ((keeper_seen K.Keeper keeper.new ≡ keeper_seen K.Keeper keeper.old)
+        ⊎ StopsAllOf (L.ear link.old) directory token.now loaded.now
+        (keeper_seen K.Keeper keeper.old) (keeper_seen K.Keeper keeper.new)) }
 {
     let token = match Text::of(alloc, token) {
         Ok(token) => token,
@@ -117,10 +120,10 @@ fn listed_over<K: Keeper, C: Ledger>(
 ) -> Result<Text, NoMemory>
     requires bounded { directory.bound ≤ 16 }
     requires unheard { script.old ≡ unheard script.old.events }
-    ensures lists { IfOk result (ListsOver directory token.now loaded.now script.old.events (seen (K.held keeper.old) (K.calls keeper.old) (K.faults keeper.old))
-        (seen (K.held keeper.new) (K.calls keeper.new) (K.faults keeper.new))) }
-    ensures stopped { OnErr result (StoppedOver directory token.now loaded.now script.old.events (seen (K.held keeper.old) (K.calls keeper.old) (K.faults keeper.old))
-        (seen (K.held keeper.new) (K.calls keeper.new) (K.faults keeper.new))) }
+    ensures lists { IfOk result (ListsOver directory token.now loaded.now script.old.events
+        (keeper_seen K.Keeper keeper.old) (keeper_seen K.Keeper keeper.new)) }
+    ensures stopped { OnErr result (StoppedOver directory token.now loaded.now script.old.events
+        (keeper_seen K.Keeper keeper.old) (keeper_seen K.Keeper keeper.new)) }
 {
     let events = script.len();
     let offers = offered(
@@ -145,12 +148,12 @@ pub fn listed<K: Keeper, C: Ledger>(
 ) -> Result<Text, KeepFault>
     requires bounded { directory.bound ≤ 16 }
     requires unheard { script.old ≡ unheard script.old.events }
-    ensures lists { IfOk result (Lists directory token.now script.old.events (seen (K.held keeper.old) (K.calls keeper.old) (K.faults keeper.old))
-        (seen (K.held keeper.new) (K.calls keeper.new) (K.faults keeper.new))) }
-    ensures failed { IsErrOf result fault.Failed → IsNotLoaded directory.store (seen (K.held keeper.old) (K.calls keeper.old) (K.faults keeper.old))
-        (seen (K.held keeper.new) (K.calls keeper.new) (K.faults keeper.new)) }
-    ensures stopped { IsErrOf result fault.NoMemory → StoppedReplay directory token.now script.old.events (seen (K.held keeper.old) (K.calls keeper.old) (K.faults keeper.old))
-        (seen (K.held keeper.new) (K.calls keeper.new) (K.faults keeper.new)) }
+    ensures lists { IfOk result (Lists directory token.now script.old.events
+        (keeper_seen K.Keeper keeper.old) (keeper_seen K.Keeper keeper.new)) }
+    ensures failed { IsErrOf result fault.Failed →
+        IsNotLoaded directory.store (keeper_seen K.Keeper keeper.old) (keeper_seen K.Keeper keeper.new) }
+    ensures stopped { IsErrOf result fault.NoMemory → StoppedReplay directory token.now script.old.events
+        (keeper_seen K.Keeper keeper.old) (keeper_seen K.Keeper keeper.new) }
 {
     match open(alloc, keeper, directory.store.bytes()) {
         Ok(loaded) => {

@@ -2,11 +2,13 @@
 ghost use Rattle.std.specs.Prelude.{◌≡◌, ◌≤◌, ◌≢◌, ℕ, List, [], IfSome, OnErr, OnOk, Some};
 ghost use Rattle.mmtel_cli.specs.Found.{CountsFiles, CountsLink, IsRead, IsServedBy, IsServing, Spares, SparesLink};
 ghost use Rattle.mmtel_cli.specs.Gives.{GivesServe, ServesConfig};
-ghost use Rattle.mmtel_cli.specs.Keeping.{IsLoaded, KeeperSeen, seen};
-ghost use Rattle.mmtel_cli.specs.Serving.{IsLinked, IsNotLinked, LinkSeen, line_seen};
+ghost use Rattle.mmtel_cli.specs.Keeping.{IsLoaded};
+ghost use Rattle.mmtel_cli.specs.Outside.{Outside, outside_seen};
+ghost use Rattle.mmtel_cli.specs.Serving.{IsLinked, IsNotLinked};
 ghost use Rattle.mmtel_directory.specs.declared.directories.Directory.{Directory};
 ghost use Rattle.mmtel_in_force.specs.Texts.{Texts};
 ghost use Rattle.mmtel_outside.specs.Shelf.{called};
+ghost use Rattle.mmtel_server.specs.Seen.{KeeperSeen, keeper_seen, link_seen};
 ghost use Rattle.mmtel_server.specs.Stands.{Serves};
 
 use crate::runs::open;
@@ -26,10 +28,8 @@ use std::sync::ledger::Ledger;
 
 /// Binds a link to the addresses of the configuration: that for datagrams and that for web connections.
 fn listen<L: Link>(directory: &Directory, link: &mut L) -> Result<(), Failed>
-    ensures linked { OnOk result (IsLinked directory.now (line_seen (L.ear link.old) (L.given link.old) (L.calls link.old) (L.taking link.old) (L.giving link.old))
-        (line_seen (L.ear link.new) (L.given link.new) (L.calls link.new) (L.taking link.new) (L.giving link.new))) }
-    ensures failed { OnErr result (IsNotLinked directory.now (line_seen (L.ear link.old) (L.given link.old) (L.calls link.old) (L.taking link.old) (L.giving link.old))
-        (line_seen (L.ear link.new) (L.given link.new) (L.calls link.new) (L.taking link.new) (L.giving link.new))) }
+    ensures linked { OnOk result (IsLinked directory.now (link_seen L.Link link.old) (link_seen L.Link link.new)) }
+    ensures failed { OnErr result (IsNotLinked directory.now (link_seen L.Link link.old) (link_seen L.Link link.new)) }
 {
     link.bind(directory.sip, directory.web)
 }
@@ -44,11 +44,10 @@ fn over_server<L: Link, K: Keeper, C: Ledger>(
     keeper: &mut K,
     steps: &mut Steps<C>,
 ) -> Report
-    ensures served { (directory : Directory) (token : List ℕ) (loaded : Texts) (line : LinkSeen) (kept : KeeperSeen) → Serves directory token loaded [] server.old →
-        IsLinked directory line (line_seen (L.ear link.old) (L.given link.old) (L.calls link.old) (L.taking link.old) (L.giving link.old)) →
-        IsLoaded directory.store loaded kept (seen (K.held keeper.old) (K.calls keeper.old) (K.faults keeper.old)) →
-        IsServedBy directory token turns line (line_seen (L.ear link.new) (L.given link.new) (L.calls link.new) (L.taking link.new) (L.giving link.new))
-        kept (seen (K.held keeper.new) (K.calls keeper.new) (K.faults keeper.new)) result }
+    ensures served { (directory : Directory) (token : List ℕ) (loaded : Texts) (start : Outside) →
+        Serves directory token loaded [] server.old → IsLinked directory start.link (link_seen L.Link link.old) →
+        IsLoaded directory.store loaded start.keeper (keeper_seen K.Keeper keeper.old) →
+        IsServedBy directory token turns start (outside_seen L.Link link.new K.Keeper keeper.new) result }
     ensures serving { IsServing result }
     ensures taking { CountsLink result (L.taking link.old) (L.taking link.new) }
 {
@@ -70,11 +69,9 @@ fn over_link<L: Link, K: Keeper, C: Ledger>(
     steps: &mut Steps<C>,
 ) -> Report
     requires bounded { directory.bound ≤ 16 }
-    ensures served { (line : LinkSeen) (kept : KeeperSeen) →
-        IsLinked directory line (line_seen (L.ear link.old) (L.given link.old) (L.calls link.old) (L.taking link.old) (L.giving link.old)) →
-        IsLoaded directory.store loaded.now kept (seen (K.held keeper.old) (K.calls keeper.old) (K.faults keeper.old)) →
-        IsServedBy directory asked.token asked.turns line (line_seen (L.ear link.new) (L.given link.new) (L.calls link.new) (L.taking link.new) (L.giving link.new))
-        kept (seen (K.held keeper.new) (K.calls keeper.new) (K.faults keeper.new)) result }
+    ensures served { (start : Outside) → IsLinked directory start.link (link_seen L.Link link.old) →
+        IsLoaded directory.store loaded.now start.keeper (keeper_seen K.Keeper keeper.old) →
+        IsServedBy directory asked.token asked.turns start (outside_seen L.Link link.new K.Keeper keeper.new) result }
     ensures serving { IsServing result }
     ensures taking { CountsLink result (L.taking link.old) (L.taking link.new) }
 {
@@ -105,10 +102,10 @@ fn over_loaded<L: Link, K: Keeper, C: Ledger>(
     steps: &mut Steps<C>,
 ) -> Report
     requires bounded { directory.bound ≤ 16 }
-    ensures served { (kept : KeeperSeen) → IsLoaded directory.store loaded.now kept (seen (K.held keeper.old) (K.calls keeper.old) (K.faults keeper.old)) →
-        IsServedBy directory asked.token asked.turns (line_seen (L.ear link.old) (L.given link.old) (L.calls link.old) (L.taking link.old) (L.giving link.old))
-        (line_seen (L.ear link.new) (L.given link.new) (L.calls link.new) (L.taking link.new) (L.giving link.new))
-        kept (seen (K.held keeper.new) (K.calls keeper.new) (K.faults keeper.new)) result }
+    ensures served { (kept : KeeperSeen) →
+        IsLoaded directory.store loaded.now kept (keeper_seen K.Keeper keeper.old) →
+        IsServedBy directory asked.token asked.turns (record { link = link_seen L.Link link.old; keeper = kept })
+        (outside_seen L.Link link.new K.Keeper keeper.new) result }
     ensures serving { IsServing result }
     ensures taking { CountsLink result (L.taking link.old) (L.taking link.new) }
 {
@@ -132,9 +129,8 @@ fn over_directory<L: Link, K: Keeper, C: Ledger>(
     steps: &mut Steps<C>,
 ) -> Report
     requires bounded { directory.bound ≤ 16 }
-    ensures served { IsServedBy directory asked.token asked.turns (line_seen (L.ear link.old) (L.given link.old) (L.calls link.old) (L.taking link.old) (L.giving link.old))
-        (line_seen (L.ear link.new) (L.given link.new) (L.calls link.new) (L.taking link.new) (L.giving link.new))
-        (seen (K.held keeper.old) (K.calls keeper.old) (K.faults keeper.old)) (seen (K.held keeper.new) (K.calls keeper.new) (K.faults keeper.new)) result }
+    ensures served { IsServedBy directory asked.token asked.turns
+        (outside_seen L.Link link.old K.Keeper keeper.old) (outside_seen L.Link link.new K.Keeper keeper.new) result }
     ensures read { IsRead result }
     ensures spares { Spares result keeper.old keeper.new }
     ensures spares_link { SparesLink result link.old link.new }
@@ -169,9 +165,7 @@ fn over_config<L: Link, K: Keeper, C: Ledger>(
     steps: &mut Steps<C>,
 ) -> Report
     ensures due { ServesConfig (Some config.now) asked.token asked.turns
-        (line_seen (L.ear link.old) (L.given link.old) (L.calls link.old) (L.taking link.old) (L.giving link.old))
-        (line_seen (L.ear link.new) (L.given link.new) (L.calls link.new) (L.taking link.new) (L.giving link.new))
-        (seen (K.held keeper.old) (K.calls keeper.old) (K.faults keeper.old)) (seen (K.held keeper.new) (K.calls keeper.new) (K.faults keeper.new)) result }
+        (outside_seen L.Link link.old K.Keeper keeper.old) (outside_seen L.Link link.new K.Keeper keeper.new) result }
     ensures read { IsRead result }
     ensures spares { Spares result keeper.old keeper.new }
     ensures spares_link { SparesLink result link.old link.new }
@@ -200,9 +194,7 @@ pub fn over_serve<F: Files, L: Link, K: Keeper, C: Ledger>(
     steps: &mut Steps<C>,
 ) -> Report
     ensures gives { GivesServe (F.told files.old)
-        (line_seen (L.ear link.old) (L.given link.old) (L.calls link.old) (L.taking link.old) (L.giving link.old))
-        (line_seen (L.ear link.new) (L.given link.new) (L.calls link.new) (L.taking link.new) (L.giving link.new))
-        (seen (K.held keeper.old) (K.calls keeper.old) (K.faults keeper.old)) (seen (K.held keeper.new) (K.calls keeper.new) (K.faults keeper.new))
+        (outside_seen L.Link link.old K.Keeper keeper.old) (outside_seen L.Link link.new K.Keeper keeper.new)
         asked.config asked.token asked.turns result }
     ensures calls { IfSome (F.told files.old) (λ shelf. F.told files.new ≡ Some (called shelf)) }
     ensures count { CountsFiles result (F.faults files.old) (F.faults files.new) }

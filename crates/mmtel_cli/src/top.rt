@@ -7,12 +7,15 @@ ghost use Rattle.mmtel_words.specs.Commands.{command_in};
 ghost use Rattle.mmtel_directory.specs.Directory.{directory_of};
 ghost use Rattle.mmtel_cli.specs.Due.{due_of_events, due_of_script, shelf_of_directory, shelf_by, shelf_first};
 ghost use Rattle.mmtel_cli.specs.Found.{IsDue, HasCalled, CountsFiles, IsRead, SparedBy, Spares, TakingBy, UnboundBy};
-ghost use Rattle.mmtel_cli.specs.Gives.{GivesScript, GivesBoth, GivesCommand, Prepares};
-ghost use Rattle.mmtel_cli.specs.Keeping.{IsSpared, seen};
+ghost use Rattle.mmtel_cli.specs.Gives.{GivesScript, GivesBoth, GivesCommand, Prepares, ports};
+ghost use Rattle.mmtel_cli.specs.Keeping.{IsSpared};
+ghost use Rattle.mmtel_cli.specs.Outside.{outside_seen};
 ghost use Rattle.mmtel_cli.specs.Runs.{CalledFor, CountsAtFive, CountsAtFour, Ran};
-ghost use Rattle.mmtel_cli.specs.Serving.{IsUnbound, line_seen};
+ghost use Rattle.mmtel_cli.specs.Serving.{IsUnbound};
 ghost use Rattle.mmtel_outside.specs.Shelf.{called};
+ghost use Rattle.mmtel_reports.specs.Ends.{written_by};
 ghost use Rattle.mmtel_script.specs.Script.{unheard};
+ghost use Rattle.mmtel_server.specs.Seen.{keeper_seen};
 
 use crate::charges::over_charges;
 use crate::checks::over_records;
@@ -48,8 +51,8 @@ fn over_events<K: Keeper, C: Ledger>(
 ) -> Report
     requires bounded { directory.bound ≤ 16 }
     requires unheard { script.old ≡ unheard script.old.events }
-    ensures due { IsDue (seen (K.held keeper.old) (K.calls keeper.old) (K.faults keeper.old))
-        (seen (K.held keeper.new) (K.calls keeper.new) (K.faults keeper.new)) result (due_of_events directory token.now (Ok script.old.events)) }
+    ensures due { IsDue (keeper_seen K.Keeper keeper.old) (keeper_seen K.Keeper keeper.new)
+        result (due_of_events directory token.now (Ok script.old.events)) }
     ensures read { IsRead result }
     ensures spares { Spares result keeper.old keeper.new }
 {
@@ -70,8 +73,8 @@ fn over_script<K: Keeper, C: Ledger>(
     steps: &mut Steps<C>,
 ) -> Report
     requires bounded { directory.bound ≤ 16 }
-    ensures due { IsDue (seen (K.held keeper.old) (K.calls keeper.old) (K.faults keeper.old))
-        (seen (K.held keeper.new) (K.calls keeper.new) (K.faults keeper.new)) result (due_of_script directory token.now (Some script.now)) }
+    ensures due { IsDue (keeper_seen K.Keeper keeper.old) (keeper_seen K.Keeper keeper.new)
+        result (due_of_script directory token.now (Some script.now)) }
     ensures read { IsRead result }
     ensures spares { Spares result keeper.old keeper.new }
 {
@@ -102,8 +105,8 @@ fn over_directory<F: Files, K: Keeper, C: Ledger>(
     steps: &mut Steps<C>,
 ) -> Report
     requires bounded { directory.bound ≤ 16 }
-    ensures gives { GivesScript (F.told files.old) (seen (K.held keeper.old) (K.calls keeper.old) (K.faults keeper.old))
-        (seen (K.held keeper.new) (K.calls keeper.new) (K.faults keeper.new)) (asked_by replay) (Ok directory) result }
+    ensures gives { GivesScript (F.told files.old) (keeper_seen K.Keeper keeper.old) (keeper_seen K.Keeper keeper.new)
+        (asked_by replay) (Ok directory) result }
     ensures calls { IfSome (F.told files.old) (λ shelf. F.told files.new ≡ Some (called shelf)) }
     ensures count { CountsFiles result (F.faults files.old) (F.faults files.new) }
     ensures asked { result ≢ Report.Usage }
@@ -145,9 +148,10 @@ fn over_config<F: Files, K: Keeper, C: Ledger>(
     keeper: &mut K,
     steps: &mut Steps<C>,
 ) -> Report
-    ensures gives { GivesScript (F.told files.old) (seen (K.held keeper.old) (K.calls keeper.old) (K.faults keeper.old))
-        (seen (K.held keeper.new) (K.calls keeper.new) (K.faults keeper.new)) (asked_by replay) (directory_of config.now) result }
-    ensures calls { IfSome (F.told files.old) (λ shelf. HasCalled result (F.told files.new) shelf (shelf_of_directory shelf (directory_of config.now))) }
+    ensures gives { GivesScript (F.told files.old) (keeper_seen K.Keeper keeper.old) (keeper_seen K.Keeper keeper.new)
+        (asked_by replay) (directory_of config.now) result }
+    ensures calls { IfSome (F.told files.old)
+        (λ shelf. HasCalled result (F.told files.new) shelf (shelf_of_directory shelf (directory_of config.now))) }
     ensures count { CountsFiles result (F.faults files.old) (F.faults files.new) }
     ensures asked { result ≢ Report.Usage }
     ensures spares { Spares result keeper.old keeper.new }
@@ -173,9 +177,10 @@ fn over_replay<F: Files, K: Keeper, C: Ledger>(
     keeper: &mut K,
     steps: &mut Steps<C>,
 ) -> Report
-    ensures gives { GivesBoth (F.told files.old) (seen (K.held keeper.old) (K.calls keeper.old) (K.faults keeper.old))
-        (seen (K.held keeper.new) (K.calls keeper.new) (K.faults keeper.new)) (asked_by replay) result }
-    ensures calls { IfSome (F.told files.old) (λ shelf. HasCalled result (F.told files.new) (called shelf) (shelf_by shelf (line.Replay (asked_by replay)))) }
+    ensures gives { GivesBoth (F.told files.old) (keeper_seen K.Keeper keeper.old) (keeper_seen K.Keeper keeper.new)
+        (asked_by replay) result }
+    ensures calls { IfSome (F.told files.old)
+        (λ shelf. HasCalled result (F.told files.new) (called shelf) (shelf_by shelf (line.Replay (asked_by replay)))) }
     ensures count { CountsFiles result (F.faults files.old) (F.faults files.new) }
     ensures asked { result ≢ Report.Usage }
     ensures spares { Spares result keeper.old keeper.new }
@@ -207,11 +212,10 @@ fn over_wanted<F: Files, L: Link, K: Keeper, C: Ledger>(
     steps: &mut Steps<C>,
 ) -> Report
     ensures gives { GivesCommand (F.told files.old)
-        (line_seen (L.ear link.old) (L.given link.old) (L.calls link.old) (L.taking link.old) (L.giving link.old))
-        (line_seen (L.ear link.new) (L.given link.new) (L.calls link.new) (L.taking link.new) (L.giving link.new))
-        (seen (K.held keeper.old) (K.calls keeper.old) (K.faults keeper.old))
-        (seen (K.held keeper.new) (K.calls keeper.new) (K.faults keeper.new)) (command_in wanted) result }
-    ensures calls { IfSome (F.told files.old) (λ shelf. HasCalled result (F.told files.new) (shelf_first shelf (command_in wanted)) (shelf_by shelf (command_in wanted))) }
+        (outside_seen L.Link link.old K.Keeper keeper.old) (outside_seen L.Link link.new K.Keeper keeper.new)
+        (command_in wanted) result }
+    ensures calls { IfSome (F.told files.old) (λ shelf. HasCalled result (F.told files.new)
+        (shelf_first shelf (command_in wanted)) (shelf_by shelf (command_in wanted))) }
     ensures count { CountsFiles result (F.faults files.old) (F.faults files.new) }
     ensures asked { result ≢ Report.Usage }
     ensures spares { Spares result keeper.old keeper.new }
@@ -240,11 +244,9 @@ fn prepare<F: Files, L: Link, K: Keeper, C: Ledger>(
     requires name { blank.name ≡ C.name }
     requires parts { blank.parts ≡ C.parts }
     requires some { 0 < C.parts }
-    ensures prepares { Prepares words.now (F.told files.old) (F.told files.new)
-        (line_seen (L.ear link.old) (L.given link.old) (L.calls link.old) (L.taking link.old) (L.giving link.old))
-        (line_seen (L.ear link.new) (L.given link.new) (L.calls link.new) (L.taking link.new) (L.giving link.new))
-        (seen (K.held keeper.old) (K.calls keeper.old) (K.faults keeper.old)) (seen (K.held keeper.new) (K.calls keeper.new) (K.faults keeper.new))
-        link.old link.new keeper.old keeper.new result }
+    ensures prepares { Prepares words.now
+        (outside_seen L.Link link.old K.Keeper keeper.old) (outside_seen L.Link link.new K.Keeper keeper.new)
+        (ports (F.told files.old) link.old keeper.old) (ports (F.told files.new) link.new keeper.new) result }
     ensures count { CountsFiles result (F.faults files.old) (F.faults files.new) }
     ensures spares { Spares result keeper.old keeper.new }
 {
@@ -287,10 +289,8 @@ pub fn run<F: Files, L: Link, K: Keeper, S: Sink>(
     // that the keeper gave, or that it could not be bound or not give them; the numbers of exactly what a server makes of so many calls by the salt, whose messages are known
     // from these two. Or it is the text of another status; and where memory ran out, what had been done by then: of the last event a front at most.
     ensures ran { Ran (F.told files.old)
-        (line_seen (L.ear link.old) (L.given link.old) (L.calls link.old) (L.taking link.old) (L.giving link.old))
-        (line_seen (L.ear link.new) (L.given link.new) (L.calls link.new) (L.taking link.new) (L.giving link.new))
-        (seen (K.held keeper.old) (K.calls keeper.old) (K.faults keeper.old)) (seen (K.held keeper.new) (K.calls keeper.new) (K.faults keeper.new))
-        words.now result (S.written out.old) (S.written out.new) (S.faults out.old) (S.faults out.new) }
+        (outside_seen L.Link link.old K.Keeper keeper.old) (outside_seen L.Link link.new K.Keeper keeper.new)
+        words.now (written_by S.Sink result out.old out.new) }
     // What was asked of the files.
     ensures calls { IfSome (F.told files.old) (λ shelf. CalledFor shelf words.now result (F.told files.new)) }
     // When the count of their faults rose.
@@ -325,11 +325,10 @@ pub fn program<F: Files, L: Link, K: Keeper, S: Sink>(
 ) -> ExitCode
     // So it is of the status that the process ends with.
     ensures ran { Ran (F.told files.old)
-        (line_seen (L.ear link.old) (L.given link.old) (L.calls link.old) (L.taking link.old) (L.giving link.old))
-        (line_seen (L.ear link.new) (L.given link.new) (L.calls link.new) (L.taking link.new) (L.giving link.new))
-        (seen (K.held keeper.old) (K.calls keeper.old) (K.faults keeper.old)) (seen (K.held keeper.new) (K.calls keeper.new) (K.faults keeper.new))
-        words.now (exit_status result) (S.written out.old) (S.written out.new) (S.faults out.old) (S.faults out.new) }
-    ensures calls { IfSome (F.told files.old) (λ shelf. CalledFor shelf words.now (exit_status result) (F.told files.new)) }
+        (outside_seen L.Link link.old K.Keeper keeper.old) (outside_seen L.Link link.new K.Keeper keeper.new)
+        words.now (written_by S.Sink (exit_status result) out.old out.new) }
+    ensures calls { IfSome (F.told files.old)
+        (λ shelf. CalledFor shelf words.now (exit_status result) (F.told files.new)) }
     ensures files { CountsAtFive (exit_status result) (F.faults files.old) (F.faults files.new) }
     ensures keeper { IsSpared words.now (exit_status result) keeper.old keeper.new }
     ensures link { IsUnbound words.now (exit_status result) link.old link.new }

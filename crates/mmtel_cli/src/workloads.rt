@@ -1,10 +1,9 @@
 //! A workload: what a server makes of the calls of a rule, counted.
-ghost use Rattle.std.specs.Prelude.{◌≡◌, ◌≤◌, IfOk, None, OnOk, Some, length};
+ghost use Rattle.std.specs.Prelude.{◌≡◌, ◌≤◌, IfOk, OnOk, length};
 ghost use Rattle.mmtel_cli.specs.Found.{IsRead};
 ghost use Rattle.mmtel_cli.specs.Gives.{GivesWork};
-ghost use Rattle.mmtel_cli.specs.Keeping.{seen};
 ghost use Rattle.mmtel_cli.specs.Listings.{OffersRun};
-ghost use Rattle.mmtel_cli.specs.Workloads.{Counts, diversions_in, with_line, work_loaded, work_text, work_token};
+ghost use Rattle.mmtel_cli.specs.Workloads.{Counts, diversions_in, keeper_of, with_line, work_loaded, work_text, work_token};
 ghost use Rattle.mmtel_script.specs.Script.{unheard};
 
 use crate::runs::offered;
@@ -53,7 +52,8 @@ fn offered_for_calls<C: Ledger>(
 ) -> Result<List<Offer>, NoMemory>
     requires bounded { directory.bound ≤ 16 }
     requires unheard { work.old ≡ unheard work.old.events }
-    ensures run { IfOk result (OffersRun directory work_token work_loaded work.old.events (seen (Some keeper.old) None 0) (seen (Some keeper.new) None 0)) }
+    ensures run { IfOk result (OffersRun directory work_token work_loaded work.old.events
+        (keeper_of keeper.old) (keeper_of keeper.new)) }
 {
     let carol = match Text::of(alloc, CAROL) {
         Ok(carol) => carol,

@@ -3,16 +3,15 @@ ghost use Rattle.std.specs.Prelude.{◌≡◌, IfOk};
 ghost use Rattle.std.specs.Option.{option_copied};
 ghost use Rattle.mmtel_trust.specs.MaskedMessages.{public_part};
 ghost use Rattle.mmtel_run.specs.Refusals.{account_in, registration, registration_of, seconds_of, to_account};
-ghost use Rattle.mmtel_intake.specs.Accounts.{account_by, account_of_uri};
+ghost use Rattle.mmtel_intake.specs.Accounts.{account_by};
 ghost use Rattle.mmtel_intake.specs.Courses.{course_in};
 
 use crate::answers::{Course, plainly};
 use mmtel_answers::Hearing;
 use mmtel_directory::Directory;
-use mmtel_lex::{LexFault, UriFault, read_name_addr, read_uri};
 use mmtel_message::{first_of, is_request};
 use mmtel_scan::{NoMemory, number_up_to};
-use mmtel_trust::Accounts;
+use mmtel_trust::{Accounts, uri_in};
 use mmtel_types::Account;
 use std::alloc::Global;
 
@@ -22,30 +21,17 @@ const HOUR: u64 = 3600;
 /// The greatest number of seconds that Expires can name (RFC 3261 §20.19).
 const MOST_SECONDS: u64 = 4_294_967_295;
 
-/// The account that the bytes of a URI name.
-fn account_of_uri(
-    alloc: Global,
-    accounts: &Accounts,
-    bytes: &[u8],
-) -> Result<Option<Account>, NoMemory>
-    ensures { IfOk result (λ account. account ≡ account_of_uri accounts.now bytes.now) }
-{
-    match read_uri(alloc, bytes) {
-        Ok(uri) => Ok(accounts.find(&uri)),
-        Err(UriFault::Malformed) => Ok(None),
-        Err(UriFault::Scheme) => Ok(None),
-        Err(UriFault::NoMemory) => Err(NoMemory),
-    }
-}
-
 /// The account that a name-addr names.
 fn account_in(alloc: Global, accounts: &Accounts, value: &[u8]) -> Result<Option<Account>, NoMemory>
     ensures { IfOk result (λ account. account ≡ account_in accounts.now value.now) }
 {
-    match read_name_addr(alloc, value) {
-        Ok(name) => account_of_uri(alloc, accounts, name.uri.bytes()),
-        Err(LexFault::Malformed) => Ok(None),
-        Err(LexFault::NoMemory) => Err(NoMemory),
+    match uri_in(alloc, value)? {
+        None => Ok(None),
+        Some(uri) => {
+            let account = accounts.find(&uri);
+            drop(uri);
+            Ok(account)
+        }
     }
 }
 

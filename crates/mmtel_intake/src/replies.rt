@@ -7,7 +7,7 @@ ghost use Rattle.mmtel_run.specs.Answers.{completed_reply, response_to, to_tag_i
 ghost use Rattle.mmtel_intake.specs.Courses.{answer_in};
 
 use crate::answers::Answer;
-use mmtel_answers::{Hearing, own_answer, status_of};
+use mmtel_answers::{Hearing, OwnResponse, own_answer, status_of};
 use mmtel_lex::{LexFault, param_value, read_name_addr};
 use mmtel_message::{Msg, Reply, Start, first_of, response};
 use mmtel_scan::NoMemory;
@@ -53,16 +53,13 @@ pub fn response_to(
 ) -> Result<Msg, NoMemory>
     ensures message { IfOk result (λ m. m ≡ response_to sip tag.now request.now (answer_in answer.now)) }
 {
-    own_answer(
-        alloc,
-        sip,
-        request,
-        tag,
-        answer.code,
-        &[],
-        answer.named.items(),
-        &[],
-    )
+    let own = OwnResponse {
+        code: answer.code,
+        passed: &[],
+        named: answer.named.items(),
+        body: b"",
+    };
+    own_answer(alloc, sip, request, tag, own)
 }
 
 /// The phrase of a response; no bytes of a request.

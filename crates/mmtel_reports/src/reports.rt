@@ -2,7 +2,7 @@
 ghost use Rattle.std.specs.Prelude.{◌≡◌, OnOk, OnErr, decimal};
 ghost use Rattle.std.specs.Io.KnownBytes.{Appends};
 ghost use Rattle.mmtel_outside.specs.Counts.{HasCause};
-ghost use Rattle.mmtel_reports.specs.Ends.{Ends, Wrote, WroteListing, line_text};
+ghost use Rattle.mmtel_reports.specs.Ends.{Ends, Wrote, WroteListing, line_text, written_by};
 ghost use Rattle.mmtel_outside.specs.Written.{AppendsPart};
 
 use itoa::Buffer;
@@ -58,7 +58,7 @@ fn write_line<S: Sink>(out: &mut S, line: u64) -> Result<(), Failed>
 
 /// Writes a text, and answers its status, which stays where the writing fails.
 fn say<S: Sink>(out: &mut S, text: &[u8], status: u8) -> u8
-    ensures wrote { Wrote text.now (S.written out.old) (S.written out.new) (S.faults out.old) (S.faults out.new) }
+    ensures wrote { Wrote text.now (written_by S.Sink result out.old out.new) }
     ensures status { result ≡ status }
 {
     let _ = write_all(out, text);
@@ -67,7 +67,7 @@ fn say<S: Sink>(out: &mut S, text: &[u8], status: u8) -> u8
 
 /// The same of a line's number.
 fn say_line<S: Sink>(out: &mut S, line: u64, status: u8) -> u8
-    ensures wrote { Wrote (line_text line) (S.written out.old) (S.written out.new) (S.faults out.old) (S.faults out.new) }
+    ensures wrote { Wrote (line_text line) (written_by S.Sink result out.old out.new) }
     ensures status { result ≡ status }
 {
     let _ = write_line(out, line);
@@ -76,7 +76,7 @@ fn say_line<S: Sink>(out: &mut S, line: u64, status: u8) -> u8
 
 /// Writes the text of a command that is done, and answers the status.
 fn write_whole<S: Sink>(out: &mut S, text: &[u8]) -> u8
-    ensures wrote { WroteListing text.now result (S.written out.old) (S.written out.new) (S.faults out.old) (S.faults out.new) }
+    ensures wrote { WroteListing text.now (written_by S.Sink result out.old out.new) }
 {
     match write_all(out, text) {
         Ok(()) => 0,
@@ -86,7 +86,7 @@ fn write_whole<S: Sink>(out: &mut S, text: &[u8]) -> u8
 
 /// Writes what is due, and answers the status. It takes no memory.
 pub fn write_report<S: Sink>(due: &Report, out: &mut S) -> u8
-    ensures ends { Ends due.now result (S.written out.old) (S.written out.new) (S.faults out.old) (S.faults out.new) }
+    ensures ends { Ends due.now (written_by S.Sink result out.old out.new) }
 {
     match due {
         Report::Usage => say(out, b"usage\n", 1),
@@ -104,7 +104,7 @@ pub fn write_report<S: Sink>(due: &Report, out: &mut S) -> u8
 
 /// Says that memory ran out before the words could be kept, and answers the status of that.
 pub fn out_of_memory<S: Sink>(out: &mut S) -> u8
-    ensures ends { Ends Report.Memory result (S.written out.old) (S.written out.new) (S.faults out.old) (S.faults out.new) }
+    ensures ends { Ends Report.Memory (written_by S.Sink result out.old out.new) }
 {
     write_report(&Report::Memory, out)
 }

@@ -36,7 +36,7 @@ none_but (e ∷ es) = refl
 
 pub reads_nothing : (ear : Option Ear) (given : Option Given) (giving : ℕ) → ReadsBetween ear ear given given giving giving
 reads_nothing None given giving = tt
-reads_nothing (Some ear) given giving = ([], 0, sym (append-nil ear.reads), none_but (to_come ear), omega arith)
+reads_nothing (Some ear) given giving = record { reads = []; unread = 0; parts = sym (append-nil ear.reads); each = none_but (to_come ear); rose = omega arith }
 
 -- one that was read out, but where a read failed
 one_but : (a b count : ℕ) (e : Event) → IsRead a b count e → (unread : ℕ) × IsReadBut unread count e × RoseBy unread a b
@@ -71,8 +71,13 @@ pub reads_lost : (ear later : Option Ear) (given between now : Option Given) (a 
     → ReadsBetween ear later given now a c
 reads_lost None later given between now a b c first lost = tt
 reads_lost (Some ear) None given between now a b c first lost = absurd first
-reads_lost (Some ear) (Some later) given between now a b c first lost =
-    (first.0, first.1, first.2, first.3, loses_then first.1 (lost_told given) (lost_told between) (lost_told now) a b c first.4 lost)
+reads_lost (Some ear) (Some later) given between now a b c first lost = record {
+  reads = first.reads;
+  unread = first.unread;
+  parts = first.parts;
+  each = first.each;
+  rose = loses_then first.unread (lost_told given) (lost_told between) (lost_told now) a b c first.rose lost;
+}
 
 pub reads_then : (ear mid later : Option Ear) (given now : Option Given) (a b c : ℕ) (xs : List Event) → HeardMore ear mid xs → ReadsBetween ear mid given now a b → ReadEach mid later b c
     → ReadsBetween ear later given now a c
@@ -80,15 +85,16 @@ reads_then None mid later given now a b c xs h first second = tt
 reads_then (Some ear) None later given now a b c xs h first second = absurd first
 reads_then (Some ear) (Some mid) None given now a b c xs h first second = absurd second
 reads_then (Some ear) (Some mid) (Some later) given now a b c xs h first second =
-    let there : EachRead b c (drop (length first.0) (to_come ear)) second.0 =
-    subst (λ (es : List Event). EachRead b c es second.0) (to_come_then ear mid first.0 h.0 first.2) second.2 in
-    let these = each_but b c (drop (length first.0) (to_come ear)) second.0 there in (
-      first.0 ++ second.0,
-      first.1 + these.0,
-      second.1 ∙ (ap (λ (l : List ℕ). l ++ second.0) first.2 ∙ append_assoc ear.reads first.0 second.0),
-      but_then first.1 these.0 (to_come ear) first.0 second.0 first.3 these.1,
-      reads_on first.1 these.0 (lost_more given now) a b c first.4 these.2,
-    )
+    let there : EachRead b c (drop (length first.reads) (to_come ear)) second.0 =
+    subst (λ (es : List Event). EachRead b c es second.0) (to_come_then ear mid first.reads h.0 first.parts) second.2 in
+    let these = each_but b c (drop (length first.reads) (to_come ear)) second.0 there in
+    record {
+      reads = first.reads ++ second.0;
+      unread = first.unread + these.0;
+      parts = second.1 ∙ (ap (λ (l : List ℕ). l ++ second.0) first.parts ∙ append_assoc ear.reads first.reads second.0);
+      each = but_then first.unread these.0 (to_come ear) first.reads second.0 first.each these.1;
+      rose = reads_on first.unread these.0 (lost_more given now) a b c first.rose these.2;
+    }
 
 -- the last of them was not read to its end
 pub reads_lost_last : (ear mid later : Option Ear) (given now : Option Given) (a b c : ℕ) → ReadsBetween ear mid given now a b → AddsOne mid later → StandsOrRose b c
@@ -96,28 +102,28 @@ pub reads_lost_last : (ear mid later : Option Ear) (given now : Option Given) (a
 reads_lost_last None mid later given now a b c first second stands = tt
 reads_lost_last (Some ear) None later given now a b c first second stands = absurd first
 reads_lost_last (Some ear) (Some mid) None given now a b c first second stands = absurd second
-reads_lost_last (Some ear) (Some mid) (Some later) given now a b c first second stands = (
-  first.0,
-  second.0,
-  first.1,
-  second.2 ∙ (ap (λ (l : List ℕ). l ++ second.0) first.2 ∙ append_assoc ear.reads first.0 second.0),
-  second.1,
-  first.3,
-  stands_on (first.1 + lost_more given now) a b c first.4 stands,
-)
+reads_lost_last (Some ear) (Some mid) (Some later) given now a b c first second stands = record {
+  reads = first.reads;
+  last = second.0;
+  unread = first.unread;
+  parts = second.2 ∙ (ap (λ (l : List ℕ). l ++ second.0) first.parts ∙ append_assoc ear.reads first.reads second.0);
+  one = second.1;
+  each = first.each;
+  rose = stands_on (first.unread + lost_more given now) a b c first.rose stands;
+}
 
 pub reads_all_last : (ear later : Option Ear) (given now : Option Given) (a b : ℕ) → ReadsBetween ear later given now a b → ReadsButLast ear later given now a b
 reads_all_last None later given now a b first = tt
 reads_all_last (Some ear) None given now a b first = absurd first
-reads_all_last (Some ear) (Some later) given now a b first = (
-  first.0,
-  [],
-  first.1,
-  first.2 ∙ ap (λ (l : List ℕ). ear.reads ++ l) (sym (append-nil first.0)),
-  omega arith,
-  first.3,
-  first.4,
-)
+reads_all_last (Some ear) (Some later) given now a b first = record {
+  reads = first.reads;
+  last = [];
+  unread = first.unread;
+  parts = first.parts ∙ ap (λ (l : List ℕ). ear.reads ++ l) (sym (append-nil first.reads));
+  one = omega arith;
+  each = first.each;
+  rose = first.rose;
+}
 
 -- ---- what was lost
 

@@ -1,174 +1,179 @@
 -- What the turns of `serve` come to, turn after turn.
-use Rattle.std.proofs.Common.{◌≡◌, ◌+◌, ◌<◌, ◌≤◌, ℕ, Bool, true, false, List, [], ◌∷◌, ◌++◌, length, refl, sym, subst, append-nil, Option, Result, Ok, Err, arith, inl, inr}
+use Rattle.std.proofs.Common.{◌≡◌, ◌+◌, ◌<◌, ◌≤◌, ℕ, Bool, true, false, List, [], ◌∷◌, ◌++◌, length, sym, ◌∙◌, subst, append-nil, Option, Ok, Err, arith, inl, inr}
 use Rattle.std.specs.Prelude.{◌⊎◌}
-use Rattle.mmtel_giving.specs.Giving.{RoseBy, lost_more}
+use Rattle.mmtel_giving.specs.Giving.{Gave, GaveAll, RoseBy, lost_more}
 use Rattle.mmtel_giving.specs.Laws.{NothingIsGiven, PartsAreGiven}
-use Rattle.mmtel_keeper.specs.Kept.{Held, KeeperCalls}
 use Rattle.mmtel_link.specs.Told.{Ear, Given}
 use Rattle.mmtel_outside.specs.declared.events.Event.{Event}
 use Rattle.mmtel_run.specs.Events.{Happened, events_in}
-use Rattle.mmtel_outside.specs.declared.events.Offer.{Offer}
 use Rattle.mmtel_run_laws.specs.Seen.{BytesAreSeen}
 use Rattle.mmtel_run_laws.specs.Secret.{OffersKeepTheSecret}
 use Rattle.mmtel_scan.specs.declared.memory.NoMemory as memory
 use Rattle.mmtel_server.specs.Driven.{AddsOne, HeardMore, IsAtEnd, ReadEach, StandsOrRose, Takes}
 use Rattle.mmtel_server.specs.Laws.{RunLaws}
+use Rattle.mmtel_server.specs.Seen.{LinkSeen, ServingState}
 use Rattle.mmtel_server.specs.Stands.{AddsFront, BreaksOff}
-use Rattle.mmtel_server.specs.Stepped.{Stopped, happened_in}
+use Rattle.mmtel_server.specs.Stepped.{happened_in}
 use Rattle.mmtel_server.specs.declared.driving.DriveFault.{DriveFault}
 use Rattle.mmtel_server.specs.declared.driving.DriveFault.TheVariants.{LinkFault, NoMemory}
-use Rattle.mmtel_server.specs.declared.servers.Server.{Server}
 use Rattle.mmtel_server.proofs.Heard.{heard_nothing}
 use Rattle.mmtel_server.proofs.Keeping.{length_lost, lost_events}
 use Rattle.mmtel_server.proofs.Made.{made_all, made_broken, made_closed, made_failed, made_lost, made_more, made_none}
-use Rattle.mmtel_serve.specs.Served.{KeptInFront, KeptTheSecret, ReadsBetween, Served, StoppedGiving}
+use Rattle.mmtel_serve.specs.Served.{GaveOn, KeptInFront, KeptTheSecret, ReadsBetween, ReadsButLast, Served, StoppedGiving}
 use Rattle.mmtel_serve.specs.Turns.{EventServed, EventStopped, ServedSoFar}
 use Rattle.mmtel_serve.proofs.Gives.{gave_nothing, gave_part, gave_still, gave_then}
 use Rattle.mmtel_serve.proofs.Secret.{front_of, kept_of}
 use Rattle.mmtel_serve.proofs.Reading.{reads_all_last, reads_lost, reads_lost_last, reads_nothing, reads_then}
 
-module _ (laws : RunLaws) (none : NothingIsGiven) (both : PartsAreGiven) (keeps : OffersKeepTheSecret) (bytes : BytesAreSeen) (ear : Option Ear) (giving : ℕ) (given : Option Given) (held : Option Held) (calls : Option KeeperCalls) (faults : ℕ) (old : Server) where
-  pub begun : ServedSoFar ear ear giving giving given given held held calls calls faults faults 0 old old
+module _ (laws : RunLaws) (none : NothingIsGiven) (both : PartsAreGiven) (keeps : OffersKeepTheSecret) (bytes : BytesAreSeen) (start : ServingState) where
+  pub begun : ServedSoFar 0 start start
   begun = record {
     happened = [];
-    made = made_none laws ear held calls faults old;
-    read = reads_nothing ear given giving;
-    gave_all = gave_nothing none old given;
+    made = made_none laws start;
+    read = reads_nothing start.link.ear start.link.given start.link.giving;
+    gave_all = gave_nothing none start.server start.link.given;
   }
 
-  module _ (mid : Option Ear) (gave : ℕ) (between : Option Given) (kept_by : Option Held) (asked : Option KeeperCalls) (count turns : ℕ) (server : Server)
-      (s : ServedSoFar ear mid giving gave given between held kept_by calls asked faults count turns old server) where
-    read_more : (later : Option Ear) (now : ℕ) → ReadEach mid later gave now → ReadsBetween ear later given between giving now
-    read_more later now read = reads_then ear mid later given between giving gave now (events_in s.happened) s.made.told s.read read
+  module _ (turns : ℕ) (mid : ServingState) (s : ServedSoFar turns start mid) where
+    -- where the link alone has gone on since
+    abbrev since : LinkSeen → ServingState
+    since link = record { link = link; keeper = mid.keeper; server = mid.server }
 
-    -- and then something may have been lost in giving
-    read_given : (later : Option Ear) (now : ℕ) → ReadEach mid later gave now → (before : Option Given) → before ≡ between → (past : Option Given) (lost : ℕ)
-        → RoseBy (lost_more before past) now lost → ReadsBetween ear later given past giving lost
-    read_given later now read before same past lost counted =
-        reads_lost ear later given between past giving now lost (read_more later now read) (subst (λ (g : Option Given). RoseBy (lost_more g past) now lost) same counted)
+    -- it took an event, or none
+    abbrev ReadsOn : LinkSeen → Type 0
+    ReadsOn link = ReadEach mid.link.ear link.ear mid.link.giving link.giving
 
-    front_kept : (happened : List Happened) (now : Option Given) → StoppedGiving happened old given now → KeptInFront happened old given now
-    front_kept happened now gave = front_of keeps laws.always bytes happened old given now gave
+    read_more : (link : LinkSeen) → ReadsOn link → ReadsBetween start.link.ear link.ear start.link.given mid.link.given start.link.giving link.giving
+    read_more link each =
+        reads_then start.link.ear mid.link.ear link.ear start.link.given mid.link.given start.link.giving mid.link.giving link.giving (events_in s.happened) s.made.told s.read each
 
-    secret_kept : KeptTheSecret s.happened old given between
-    secret_kept = kept_of keeps laws.always bytes s.happened old given between s.gave_all
+    front_kept : (happened : List Happened) (given : Option Given) → StoppedGiving happened start.server start.link.given given → KeptInFront happened start.server start.link.given given
+    front_kept happened given gave = front_of keeps laws.always bytes happened start.server start.link.given given gave
 
-    -- the link was given nothing as the event was read, and heard nothing as it was given: one turn took an event, and it was done and given
-    pub goes_on : (later : Option Ear) (now : ℕ) (e : Event) → HeardMore mid later (e ∷ []) × ReadEach mid later gave now → (before : Option Given) → before ≡ between → (last : Option Ear) → last ≡ later
-        → (lost : ℕ) (new : Server) (left : Option Held) (after : Option KeeperCalls) (faulty : ℕ) (past : Option Given) → RoseBy (lost_more before past) now lost → (x : Unit {0})
-        → EventServed server new e before past kept_by left asked after count faulty (Ok x)
-        → ServedSoFar ear last giving lost given past held left calls after faults faulty (turns + 1) old new
-    goes_on later now e told before same last heard lost new left after faulty past rose x served =
-        let ev : EventServed server new e between past kept_by left asked after count faulty (Ok x) =
-        subst (λ (g : Option Given). EventServed server new e g past kept_by left asked after count faulty (Ok x)) same served in
-        let one : Happened = happened_in e ev.step.kept ev.step.rows ev.step.took in
-        let here : ServedSoFar ear later giving lost given past held left calls after faults faulty (turns + 1) old new = record {
-          happened = s.happened ++ one ∷ [];
-          made = made_more laws ear held calls faults old s.happened mid kept_by asked count turns server s.made later left after faulty new [] ev.offers e told.0 ev.step;
-          read = read_given later now told.1 before same past lost rose;
-          gave_all = gave_then laws.draws laws.always both s.happened old server s.made.serves given between s.gave_all one new ev.offers ev.step.adds ev.known ev.peers past ev.gave;
-        } in
-        subst (λ (o : Option Ear). ServedSoFar ear o giving lost given past held left calls after faults faulty (turns + 1) old new) (sym heard) here
+    secret_kept : KeptTheSecret s.happened start.server start.link.given mid.link.given
+    secret_kept = kept_of keeps laws.always bytes s.happened start.server start.link.given mid.link.given s.gave_all
 
-    module _ (most : ℕ) (less : turns < most) where
-      -- memory ran out in doing it
-      stopped : (later : Option Ear) (now : ℕ) (e : Event) → HeardMore mid later (e ∷ []) × ReadEach mid later gave now → (lost : ℕ) → RoseBy (lost_more between between) now lost
-          → (new : Server) (left : Option Held) (after : Option KeeperCalls) (faulty : ℕ) (offers : List Offer) → Stopped server [] offers e kept_by left asked after count faulty
-          → Served ear later giving lost given between held left calls after faults faulty most old new (Err NoMemory)
-      stopped later now e told lost rose new left after faulty offers met =
-          let one : Happened = happened_in e met.kept met.rows false in
+    -- the link was given nothing as the event was read, and heard nothing as this was given
+    module _ (read : LinkSeen) (new : ServingState) (e : Event) (told : HeardMore mid.link.ear read.ear (e ∷ []) × ReadsOn read) (same : read.given ≡ mid.link.given)
+        (heard : new.link.ear ≡ read.ear) (rose : RoseBy (lost_more read.given new.link.given) read.giving new.link.giving) where
+      heard_new : HeardMore mid.link.ear new.link.ear (e ∷ [])
+      heard_new = subst (λ (ear : Option Ear). HeardMore mid.link.ear ear (e ∷ [])) (sym heard) told.0
+
+      -- something may have been lost in giving
+      read_new : ReadsBetween start.link.ear new.link.ear start.link.given new.link.given start.link.giving new.link.giving
+      read_new =
+          subst (λ (ear : Option Ear). ReadsBetween start.link.ear ear start.link.given new.link.given start.link.giving new.link.giving) (sym heard)
+          (reads_lost start.link.ear read.ear start.link.given mid.link.given new.link.given start.link.giving read.giving new.link.giving (read_more read told.1)
+          (subst (λ (given : Option Given). RoseBy (lost_more given new.link.given) read.giving new.link.giving) same rose))
+
+      -- it was done and given
+      pub goes_on : (x : Unit {0}) → EventServed e (since read) new (Ok x) → ServedSoFar (turns + 1) start new
+      goes_on x served =
+          let one : Happened = happened_in e served.step.kept served.step.rows served.step.took in
           record {
             happened = s.happened ++ one ∷ [];
-            made = made_broken laws ear held calls faults old s.happened mid kept_by asked count turns server s.made most less later left after faulty e
-                (λ by rows. (took : Bool) → BreaksOff server [] offers (happened_in e by rows took) × AddsFront server [] offers (happened_in e by rows took)) told.0 met;
-            read = reads_all_last ear later given between giving lost (read_given later now told.1 between refl between lost rose);
-            given_all = gave_still laws.draws laws.always both s.happened old server s.made.serves given between s.gave_all (one ∷ []) (omega arith);
-            kept = front_kept (s.happened ++ one ∷ []) between (gave_still laws.draws laws.always both s.happened old server s.made.serves given between s.gave_all (one ∷ []) (omega arith));
+            made = made_more laws start s.happened turns mid s.made new [] served.offers e heard_new served.step;
+            read = read_new;
+            gave_all = gave_then laws.draws laws.always both s.happened start.server mid.server s.made.serves start.link.given mid.link.given s.gave_all one new.server served.offers
+                served.step.adds served.known served.peers new.link.given
+                (subst (λ (given : Option Given). Gave served.known served.offers given new.link.given) same served.gave);
           }
 
-      -- or in giving what came of it
-      cut : (later : Option Ear) (now : ℕ) (e : Event) → HeardMore mid later (e ∷ []) × ReadEach mid later gave now → (lost : ℕ) (new : Server) (left : Option Held)
-          (after : Option KeeperCalls) (faulty : ℕ) (past : Option Given) → RoseBy (lost_more between past) now lost → (x : memory.NoMemory) → EventServed server new e between past kept_by left asked after count faulty (Err x)
-          → Served ear later giving lost given past held left calls after faults faulty most old new (Err NoMemory)
-      cut later now e told lost new left after faulty past rose x ev =
-          let one : Happened = happened_in e ev.step.kept ev.step.rows ev.step.took in
-          let made = made_more laws ear held calls faults old s.happened mid kept_by asked count turns server s.made later left after faulty new [] ev.offers e told.0 ev.step in
-          let gave_some : StoppedGiving ((s.happened ++ one ∷ []) ++ lost_events []) old given past =
-          subst (λ (l : List Happened). StoppedGiving l old given past) (sym (append-nil (s.happened ++ one ∷ [])))
-          (gave_part laws.draws laws.always both s.happened old server s.made.serves given between s.gave_all one new ev.offers ev.step.adds ev.known ev.peers past x ev.gave) in
+      module _ (most : ℕ) (less : turns < most) where
+        -- memory ran out in doing it
+        stopped : EventStopped e (since read) new → Served most start new (Err NoMemory)
+        stopped ev =
+            let one : Happened = happened_in e ev.met.kept ev.met.rows false in
+            let gave_none : StoppedGiving (s.happened ++ one ∷ []) start.server start.link.given new.link.given =
+            subst (λ (given : Option Given). StoppedGiving (s.happened ++ one ∷ []) start.server start.link.given given) (sym (ev.stands ∙ same))
+            (gave_still laws.draws laws.always both s.happened start.server mid.server s.made.serves start.link.given mid.link.given s.gave_all (one ∷ []) (omega arith)) in
+            record {
+              happened = s.happened ++ one ∷ [];
+              made = made_broken laws start s.happened turns mid s.made most less new e
+                  (λ kept rows. (took : Bool) → BreaksOff mid.server [] ev.offers (happened_in e kept rows took) × AddsFront mid.server [] ev.offers (happened_in e kept rows took))
+                  heard_new ev.met;
+              read = reads_all_last start.link.ear new.link.ear start.link.given new.link.given start.link.giving new.link.giving read_new;
+              given_all = gave_none;
+              kept = front_kept (s.happened ++ one ∷ []) new.link.given gave_none;
+            }
+
+        -- or in giving what came of it
+        cut : (x : memory.NoMemory) → EventServed e (since read) new (Err x) → Served most start new (Err NoMemory)
+        cut x ev =
+            let one : Happened = happened_in e ev.step.kept ev.step.rows ev.step.took in
+            let made = made_more laws start s.happened turns mid s.made new [] ev.offers e heard_new ev.step in
+            let gave_some : StoppedGiving ((s.happened ++ one ∷ []) ++ lost_events []) start.server start.link.given new.link.given =
+            subst (λ (l : List Happened). StoppedGiving l start.server start.link.given new.link.given) (sym (append-nil (s.happened ++ one ∷ [])))
+            (gave_part laws.draws laws.always both s.happened start.server mid.server s.made.serves start.link.given mid.link.given s.gave_all one new.server ev.offers
+            ev.step.adds ev.known ev.peers new.link.given x
+            (subst (λ (given : Option Given). GaveAll ev.known ev.offers given new.link.given (Err x)) same ev.gave)) in
+            record {
+              happened = (s.happened ++ one ∷ []) ++ lost_events [];
+              made = made_lost laws start (s.happened ++ one ∷ []) (turns + 1) new made most new.link [] (omega arith) (omega (arith, less)) (heard_nothing new.link.ear);
+              read = reads_all_last start.link.ear new.link.ear start.link.given new.link.given start.link.giving new.link.giving read_new;
+              given_all = gave_some;
+              kept = front_kept ((s.happened ++ one ∷ []) ++ lost_events []) new.link.given gave_some;
+            }
+
+        pub breaks : (x : memory.NoMemory) → EventStopped e (since read) new ⊎ EventServed e (since read) new (Err x) → Served most start new (Err NoMemory)
+        breaks x (inl ev) = stopped ev
+        breaks x (inr ev) = cut x ev
+
+    -- the link is given nothing in a turn that takes no event
+    module _ (most : ℕ) (less : turns < most) (link : LinkSeen) (same : link.given ≡ mid.link.given) where
+      read_still : ReadsOn link → ReadsBetween start.link.ear link.ear start.link.given link.given start.link.giving link.giving
+      read_still each =
+          subst (λ (given : Option Given). ReadsBetween start.link.ear link.ear start.link.given given start.link.giving link.giving) (sym same) (read_more link each)
+
+      gave_then_none : GaveOn s.happened start.server start.link.given link.given
+      gave_then_none = subst (λ (given : Option Given). GaveOn s.happened start.server start.link.given given) (sym same) s.gave_all
+
+      kept_still : KeptTheSecret s.happened start.server start.link.given link.given
+      kept_still = subst (λ (given : Option Given). KeptTheSecret s.happened start.server start.link.given given) (sym same) secret_kept
+
+      -- memory ran out before it was read to its end
+      lost_one : StandsOrRose mid.link.giving link.giving → (es : List Event) → length es ≤ 1 → HeardMore mid.link.ear link.ear es × AddsOne mid.link.ear link.ear
+          → Served most start (since link) (Err NoMemory)
+      lost_one stands es one told =
+          let few_lost : length (lost_events es) ≤ 1 = omega (arith, length_lost es, one) in
+          let gave_none : StoppedGiving (s.happened ++ lost_events es) start.server start.link.given link.given =
+          subst (λ (given : Option Given). StoppedGiving (s.happened ++ lost_events es) start.server start.link.given given) (sym same)
+          (gave_still laws.draws laws.always both s.happened start.server mid.server s.made.serves start.link.given mid.link.given s.gave_all (lost_events es) few_lost) in
           record {
-            happened = (s.happened ++ one ∷ []) ++ lost_events [];
-            made = made_lost laws ear held calls faults old (s.happened ++ one ∷ []) later left after faulty (turns + 1) new made most later [] (omega arith) (omega (arith, less)) (heard_nothing later);
-            read = reads_all_last ear later given past giving lost (read_given later now told.1 between refl past lost rose);
-            given_all = gave_some;
-            kept = front_kept ((s.happened ++ one ∷ []) ++ lost_events []) past gave_some;
+            happened = s.happened ++ lost_events es;
+            made = made_lost laws start s.happened turns mid s.made most link es one (omega (arith, less, one)) told.0;
+            read = subst (λ (given : Option Given). ReadsButLast start.link.ear link.ear start.link.given given start.link.giving link.giving) (sym same)
+                (reads_lost_last start.link.ear mid.link.ear link.ear start.link.given mid.link.given start.link.giving mid.link.giving link.giving s.read told.1 stands);
+            given_all = gave_none;
+            kept = front_kept (s.happened ++ lost_events es) link.given gave_none;
           }
 
-      broke : (later : Option Ear) (now : ℕ) (e : Event) → HeardMore mid later (e ∷ []) × ReadEach mid later gave now → (lost : ℕ) (new : Server) (left : Option Held)
-          (after : Option KeeperCalls) (faulty : ℕ) (past : Option Given) → RoseBy (lost_more between past) now lost → (x : memory.NoMemory)
-          → EventStopped server e between past kept_by left asked after count faulty ⊎ EventServed server new e between past kept_by left asked after count faulty (Err x)
-          → Served ear later giving lost given past held left calls after faults faulty most old new (Err NoMemory)
-      broke later now e told lost new left after faulty past rose x (inl ev) =
-          subst (λ (g : Option Given). Served ear later giving lost given g held left calls after faults faulty most old new (Err NoMemory)) (sym ev.stands)
-          (stopped later now e told lost (subst (λ (g : Option Given). RoseBy (lost_more between g) now lost) ev.stands rose) new left after faulty ev.offers ev.met)
-      broke later now e told lost new left after faulty past rose x (inr ev) = cut later now e told lost new left after faulty past rose x ev
+      -- the link is closed
+      pub closes : HeardMore mid.link.ear link.ear [] × (ReadsOn link × IsAtEnd link.ear) → Served most start (since link) (Ok true)
+      closes told = record {
+        happened = s.happened;
+        made = made_closed laws start s.happened turns mid s.made most link less told.0 told.1.1;
+        read = read_still told.1.0;
+        given_all = (s.made.serves, gave_then_none);
+        kept = kept_still;
+      }
 
-      pub breaks : (later : Option Ear) (now : ℕ) (e : Event) → HeardMore mid later (e ∷ []) × ReadEach mid later gave now → (before : Option Given) → before ≡ between → (last : Option Ear) → last ≡ later
-          → (lost : ℕ) (new : Server) (left : Option Held) (after : Option KeeperCalls) (faulty : ℕ) (past : Option Given) → RoseBy (lost_more before past) now lost → (x : memory.NoMemory)
-          → EventStopped server e before past kept_by left asked after count faulty ⊎ EventServed server new e before past kept_by left asked after count faulty (Err x)
-          → Served ear last giving lost given past held left calls after faults faulty most old new (Err NoMemory)
-      breaks later now e told before same last heard lost new left after faulty past rose x met =
-          let here = subst (λ (g : Option Given). EventStopped server e g past kept_by left asked after count faulty ⊎ EventServed server new e g past kept_by left asked after count faulty (Err x)) same met in
-          subst (λ (o : Option Ear). Served ear o giving lost given past held left calls after faults faulty most old new (Err NoMemory)) (sym heard)
-          (broke later now e told lost new left after faulty past (subst (λ (g : Option Given). RoseBy (lost_more g past) now lost) same rose) x here)
-
-      module _ (last : Option Given) (same : last ≡ between) where
-        -- as the link is given nothing in a turn that takes no event
-        given_there : (later : Option Ear) (now : ℕ) (result : Result Bool DriveFault) → Served ear later giving now given between held kept_by calls asked faults count most old server result
-            → Served ear later giving now given last held kept_by calls asked faults count most old server result
-        given_there later now result here = subst (λ (g : Option Given). Served ear later giving now given g held kept_by calls asked faults count most old server result) (sym same) here
-
-        -- memory ran out before it was read to its end
-        lost_one : (later : Option Ear) (now : ℕ) → StandsOrRose gave now → (es : List Event) → length es ≤ 1 → HeardMore mid later es × AddsOne mid later
-            → Served ear later giving now given last held kept_by calls asked faults count most old server (Err NoMemory)
-        lost_one later now stands es one told =
-            let few_lost : length (lost_events es) ≤ 1 = omega (arith, length_lost es, one) in
-            given_there later now (Err NoMemory) (record {
-              happened = s.happened ++ lost_events es;
-              made = made_lost laws ear held calls faults old s.happened mid kept_by asked count turns server s.made most later es one (omega (arith, less, one)) told.0;
-              read = reads_lost_last ear mid later given between giving gave now s.read told.1 stands;
-              given_all = gave_still laws.draws laws.always both s.happened old server s.made.serves given between s.gave_all (lost_events es) few_lost;
-              kept = front_kept (s.happened ++ lost_events es) between (gave_still laws.draws laws.always both s.happened old server s.made.serves given between s.gave_all (lost_events es) few_lost);
-            })
-
-        -- the link is closed
-        pub closes : (later : Option Ear) (now : ℕ) → HeardMore mid later [] × (ReadEach mid later gave now × IsAtEnd later)
-            → Served ear later giving now given last held kept_by calls asked faults count most old server (Ok true)
-        closes later now told = given_there later now (Ok true) (record {
-          happened = s.happened;
-          made = made_closed laws ear held calls faults old s.happened mid kept_by asked count turns server s.made most less later told.0 told.1.1;
-          read = read_more later now told.1.0;
-          given_all = (s.made.serves, s.gave_all);
-          kept = secret_kept;
-        })
-
-        -- it failed
-        pub fails : (later : Option Ear) (now : ℕ) → StandsOrRose gave now → (e : DriveFault) → Takes mid later gave now (Err e)
-            → Served ear later giving now given last held kept_by calls asked faults count most old server (Err e)
-        fails later now stands LinkFault told = given_there later now (Err LinkFault) (record {
-          happened = s.happened;
-          made = made_failed laws ear held calls faults old s.happened mid kept_by asked count turns server s.made most less later told.0;
-          read = read_more later now told.1;
-          given_all = (s.made.serves, s.gave_all);
-          kept = secret_kept;
-        })
-        fails later now stands NoMemory told = lost_one later now stands told.0 told.1 told.2
+      -- it failed
+      pub fails : StandsOrRose mid.link.giving link.giving → (e : DriveFault) → Takes mid.link.ear link.ear mid.link.giving link.giving (Err e) → Served most start (since link) (Err e)
+      fails stands LinkFault told = record {
+        happened = s.happened;
+        made = made_failed laws start s.happened turns mid s.made most link less told.0;
+        read = read_still told.1;
+        given_all = (s.made.serves, gave_then_none);
+        kept = kept_still;
+      }
+      fails stands NoMemory told = lost_one stands told.0 told.1 told.2
 
     -- the turns were made
-    pub ends : (most : ℕ) → turns ≡ most → Served ear mid giving gave given between held kept_by calls asked faults count most old server (Ok false)
+    pub ends : (most : ℕ) → turns ≡ most → Served most start mid (Ok false)
     ends most all = record {
       happened = s.happened;
-      made = made_all laws ear held calls faults old s.happened mid kept_by asked count turns server s.made most all;
+      made = made_all laws start s.happened turns mid s.made most all;
       read = s.read;
       given_all = (s.made.serves, s.gave_all);
       kept = secret_kept;

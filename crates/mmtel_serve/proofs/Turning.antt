@@ -1,14 +1,12 @@
 -- What one turn comes to.
-use Rattle.std.proofs.Common.{◌≡◌, ℕ, List, [], subst, Option, Result, Ok, Err}
+use Rattle.std.proofs.Common.{◌≡◌, List, [], subst, Result, Ok, Err}
 use Rattle.std.specs.Prelude.{OnErr, OnOk}
 use Rattle.mmtel_giving.specs.Giving.{GaveAll}
-use Rattle.mmtel_keeper.specs.Kept.{Held, KeeperCalls}
-use Rattle.mmtel_link.specs.Told.{Given}
 use Rattle.mmtel_outside.specs.declared.events.Event.{Event}
 use Rattle.mmtel_outside.specs.declared.events.Offer.{Offer}
 use Rattle.mmtel_scan.specs.declared.memory.NoMemory.{NoMemory}
+use Rattle.mmtel_server.specs.Seen.{ServingState, step_of}
 use Rattle.mmtel_server.specs.Stepped.{Stepped, Stopped}
-use Rattle.mmtel_server.specs.declared.servers.Server.{Server}
 use Rattle.mmtel_trust.specs.declared.parties.KnownPeer.{KnownPeer}
 use Rattle.mmtel_serve.specs.Turns.{ArePeers, EventServed, EventStopped}
 
@@ -20,22 +18,22 @@ pub any_err : {A E : Type 0} (r : Result A E) (P : Type 0) → P → OnErr r P
 any_err (Ok x) P p = tt
 any_err (Err e) P p = p
 
-module _ (old new : Server) (event : Event) (given now : Option Given) (held later : Option Held) (calls after : Option KeeperCalls) (faults count : ℕ) (start out : List Offer) (none : start ≡ []) where
+module _ (event : Event) (old new : ServingState) (start out : List Offer) (none : start ≡ []) where
   -- the step began with an empty list, and what stood there then was given, or a front of it
-  pub served_of : (result : Result (Unit {0}) NoMemory) (items : List Offer) (known : List KnownPeer) → items ≡ out → Stepped old start new out event held later calls after faults count → ArePeers known new
-      → GaveAll known items given now result → EventServed old new event given now held later calls after faults count result
+  pub served_of : (result : Result (Unit {0}) NoMemory) (items : List Offer) (known : List KnownPeer) → items ≡ out → Stepped event (step_of old start) (step_of new out)
+      → ArePeers known new.server → GaveAll known items old.link.given new.link.given result → EventServed event old new result
   served_of result items known same step peers gave = record {
     offers = out;
-    step = subst (λ (l : List Offer). Stepped old l new out event held later calls after faults count) none step;
+    step = subst (λ (l : List Offer). Stepped event (step_of old l) (step_of new out)) none step;
     known = known;
     peers = peers;
-    gave = subst (λ (l : List Offer). GaveAll known l given now result) same gave;
+    gave = subst (λ (l : List Offer). GaveAll known l old.link.given new.link.given result) same gave;
   }
 
   -- or it failed
-  pub stopped_of : now ≡ given → Stopped old start out event held later calls after faults count → EventStopped old event given now held later calls after faults count
+  pub stopped_of : new.link.given ≡ old.link.given → Stopped event (step_of old start) out new.keeper → EventStopped event old new
   stopped_of stands met = record {
     stands = stands;
     offers = out;
-    met = subst (λ (l : List Offer). Stopped old l out event held later calls after faults count) none met;
+    met = subst (λ (l : List Offer). Stopped event (step_of old l) out new.keeper) none met;
   }

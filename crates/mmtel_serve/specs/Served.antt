@@ -3,7 +3,6 @@ use Rattle.std.specs.Prelude.{◌≡◌, ◌≤◌, ◌⊎◌, ◌+◌, ℕ, Boo
 use Rattle.mmtel_directory.specs.declared.directories.Directory.{Directory}
 use Rattle.mmtel_giving.specs.Giving.{Gave, RoseBy, bytes_to, lost_more, sent_of}
 use Rattle.mmtel_in_force.specs.Texts.{Texts}
-use Rattle.mmtel_keeper.specs.Kept.{Held, KeeperCalls}
 use Rattle.mmtel_link.specs.Told.{Ear, Given}
 use Rattle.mmtel_outside.specs.declared.events.Event.{Event}
 use Rattle.mmtel_outside.specs.declared.events.Event.TheVariants as event
@@ -14,6 +13,7 @@ use Rattle.mmtel_run.specs.Short.{IsShortRun}
 use Rattle.mmtel_run_laws.specs.Seen.{texts_seen}
 use Rattle.mmtel_run_laws.specs.Secret.{SeesAlike}
 use Rattle.mmtel_server.specs.Driven.{IsNeeded, IsReadOut, MadeOf, ServesOn, to_come}
+use Rattle.mmtel_server.specs.Seen.{LinkSeen, ServingState}
 use Rattle.mmtel_server.specs.Stands.{IsCut, Serves}
 use Rattle.mmtel_server.specs.declared.driving.DriveFault.{DriveFault}
 use Rattle.mmtel_server.specs.declared.driving.DriveFault.TheVariants.{LinkFault, NoMemory}
@@ -36,27 +36,40 @@ EachReadBut unread events [] = unread ≡ 0
 EachReadBut unread [] (count ∷ reads) = ⊥
 EachReadBut unread (e ∷ events) (count ∷ reads) = (one : ℕ) × (others : ℕ) × (unread ≡ one + others) × (IsReadBut one count e × EachReadBut others events reads)
 
--- where the link tells what it hears, each event that came was read so: its count of giving out rose once for each connection that was not read out, and once for each thing
--- more that was lost, where it tells that
+-- so many bytes were read of each event that came: the count of giving out rose once for each connection that was not read out, and once for each thing more that was lost
+pub record EarReads (ear later : Ear) (lost giving gave : ℕ) : Type 0 where
+  pub reads : List ℕ
+  pub unread : ℕ
+  pub parts : later.reads ≡ ear.reads ++ reads
+  pub each : EachReadBut unread (to_come ear) reads
+  pub rose : RoseBy (unread + lost) giving gave
+
+-- so it is where the link tells what it hears, and what was lost where it tells that
 abbrev pub ReadsBetween : Option Ear → Option Ear → (given now : Option Given) → (giving gave : ℕ) → Type 0
 ReadsBetween None later given now giving gave = ⊤
 ReadsBetween (Some ear) None given now giving gave = ⊥
-ReadsBetween (Some ear) (Some later) given now giving gave =
-    (reads : List ℕ) × (unread : ℕ) × (later.reads ≡ ear.reads ++ reads) × EachReadBut unread (to_come ear) reads × RoseBy (unread + lost_more given now) giving gave
+ReadsBetween (Some ear) (Some later) given now giving gave = EarReads ear later (lost_more given now) giving gave
 
--- each but the last, if that was not read to its end
+-- of each but the last, if that was not read to its end
+pub record EarReadsButLast (ear later : Ear) (lost giving gave : ℕ) : Type 0 where
+  pub reads : List ℕ
+  pub last : List ℕ
+  pub unread : ℕ
+  pub parts : later.reads ≡ ear.reads ++ (reads ++ last)
+  pub one : length last ≤ 1
+  pub each : EachReadBut unread (to_come ear) reads
+  pub rose : RoseBy (unread + lost) giving gave
+
 abbrev pub ReadsButLast : Option Ear → Option Ear → (given now : Option Given) → (giving gave : ℕ) → Type 0
 ReadsButLast None later given now giving gave = ⊤
 ReadsButLast (Some ear) None given now giving gave = ⊥
-ReadsButLast (Some ear) (Some later) given now giving gave =
-    (reads : List ℕ) × (last : List ℕ) × (unread : ℕ) × (later.reads ≡ ear.reads ++ (reads ++ last)) × (length last ≤ 1) × EachReadBut unread (to_come ear) reads
-    × RoseBy (unread + lost_more given now) giving gave
+ReadsButLast (Some ear) (Some later) given now giving gave = EarReadsButLast ear later (lost_more given now) giving gave
 
 -- memory may have run out in reading the last
-abbrev pub ReadsAll : Option Ear → Option Ear → (given now : Option Given) → (giving gave : ℕ) → Result Bool DriveFault → Type 0
-ReadsAll ear later given now giving gave (Ok closed) = ReadsBetween ear later given now giving gave
-ReadsAll ear later given now giving gave (Err LinkFault) = ReadsBetween ear later given now giving gave
-ReadsAll ear later given now giving gave (Err NoMemory) = ReadsButLast ear later given now giving gave
+abbrev pub ReadsAll : (old new : LinkSeen) → Result Bool DriveFault → Type 0
+ReadsAll old new (Ok closed) = ReadsBetween old.ear new.ear old.given new.given old.giving new.giving
+ReadsAll old new (Err LinkFault) = ReadsBetween old.ear new.ear old.given new.given old.giving new.giving
+ReadsAll old new (Err NoMemory) = ReadsButLast old.ear new.ear old.given new.given old.giving new.giving
 
 -- ---- what the link was given
 
@@ -87,10 +100,10 @@ pub record StoppedGiving (happened : List Happened) (old : Server) (given now : 
   pub gave : GaveUpTo done last old given now
 
 -- the server did all of these and the link was given what is due, but for want of memory
-abbrev pub GaveAllOf : List Happened → Server → Server → Option Given → Option Given → Result Bool DriveFault → Type 0
-GaveAllOf happened old new given now (Ok closed) = ServesOn happened old new × GaveOn happened old given now
-GaveAllOf happened old new given now (Err LinkFault) = ServesOn happened old new × GaveOn happened old given now
-GaveAllOf happened old new given now (Err NoMemory) = StoppedGiving happened old given now
+abbrev pub GaveAllOf : List Happened → (old new : ServingState) → Result Bool DriveFault → Type 0
+GaveAllOf happened old new (Ok closed) = ServesOn happened old.server new.server × GaveOn happened old.server old.link.given new.link.given
+GaveAllOf happened old new (Err LinkFault) = ServesOn happened old.server new.server × GaveOn happened old.server old.link.given new.link.given
+GaveAllOf happened old new (Err NoMemory) = StoppedGiving happened old.server old.link.given new.link.given
 
 -- ---- what the link was sent for whom
 
@@ -123,15 +136,14 @@ KeptAll happened old given now (Err NoMemory) = KeptInFront happened old given n
 
 -- ---- the whole
 
--- what the link told, counted and was given before and after, what the keeper told and counted before and after, the turns, the server before and after, and the answer
-pub record Served (ear later : Option Ear) (giving gave : ℕ) (given now : Option Given) (held left : Option Held) (calls after : Option KeeperCalls) (faults count : ℕ)
-    (turns : ℕ) (old new : Server) (result : Result Bool DriveFault) : Type 0 where
+-- what was made of a link and of a keeper in so many turns, the server before and after, and the answer
+pub record Served (turns : ℕ) (old new : ServingState) (result : Result Bool DriveFault) : Type 0 where
   -- there are events that came, each with what the keeper answered in it,
   pub happened : List Happened
-  pub made : MadeOf happened ear later held left calls after faults count turns old result
+  pub made : MadeOf happened turns old new result
   -- the web connections among them read out,
-  pub read : ReadsAll ear later given now giving gave result
+  pub read : ReadsAll old.link new.link result
   -- the server did them all, and the link was given what that makes it offer,
-  pub given_all : GaveAllOf happened old new given now result
+  pub given_all : GaveAllOf happened old new result
   -- and the secret was kept
-  pub kept : KeptAll happened old given now result
+  pub kept : KeptAll happened old.server old.link.given new.link.given result

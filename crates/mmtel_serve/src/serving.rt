@@ -5,6 +5,7 @@ ghost use Rattle.mmtel_outside.specs.Counts.{Rose};
 ghost use Rattle.mmtel_serve.specs.Served.{Served};
 ghost use Rattle.mmtel_serve.specs.Turns.{EventServed, EventStopped};
 ghost use Rattle.mmtel_server.specs.Driven.{HasDriveCause, HasFailedByNumber, StandsOrRose};
+ghost use Rattle.mmtel_server.specs.Seen.{serving_state};
 
 use mmtel_giving::{give_each, parts_are_given};
 use mmtel_keeper::Keeper;
@@ -25,12 +26,15 @@ fn serve_event<N: Link, K: Keeper, L: Ledger>(
     event: &Event,
     steps: &mut Steps<L>,
 ) -> Result<(), NoMemory>
-    ensures done { OnOk result (EventServed server.old server.new event.now (N.given link.old) (N.given link.new)
-        (K.held keeper.old) (K.held keeper.new) (K.calls keeper.old) (K.calls keeper.new) (K.faults keeper.old) (K.faults keeper.new) result) }
-    ensures stopped { OnErr result (EventStopped server.old event.now (N.given link.old) (N.given link.new)
-        (K.held keeper.old) (K.held keeper.new) (K.calls keeper.old) (K.calls keeper.new) (K.faults keeper.old) (K.faults keeper.new)
-        ⊎ EventServed server.old server.new event.now (N.given link.old) (N.given link.new)
-        (K.held keeper.old) (K.held keeper.new) (K.calls keeper.old) (K.calls keeper.new) (K.faults keeper.old) (K.faults keeper.new) result) }
+    ensures done { OnOk result (EventServed event.now
+        (serving_state N.Link link.old K.Keeper keeper.old server.old)
+        (serving_state N.Link link.new K.Keeper keeper.new server.new) result) }
+    ensures stopped { OnErr result (EventStopped event.now
+        (serving_state N.Link link.old K.Keeper keeper.old server.old)
+        (serving_state N.Link link.new K.Keeper keeper.new server.new)
+        ⊎ EventServed event.now
+        (serving_state N.Link link.old K.Keeper keeper.old server.old)
+        (serving_state N.Link link.new K.Keeper keeper.new server.new) result) }
     ensures lost { LostOnlyWhereRose (N.given link.old) (N.given link.new) (N.giving link.old) (N.giving link.new) }
     ensures counted { RoseBy (lost_more (N.given link.old) (N.given link.new)) (N.giving link.old) (N.giving link.new) }
     ensures heard { N.ear link.new ≡ N.ear link.old }
@@ -62,9 +66,8 @@ pub fn serve<N: Link, K: Keeper, L: Ledger>(
     turns: u64,
     steps: &mut Steps<L>,
 ) -> Result<bool, DriveFault>
-    ensures served { Served (N.ear link.old) (N.ear link.new) (N.giving link.old) (N.giving link.new) (N.given link.old) (N.given link.new)
-        (K.held keeper.old) (K.held keeper.new) (K.calls keeper.old) (K.calls keeper.new) (K.faults keeper.old) (K.faults keeper.new)
-        turns server.old server.new result }
+    ensures served { Served turns (serving_state N.Link link.old K.Keeper keeper.old server.old)
+        (serving_state N.Link link.new K.Keeper keeper.new server.new) result }
     // Something is lost only where the count of giving out rose.
     ensures lost { LostNoMore (N.given link.old) (N.given link.new) ⊎ Rose (N.giving link.old) (N.giving link.new) }
     ensures giving { StandsOrRose (N.giving link.old) (N.giving link.new) }

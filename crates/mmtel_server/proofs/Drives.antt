@@ -1,9 +1,7 @@
 -- What is offered of the events that came, turn after turn, where it is added to a list.
-use Rattle.std.proofs.Common.{◌≡◌, ◌+◌, ◌<◌, ◌≤◌, ℕ, Bool, true, false, List, [], ◌∷◌, ◌++◌, length, refl, sym, subst, append-nil, Option, Ok, Err, arith}
+use Rattle.std.proofs.Common.{◌≡◌, ◌+◌, ◌<◌, ◌≤◌, ℕ, Bool, true, false, List, [], ◌∷◌, ◌++◌, length, refl, sym, subst, append-nil, Result, Ok, Err, arith}
 use Rattle.mmtel_directory.specs.declared.directories.Directory.{Directory}
 use Rattle.mmtel_in_force.specs.Texts.{Texts}
-use Rattle.mmtel_keeper.specs.Kept.{Held, KeeperCalls}
-use Rattle.mmtel_link.specs.Told.{Ear}
 use Rattle.mmtel_outside.specs.declared.events.Event.{Event}
 use Rattle.mmtel_outside.specs.declared.events.Offer.{Offer}
 use Rattle.mmtel_run.specs.Events.{Happened, events_in}
@@ -13,6 +11,7 @@ use Rattle.mmtel_run.specs.Short.{IsShortRun}
 use Rattle.mmtel_server.specs.Driven.{AddsOne, BrokeOff, Driven, HeardMore, IsAtEnd, KeptTheSecret, ReadEach, StandsOrRose, Takes, WentOn}
 use Rattle.mmtel_server.specs.Follows.{AllDrawOn}
 use Rattle.mmtel_server.specs.Laws.{RunLaws, WentSeesAlike}
+use Rattle.mmtel_server.specs.Seen.{LinkSeen, ServingState, step_of}
 use Rattle.mmtel_server.specs.Stands.{AddsFront, BreaksOff, IsPrefixOf, Went}
 use Rattle.mmtel_server.specs.Stepped.{Stepped, Stopped, happened_in}
 use Rattle.mmtel_server.specs.Turns.{Drove}
@@ -80,93 +79,94 @@ kept secret xs s t out now did d token loaded es went short = secret d token loa
 
 -- ---- turn after turn
 
-module _ (laws : RunLaws) (ear : Option Ear) (giving : ℕ) (held : Option Held) (calls : Option KeeperCalls) (faults : ℕ) (old : Server) (out : List Offer) where
-  pub begun : Drove ear ear giving giving held held calls calls faults faults 0 old out old out
+module _ (laws : RunLaws) (start : ServingState) (out : List Offer) where
+  pub begun : Drove 0 start start out out
   begun = record {
     happened = [];
-    made = made_none laws ear held calls faults old;
-    read = read_nothing ear giving giving refl;
-    did = went_nothing old out;
+    made = made_none laws start;
+    read = read_nothing start.link.ear start.link.giving start.link.giving refl;
+    did = went_nothing start.server out;
   }
 
-  module _ (mid : Option Ear) (gave : ℕ) (kept_by : Option Held) (asked : Option KeeperCalls) (count turns : ℕ) (server : Server) (between : List Offer)
-      (d : Drove ear mid giving gave held kept_by calls asked faults count turns old out server between) where
-    read_more : (later : Option Ear) (now : ℕ) → ReadEach mid later gave now → ReadEach ear later giving now
-    read_more later now read = read_then ear mid later giving gave now (events_in d.happened) d.made.told d.read read
+  module _ (turns : ℕ) (mid : ServingState) (between : List Offer) (d : Drove turns start mid out between) where
+    read_more : (link : LinkSeen) → ReadEach mid.link.ear link.ear mid.link.giving link.giving → ReadEach start.link.ear link.ear start.link.giving link.giving
+    read_more link read =
+        read_then start.link.ear mid.link.ear link.ear start.link.giving mid.link.giving link.giving (events_in d.happened) d.made.told d.read read
 
     -- one turn took an event, and it was done
-    pub goes_on : (later : Option Ear) (now : ℕ) (left : Option Held) (after : Option KeeperCalls) (faulty : ℕ) (new : Server) (offers : List Offer) (e : Event)
-        → HeardMore mid later (e ∷ []) × ReadEach mid later gave now → Stepped server between new offers e kept_by left asked after count faulty
-        → Drove ear later giving now held left calls after faults faulty (turns + 1) old out new offers
-    goes_on later now left after faulty new offers e told step =
+    pub goes_on : (new : ServingState) (now : List Offer) (e : Event)
+        → HeardMore mid.link.ear new.link.ear (e ∷ []) × ReadEach mid.link.ear new.link.ear mid.link.giving new.link.giving → Stepped e (step_of mid between) (step_of new now)
+        → Drove (turns + 1) start new out now
+    goes_on new now e told step =
         let one : Happened = happened_in e step.kept step.rows step.took in
         record {
           happened = d.happened ++ one ∷ [];
-          made = made_more laws ear held calls faults old d.happened mid kept_by asked count turns server d.made later left after faulty new between offers e told.0 step;
-          read = read_more later now told.1;
-          did = went_then laws.draws laws.always d.happened (one ∷ []) old server out between d.did new offers step.went;
+          made = made_more laws start d.happened turns mid d.made new between now e told.0 step;
+          read = read_more new.link told.1;
+          did = went_then laws.draws laws.always d.happened (one ∷ []) start.server mid.server out between d.did new.server now step.went;
         }
 
     module _ (most : ℕ) (less : turns < most) where
       -- it was not done to its end
-      pub breaks : (later : Option Ear) (now : ℕ) (left : Option Held) (after : Option KeeperCalls) (faulty : ℕ) (new : Server) (offers : List Offer) (e : Event)
-          → HeardMore mid later (e ∷ []) × ReadEach mid later gave now
-          → Stopped server between offers e kept_by left asked after count faulty
-          → Driven ear later giving now held left calls after faults faulty most old out new offers (Err NoMemory)
-      breaks later now left after faulty new offers e told met =
+      pub breaks : (new : ServingState) (now : List Offer) (e : Event)
+          → HeardMore mid.link.ear new.link.ear (e ∷ []) × ReadEach mid.link.ear new.link.ear mid.link.giving new.link.giving
+          → Stopped e (step_of mid between) now new.keeper → Driven most start new out now (Err NoMemory)
+      breaks new now e told met =
           let one : Happened = happened_in e met.kept met.rows false in
           record {
             happened = d.happened ++ one ∷ [];
-            made = made_broken laws ear held calls faults old d.happened mid kept_by asked count turns server d.made most less later left after faulty e
-                (λ by rows. (took : Bool) → BreaksOff server between offers (happened_in e by rows took) × AddsFront server between offers (happened_in e by rows took)) told.0 met;
-            read = read_all_last ear later giving now (read_more later now told.1);
-            did = broke_then laws.draws laws.always d.happened one old server out between offers d.did (met.broke false).0;
+            made = made_broken laws start d.happened turns mid d.made most less new e
+                (λ kept rows. (took : Bool) → BreaksOff mid.server between now (happened_in e kept rows took) × AddsFront mid.server between now (happened_in e kept rows took)) told.0 met;
+            read = read_all_last start.link.ear new.link.ear start.link.giving new.link.giving (read_more new.link told.1);
+            did = broke_then laws.draws laws.always d.happened one start.server mid.server out between now d.did (met.broke false).0;
             kept = tt;
           }
 
-      -- memory ran out before it was read to its end
-      pub lost : (later : Option Ear) (now : ℕ) → StandsOrRose gave now → (es : List Event) → length es ≤ 1 → HeardMore mid later es × AddsOne mid later
-          → Driven ear later giving now held kept_by calls asked faults count most old out server between (Err NoMemory)
-      lost later now stands es one told =
-          let few_lost : length (lost_events es) ≤ 1 = omega (arith, length_lost es, one) in
-          record {
-            happened = d.happened ++ lost_events es;
-            made = made_lost laws ear held calls faults old d.happened mid kept_by asked count turns server d.made most later es one (omega (arith, less, one)) told.0;
-            read = read_lost_last ear mid later giving gave now d.read told.1 stands;
-            did = broke_there laws.draws laws.always d.happened (lost_events es) old server out between few_lost d.did;
-            kept = tt;
+      -- where the link alone has gone on since
+      module _ (link : LinkSeen) where
+        abbrev Ends : Result Bool DriveFault → Type 0
+        Ends result = Driven most start (record { link = link; keeper = mid.keeper; server = mid.server }) out between result
+
+        -- memory ran out before it was read to its end
+        lost : StandsOrRose mid.link.giving link.giving → (es : List Event) → length es ≤ 1 → HeardMore mid.link.ear link.ear es × AddsOne mid.link.ear link.ear → Ends (Err NoMemory)
+        lost stands es one told =
+            let few_lost : length (lost_events es) ≤ 1 = omega (arith, length_lost es, one) in
+            record {
+              happened = d.happened ++ lost_events es;
+              made = made_lost laws start d.happened turns mid d.made most link es one (omega (arith, less, one)) told.0;
+              read = read_lost_last start.link.ear mid.link.ear link.ear start.link.giving mid.link.giving link.giving d.read told.1 stands;
+              did = broke_there laws.draws laws.always d.happened (lost_events es) start.server mid.server out between few_lost d.did;
+              kept = tt;
+            }
+
+        module _ (secret : WentSeesAlike) where
+          -- the link is closed
+          pub closes : HeardMore mid.link.ear link.ear [] × (ReadEach mid.link.ear link.ear mid.link.giving link.giving × IsAtEnd link.ear) → Ends (Ok true)
+          closes told = record {
+            happened = d.happened;
+            made = made_closed laws start d.happened turns mid d.made most link less told.0 told.1.1;
+            read = read_more link told.1.0;
+            did = d.did;
+            kept = kept secret d.happened start.server mid.server out between d.did;
           }
 
-      module _ (secret : WentSeesAlike) where
-        -- the link is closed
-        pub closes : (later : Option Ear) (now : ℕ) → HeardMore mid later [] × (ReadEach mid later gave now × IsAtEnd later)
-            → Driven ear later giving now held kept_by calls asked faults count most old out server between (Ok true)
-        closes later now told = record {
-          happened = d.happened;
-          made = made_closed laws ear held calls faults old d.happened mid kept_by asked count turns server d.made most less later told.0 told.1.1;
-          read = read_more later now told.1.0;
-          did = d.did;
-          kept = kept secret d.happened old server out between d.did;
-        }
-
-        -- it failed
-        pub fails : (later : Option Ear) (now : ℕ) → StandsOrRose gave now → (e : DriveFault) → Takes mid later gave now (Err e)
-            → Driven ear later giving now held kept_by calls asked faults count most old out server between (Err e)
-        fails later now stands LinkFault told = record {
-          happened = d.happened;
-          made = made_failed laws ear held calls faults old d.happened mid kept_by asked count turns server d.made most less later told.0;
-          read = read_more later now told.1;
-          did = d.did;
-          kept = kept secret d.happened old server out between d.did;
-        }
-        fails later now stands NoMemory told = lost later now stands told.0 told.1 told.2
+          -- it failed
+          pub fails : StandsOrRose mid.link.giving link.giving → (e : DriveFault) → Takes mid.link.ear link.ear mid.link.giving link.giving (Err e) → Ends (Err e)
+          fails stands LinkFault told = record {
+            happened = d.happened;
+            made = made_failed laws start d.happened turns mid d.made most link less told.0;
+            read = read_more link told.1;
+            did = d.did;
+            kept = kept secret d.happened start.server mid.server out between d.did;
+          }
+          fails stands NoMemory told = lost stands told.0 told.1 told.2
 
     -- the turns were made
-    pub ends : WentSeesAlike → (most : ℕ) → turns ≡ most → Driven ear mid giving gave held kept_by calls asked faults count most old out server between (Ok false)
+    pub ends : WentSeesAlike → (most : ℕ) → turns ≡ most → Driven most start mid out between (Ok false)
     ends secret most all = record {
       happened = d.happened;
-      made = made_all laws ear held calls faults old d.happened mid kept_by asked count turns server d.made most all;
+      made = made_all laws start d.happened turns mid d.made most all;
       read = d.read;
       did = d.did;
-      kept = kept secret d.happened old server out between d.did;
+      kept = kept secret d.happened start.server mid.server out between d.did;
     }

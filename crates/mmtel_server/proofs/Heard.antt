@@ -178,28 +178,28 @@ pub read_lost_last : (ear mid later : Option Ear) (a b c : ℕ) → ReadEach ear
 read_lost_last None mid later a b c first second stands = tt
 read_lost_last (Some ear) None later a b c first second stands = absurd first
 read_lost_last (Some ear) (Some mid) None a b c first second stands = absurd second
-read_lost_last (Some ear) (Some mid) (Some later) a b c first second stands = (
-  first.0,
-  second.0,
-  b,
-  second.2 ∙ (ap (λ (l : List ℕ). l ++ second.0) first.1 ∙ append_assoc ear.reads first.0 second.0),
-  second.1,
-  first.2,
-  stands,
-)
+read_lost_last (Some ear) (Some mid) (Some later) a b c first second stands = record {
+  reads = first.0;
+  last = second.0;
+  parts = second.2 ∙ (ap (λ (l : List ℕ). l ++ second.0) first.1 ∙ append_assoc ear.reads first.0 second.0);
+  one = second.1;
+  between = b;
+  each = first.2;
+  rose = stands;
+}
 
 pub read_all_last : (ear later : Option Ear) (a b : ℕ) → ReadEach ear later a b → ReadButLast ear later a b
 read_all_last None later a b first = tt
 read_all_last (Some ear) None a b first = absurd first
-read_all_last (Some ear) (Some later) a b first = (
-  first.0,
-  [],
-  b,
-  first.1 ∙ ap (λ (l : List ℕ). ear.reads ++ l) (sym (append-nil first.0)),
-  omega arith,
-  first.2,
-  inl refl,
-)
+read_all_last (Some ear) (Some later) a b first = record {
+  reads = first.0;
+  last = [];
+  parts = first.1 ∙ ap (λ (l : List ℕ). ear.reads ++ l) (sym (append-nil first.0));
+  one = omega arith;
+  between = b;
+  each = first.2;
+  rose = inl refl;
+}
 
 -- ---- counts
 

@@ -21,7 +21,8 @@ use Rattle.mmtel_web.specs.Answers.{Kept, made, failed, no_memory, web_of}
 use Rattle.mmtel_web.specs.Uploads.{kept_upload, upload_by}
 use Rattle.mmtel_web.specs.declared.answers.Web.{Web}
 use Rattle.mmtel_web.specs.declared.answers.Web.TheVariants as web
-use Rattle.mmtel_server.specs.Driven.{EachAnswers, EachAnswersButLast, EachCounted, EachCountedButLast, HoldsUploads, LastAnswers, LastCounted, with_all}
+use Rattle.mmtel_server.specs.Driven.{AnswersOne, EachAnswers, EachAnswersButLast, EachCounted, EachCountedButLast, HoldsUploads, LastAnswers, LastCounted, with_all}
+use Rattle.mmtel_server.specs.Seen.{KeeperSeen}
 use Rattle.mmtel_server_decisions.specs.Handed.{Handed, HandedCounted, taken_of}
 use Rattle.mmtel_server.specs.Stands.{Serves}
 use Rattle.mmtel_server.specs.Stepped.{call_of, happened_in}
@@ -31,41 +32,49 @@ use Rattle.mmtel_server.proofs.Runs.{after_last}
 
 -- ---- one event more
 
-pub answers_then : (names : WebDirectory) (xs ys : List Happened) (held mid left : Option Held) (calls midst after : Option KeeperCalls)
-    → EachAnswers names xs held mid calls midst → EachAnswers names ys mid left midst after → EachAnswers names (xs ++ ys) held left calls after
-answers_then names [] ys held mid left calls midst after first second =
-    let P : Option Held → Option KeeperCalls → Type 0 = λ h c. EachAnswers names ys h left c after in
-    subst (λ (h : Option Held). P h calls) first.0 (subst (λ (c : Option KeeperCalls). P mid c) first.1 second)
-answers_then names (x ∷ xs) ys held mid left calls midst after first second = (
-  first.0,
-  first.1,
-  first.2,
-  first.3,
-  first.4,
-  first.5,
-  (first.6.0, answers_then names xs ys first.1 mid left first.3 midst after first.6.1 second),
-)
+-- the same from a keeper that holds and was called the same
+one_from : (names : WebDirectory) (one : Happened) (old mid new : KeeperSeen) → mid.held ≡ old.held → mid.calls ≡ old.calls → AnswersOne names one mid new → AnswersOne names one old new
+one_from names one old mid new held calls answered = record {
+  between = answered.between;
+  answers = subst (λ (h : Option Held). Answers (call_of names one.event) one.kept one.rows h answered.between.held old.calls answered.between.calls) held
+      (subst (λ (c : Option KeeperCalls). Answers (call_of names one.event) one.kept one.rows mid.held answered.between.held c answered.between.calls) calls answered.answers);
+  waiting = answered.waiting;
+  handed = answered.handed;
+}
 
-pub answers_one : (names : WebDirectory) (one : Happened) (waiting : List Row) (held asked left : Option Held) (calls midst after : Option KeeperCalls)
-    → Answers (call_of names one.event) one.kept one.rows held asked calls midst → Handed one.took waiting asked left midst after → EachAnswers names (one ∷ []) held left calls after
-answers_one names one waiting held asked left calls midst after answers handed = (asked, left, midst, after, waiting, answers, (handed, (refl, refl)))
+answers_from : (names : WebDirectory) (ys : List Happened) (old mid new : KeeperSeen) → mid.held ≡ old.held → mid.calls ≡ old.calls → EachAnswers names ys mid new → EachAnswers names ys old new
+answers_from names [] old mid new held calls each = (each.0 ∙ held, each.1 ∙ calls)
+answers_from names (y ∷ ys) old mid new held calls each = (each.0, one_from names y old mid each.0 held calls each.1, each.2)
 
-pub counted_then : (xs ys : List Happened) (faults between count : ℕ) → EachCounted xs faults between → EachCounted ys between count → EachCounted (xs ++ ys) faults count
-counted_then [] ys faults between count first second = subst (λ (n : ℕ). EachCounted ys n count) first second
-counted_then (x ∷ xs) ys faults between count first second = (first.0, first.1, first.2, (first.3.0, counted_then xs ys first.1 between count first.3.1 second))
+pub answers_then : (names : WebDirectory) (xs ys : List Happened) (old mid new : KeeperSeen)
+    → EachAnswers names xs old mid → EachAnswers names ys mid new → EachAnswers names (xs ++ ys) old new
+answers_then names [] ys old mid new first second = answers_from names ys old mid new first.0 first.1 second
+answers_then names (x ∷ xs) ys old mid new first second = (first.0, first.1, answers_then names xs ys first.0 mid new first.2 second)
 
-pub counted_one : (one : Happened) (faults asked count : ℕ) → Counted one.kept faults asked → HandedCounted one.took asked count → EachCounted (one ∷ []) faults count
-counted_one one faults asked count counted handed = (asked, count, counted, (handed, refl))
+pub answers_one : (names : WebDirectory) (one : Happened) (waiting : List Row) (old asked new : KeeperSeen)
+    → Answers (call_of names one.event) one.kept one.rows old.held asked.held old.calls asked.calls → Handed one.took waiting asked.held new.held asked.calls new.calls
+    → EachAnswers names (one ∷ []) old new
+answers_one names one waiting old asked new answers handed =
+    (new, record { between = asked; answers = answers; waiting = waiting; handed = handed }, (refl, refl))
+
+pub counted_then : (xs ys : List Happened) (old between new : ℕ) → EachCounted xs old between → EachCounted ys between new → EachCounted (xs ++ ys) old new
+counted_then [] ys old between new first second = subst (λ (n : ℕ). EachCounted ys n new) first second
+counted_then (x ∷ xs) ys old between new first second = (first.0, first.1, counted_then xs ys first.0 between new first.2 second)
+
+pub counted_one : (one : Happened) (old asked new : ℕ) → Counted one.kept old asked → HandedCounted one.took asked new → EachCounted (one ∷ []) old new
+counted_one one old asked new counted handed = (new, record { between = asked; counted = counted; handed = handed }, refl)
 
 -- ---- one that was not done to its end
 
-pub answers_last : (names : WebDirectory) (xs : List Happened) (one : Happened) (held mid left : Option Held) (calls asked midst after : Option KeeperCalls)
-    → one.took ≡ false → EachAnswers names xs held mid calls asked → Answers (call_of names one.event) one.kept one.rows mid left asked midst → MayBeCalled midst after
-    → EachAnswersButLast names (xs ++ one ∷ []) held left calls after
-answers_last names xs one held mid left calls asked midst after took first answers may = (xs, one ∷ [], mid, asked, refl, (first, (midst, took, (answers, may))))
+pub answers_last : (names : WebDirectory) (xs : List Happened) (one : Happened) (old mid new : KeeperSeen) (asked : Option KeeperCalls)
+    → one.took ≡ false → EachAnswers names xs old mid → Answers (call_of names one.event) one.kept one.rows mid.held new.held mid.calls asked → MayBeCalled asked new.calls
+    → EachAnswersButLast names (xs ++ one ∷ []) old new
+answers_last names xs one old mid new asked took first answers may =
+    record { done = xs; last = one ∷ []; parts = refl; between = mid; each = first; rest = (asked, took, (answers, may)) }
 
-pub counted_last : (xs : List Happened) (one : Happened) (faults between count : ℕ) → EachCounted xs faults between → Counted one.kept between count → EachCountedButLast (xs ++ one ∷ []) faults count
-counted_last xs one faults between count first counted = (xs, one ∷ [], between, refl, (first, counted))
+pub counted_last : (xs : List Happened) (one : Happened) (old between new : ℕ) → EachCounted xs old between → Counted one.kept between new → EachCountedButLast (xs ++ one ∷ []) old new
+counted_last xs one old between new first counted =
+    record { done = xs; last = one ∷ []; parts = refl; between = between; each = first; rest = counted }
 
 -- ---- events that were lost as they were read
 
@@ -96,14 +105,15 @@ pub length_lost : (es : List Event) → length (lost_events es) ≡ length es
 length_lost [] = refl
 length_lost (e ∷ es) = ap suc (length_lost es)
 
-last_lost : (names : WebDirectory) (es : List Event) (held : Option Held) (calls : Option KeeperCalls) → length es ≤ 1 → LastAnswers names (lost_events es) held held calls calls
-last_lost names [] held calls one = (refl, refl)
-last_lost names (e ∷ []) held calls one = (calls, refl, (lost_answers (call_of names e) held calls, inl refl))
-last_lost names (e ∷ f ∷ es) held calls one = absurd (omega (arith, one))
+last_lost : (names : WebDirectory) (es : List Event) (keeper : KeeperSeen) → length es ≤ 1 → LastAnswers names (lost_events es) keeper keeper
+last_lost names [] keeper one = (refl, refl)
+last_lost names (e ∷ []) keeper one = (keeper.calls, refl, (lost_answers (call_of names e) keeper.held keeper.calls, inl refl))
+last_lost names (e ∷ f ∷ es) keeper one = absurd (omega (arith, one))
 
-pub answers_lost : (names : WebDirectory) (xs : List Happened) (es : List Event) (held left : Option Held) (calls after : Option KeeperCalls) → length es ≤ 1
-    → EachAnswers names xs held left calls after → EachAnswersButLast names (xs ++ lost_events es) held left calls after
-answers_lost names xs es held left calls after one first = (xs, lost_events es, left, after, refl, (first, last_lost names es left after one))
+pub answers_lost : (names : WebDirectory) (xs : List Happened) (es : List Event) (old new : KeeperSeen) → length es ≤ 1
+    → EachAnswers names xs old new → EachAnswersButLast names (xs ++ lost_events es) old new
+answers_lost names xs es old new one first =
+    record { done = xs; last = lost_events es; parts = refl; between = new; each = first; rest = last_lost names es new one }
 
 last_counted : (es : List Event) (faults : ℕ) → length es ≤ 1 → LastCounted (lost_events es) faults faults
 last_counted [] faults one = refl
@@ -111,7 +121,8 @@ last_counted (e ∷ []) faults one = refl
 last_counted (e ∷ f ∷ es) faults one = absurd (omega (arith, one))
 
 pub counted_lost : (xs : List Happened) (es : List Event) (faults count : ℕ) → length es ≤ 1 → EachCounted xs faults count → EachCountedButLast (xs ++ lost_events es) faults count
-counted_lost xs es faults count one first = (xs, lost_events es, count, refl, (first, last_counted es count one))
+counted_lost xs es faults count one first =
+    record { done = xs; last = lost_events es; parts = refl; between = count; each = first; rest = last_counted es count one }
 
 -- ---- what it holds
 

@@ -4,7 +4,7 @@ use Rattle.std.specs.Option.{option_map}
 use Rattle.mmtel_charging.specs.declared.rows.Row.{Row}
 use Rattle.mmtel_directory.specs.declared.directories.Directory.{Directory}
 use Rattle.mmtel_in_force.specs.Texts.{Texts}
-use Rattle.mmtel_keeper.specs.Kept.{Held, KeeperCalls}
+use Rattle.mmtel_keeper.specs.Kept.{Held}
 use Rattle.mmtel_link.specs.Told.{Ear}
 use Rattle.mmtel_outside.specs.declared.events.Event.{Event}
 use Rattle.mmtel_outside.specs.declared.events.Offer.{Offer}
@@ -16,14 +16,15 @@ use Rattle.mmtel_run.specs.Short.{IsShortRun}
 use Rattle.mmtel_run_laws.specs.Clean.{RunsSendCleanMessages}
 use Rattle.mmtel_run_laws.specs.Outcome.{CallsOfRunsComeToOutcome}
 use Rattle.mmtel_run_laws.specs.Rows.{SeatsOfRunsAreChargedOnce}
-use Rattle.mmtel_serving.specs.Calls.{Counted}
+use Rattle.mmtel_serving.specs.Calls.{Answers, Counted}
 use Rattle.mmtel_web.specs.Answers.{Kept}
 use Rattle.mmtel_server.specs.Driven.{AnswersAll, AnswersButLast, CameToOutcome, ChargedSeats, HeardMore, HoldsUploads, IsAtEnd, MadeOf, SentClean, ServesOn, with_all}
 use Rattle.mmtel_server.specs.Follows.{AllDrawOn}
 use Rattle.mmtel_server_decisions.specs.Handed.{taken_of}
 use Rattle.mmtel_server.specs.Laws.{RunLaws}
 use Rattle.mmtel_server.specs.Stands.{Serves}
-use Rattle.mmtel_server.specs.Stepped.{AskedIn, Stepped, StoppedAt, happened_in}
+use Rattle.mmtel_server.specs.Seen.{KeeperSeen, LinkSeen, ServingState, StepState, step_of}
+use Rattle.mmtel_server.specs.Stepped.{AskedIn, Stepped, StoppedAt, call_of, happened_in}
 use Rattle.mmtel_server.specs.Turns.{MadeSoFar}
 use Rattle.mmtel_server.specs.declared.driving.DriveFault.TheVariants.{LinkFault, NoMemory}
 use Rattle.mmtel_server.specs.declared.servers.Server.{Server}
@@ -74,10 +75,9 @@ module _ (law : AllDrawOn) (always : GivesAlways) (xs ys : List Happened) where
         subst (λ (l : List Happened). Serves d token loaded l u) (sym (whole es))
         (second d token loaded (es ++ xs) (there d token loaded es serves short) (few d token loaded es short))
 
-    pub asked_then : (held mid left : Option Held) (calls midst after : Option KeeperCalls) → AnswersAll xs s held mid calls midst → AnswersAll ys t mid left midst after
-        → AnswersAll (xs ++ ys) s held left calls after
-    asked_then held mid left calls midst after one more d token loaded es serves short =
-        answers_then d.names xs ys held mid left calls midst after
+    pub asked_then : (old mid new : KeeperSeen) → AnswersAll xs s old mid → AnswersAll ys t mid new → AnswersAll (xs ++ ys) s old new
+    asked_then old mid new one more d token loaded es serves short =
+        answers_then d.names xs ys old mid new
         (one d token loaded es serves (few_first d token loaded es short))
         (more d token loaded (es ++ xs) (there d token loaded es serves short) (few d token loaded es short))
 
@@ -99,141 +99,149 @@ module _ (law : AllDrawOn) (always : GivesAlways) (xs ys : List Happened) where
 
 -- ---- what the keeper did
 
-asked_nothing : (s : Server) (held : Option Held) (calls : Option KeeperCalls) → AnswersAll [] s held held calls calls
-asked_nothing s held calls d token loaded es serves short = (refl, refl)
+asked_nothing : (s : Server) (keeper : KeeperSeen) → AnswersAll [] s keeper keeper
+asked_nothing s keeper d token loaded es serves short = (refl, refl)
 
 -- what it holds after one event that was done
-holds_step : (t new : Server) (between offers : List Offer) (e : Event) (held left : Option Held) (calls after : Option KeeperCalls) (count faulty : ℕ)
-    → (step : Stepped t between new offers e held left calls after count faulty) → HoldsUploads (happened_in e step.kept step.rows step.took ∷ []) t held left
-holds_step t new between offers e held left calls after count faulty step d token loaded es fuel enough serves short =
+holds_step : (old new : StepState) (e : Event) → (step : Stepped e old new) → HoldsUploads (happened_in e step.kept step.rows step.took ∷ []) old.server old.keeper.held new.keeper.held
+holds_step old new e step d token loaded es fuel enough serves short =
     let waited = step.waited d token loaded es fuel serves short enough in (
       taken_of step.took step.waiting,
       waited.0,
-      holds_one d.names (happened_in e step.kept step.rows step.took) step.waiting held step.between left calls step.midst after (step.asked d token loaded es serves short) step.handed,
+      holds_one d.names (happened_in e step.kept step.rows step.took) step.waiting old.keeper.held step.between.held new.keeper.held old.keeper.calls step.between.calls new.keeper.calls
+          (step.asked d token loaded es serves short) step.handed,
     )
 
 -- ---- turn after turn
 
-module _ (laws : RunLaws) (ear : Option Ear) (held : Option Held) (calls : Option KeeperCalls) (faults : ℕ) (old : Server) where
-  pub made_none : MadeSoFar [] ear ear held held calls calls faults faults 0 old old
+module _ (laws : RunLaws) (start : ServingState) where
+  pub made_none : MadeSoFar [] 0 start start
   made_none = record {
-    told = heard_nothing ear;
+    told = heard_nothing start.link.ear;
     each = refl;
-    serves = serves_nothing old;
-    answers = asked_nothing old held calls;
-    sheets = holds_nothing old held;
+    serves = serves_nothing start.server;
+    answers = asked_nothing start.server start.keeper;
+    sheets = holds_nothing start.server start.keeper.held;
     counted = refl;
   }
 
-  module _ (happened : List Happened) (mid : Option Ear) (kept_by : Option Held) (asked : Option KeeperCalls) (count turns : ℕ) (server : Server)
-      (m : MadeSoFar happened ear mid held kept_by calls asked faults count turns old server) where
-    told_more : (later : Option Ear) (ys : List Happened) → HeardMore mid later (events_in ys) → HeardMore ear later (events_in (happened ++ ys))
+  module _ (happened : List Happened) (turns : ℕ) (mid : ServingState) (m : MadeSoFar happened turns start mid) where
+    told_more : (later : Option Ear) (ys : List Happened) → HeardMore mid.link.ear later (events_in ys) → HeardMore start.link.ear later (events_in (happened ++ ys))
     told_more later ys told =
-        subst (λ (es : List Event). HeardMore ear later es) (sym (events_both happened ys)) (heard_then ear mid later (events_in happened) (events_in ys) m.told told)
+        subst (λ (es : List Event). HeardMore start.link.ear later es) (sym (events_both happened ys))
+        (heard_then start.link.ear mid.link.ear later (events_in happened) (events_in ys) m.told told)
 
     -- one turn took an event, and it was done
-    pub made_more : (later : Option Ear) (left : Option Held) (after : Option KeeperCalls) (faulty : ℕ) (new : Server) (out offers : List Offer) (e : Event)
-        → HeardMore mid later (e ∷ []) → (step : Stepped server out new offers e kept_by left asked after count faulty)
-        → MadeSoFar (happened ++ happened_in e step.kept step.rows step.took ∷ []) ear later held left calls after faults faulty (turns + 1) old new
-    made_more later left after faulty new out offers e told step =
+    pub made_more : (new : ServingState) (out offers : List Offer) (e : Event) → HeardMore mid.link.ear new.link.ear (e ∷ [])
+        → (step : Stepped e (step_of mid out) (step_of new offers)) → MadeSoFar (happened ++ happened_in e step.kept step.rows step.took ∷ []) (turns + 1) start new
+    made_more new out offers e told step =
         let one : Happened = happened_in e step.kept step.rows step.took in
-        let here : AnswersAll (one ∷ []) server kept_by left asked after = λ dir token loaded es serves short.
-        answers_one dir.names one step.waiting kept_by step.between left asked step.midst after (step.asked dir token loaded es serves short) step.handed in
-        let on : ServesOn (one ∷ []) server new = λ dir token loaded es serves short. (step.adds dir token loaded es serves short).0 in
+        let here : AnswersAll (one ∷ []) mid.server mid.keeper new.keeper = λ dir token loaded es serves short.
+        answers_one dir.names one step.waiting mid.keeper step.between new.keeper (step.asked dir token loaded es serves short) step.handed in
+        let on : ServesOn (one ∷ []) mid.server new.server = λ dir token loaded es serves short. (step.adds dir token loaded es serves short).0 in
         record {
-          told = told_more later (one ∷ []) told;
+          told = told_more new.link.ear (one ∷ []) told;
           each = omega (arith, length-append happened (one ∷ []), m.each);
-          serves = serves_then laws.draws laws.always happened (one ∷ []) old server m.serves new on;
-          answers = asked_then laws.draws laws.always happened (one ∷ []) old server m.serves held kept_by left calls asked after m.answers here;
-          sheets = holds_then laws.draws laws.always happened (one ∷ []) old server m.serves held kept_by left m.sheets
-              (holds_step server new out offers e kept_by left asked after count faulty step);
-          counted = counted_then happened (one ∷ []) faults count faulty m.counted (counted_one one count step.mid faulty step.counted step.handed_counted);
+          serves = serves_then laws.draws laws.always happened (one ∷ []) start.server mid.server m.serves new.server on;
+          answers = asked_then laws.draws laws.always happened (one ∷ []) start.server mid.server m.serves start.keeper mid.keeper new.keeper m.answers here;
+          sheets = holds_then laws.draws laws.always happened (one ∷ []) start.server mid.server m.serves start.keeper.held mid.keeper.held new.keeper.held m.sheets
+              (holds_step (step_of mid out) (step_of new offers) e step);
+          counted = counted_then happened (one ∷ []) start.keeper.faults mid.keeper.faults new.keeper.faults m.counted
+              (counted_one one mid.keeper.faults step.between.faults new.keeper.faults step.counted step.handed_counted);
         }
 
     module _ (most : ℕ) where
       -- it was not done to its end
-      pub made_broken : turns < most → (later : Option Ear) (left : Option Held) (after : Option KeeperCalls) (faulty : ℕ) (e : Event) (Broke : Kept → List Row → Type 0)
-          → HeardMore mid later (e ∷ [])
-          → (met : StoppedAt Broke (λ by rows asked_by midst. (took : Bool) → AskedIn server (happened_in e by rows took) kept_by asked_by asked midst) left after count faulty)
-          → MadeOf (happened ++ happened_in e met.kept met.rows false ∷ []) ear later held left calls after faults faulty most old (Err NoMemory)
-      made_broken less later left after faulty e Broke told met =
+      pub made_broken : turns < most → (new : ServingState) (e : Event) (Broke : Kept → List Row → Type 0) → HeardMore mid.link.ear new.link.ear (e ∷ [])
+          → (met : StoppedAt Broke (λ kept rows between. (took : Bool) → AskedIn mid.server (happened_in e kept rows took) mid.keeper between) mid.keeper new.keeper)
+          → MadeOf (happened ++ happened_in e met.kept met.rows false ∷ []) most start new (Err NoMemory)
+      made_broken less new e Broke told met =
           let one : Happened = happened_in e met.kept met.rows false in
-          let here : AskedIn server one kept_by left asked met.midst =
-          subst (λ (h : Option Held). AskedIn server one kept_by h asked met.midst) (sym met.handed.0) (met.asked false) in
-          let stopped : AnswersButLast (happened ++ one ∷ []) old held left calls after = λ dir token loaded es serves short.
-          answers_last dir.names happened one held kept_by left calls asked met.midst after refl
+          let here : (dir : Directory) (token : List ℕ) (loaded : Texts) (es : List Happened) → Serves dir token loaded es mid.server → IsShortRun dir token loaded (es ++ one ∷ [])
+          → Answers (call_of dir.names one.event) one.kept one.rows mid.keeper.held new.keeper.held mid.keeper.calls met.between.calls = λ dir token loaded es serves short.
+          subst (λ (h : Option Held). Answers (call_of dir.names one.event) one.kept one.rows mid.keeper.held h mid.keeper.calls met.between.calls) (sym met.handed.0)
+          (met.asked false dir token loaded es serves short) in
+          let stopped : AnswersButLast (happened ++ one ∷ []) start.server start.keeper new.keeper = λ dir token loaded es serves short.
+          answers_last dir.names happened one start.keeper mid.keeper new.keeper met.between.calls refl
           (m.answers dir token loaded es serves (few_first laws.draws laws.always happened (one ∷ []) dir token loaded es short))
-          (here dir token loaded (es ++ happened) (there laws.draws laws.always happened (one ∷ []) old server m.serves dir token loaded es serves short)
+          (here dir token loaded (es ++ happened) (there laws.draws laws.always happened (one ∷ []) start.server mid.server m.serves dir token loaded es serves short)
           (few laws.draws laws.always happened (one ∷ []) dir token loaded es short)) met.handed.1.0 in
           record {
-            told = told_more later (one ∷ []) told;
+            told = told_more new.link.ear (one ∷ []) told;
             ends = omega (arith, length-append happened (one ∷ []), m.each, less);
             keeper = record {
               answers = stopped;
-              sheets = holds_then laws.draws laws.always happened (one ∷ []) old server m.serves held kept_by left m.sheets
-                  (holds_untaken one server kept_by left asked met.midst refl here);
-              counted = counted_last happened one faults count faulty m.counted (subst (λ (n : ℕ). Counted met.kept count n) (sym met.handed.1.1) met.counted);
+              sheets = holds_then laws.draws laws.always happened (one ∷ []) start.server mid.server m.serves start.keeper.held mid.keeper.held new.keeper.held m.sheets
+                  (holds_untaken one mid.server mid.keeper.held new.keeper.held mid.keeper.calls met.between.calls refl here);
+              counted = counted_last happened one start.keeper.faults mid.keeper.faults new.keeper.faults m.counted
+                  (subst (λ (n : ℕ). Counted met.kept mid.keeper.faults n) (sym met.handed.1.1) met.counted);
             };
-            charged = charged laws.filed laws.none (happened ++ one ∷ []) old;
-            outcome = came laws.outcome (happened ++ one ∷ []) old;
-            seats = seated laws.seats (happened ++ one ∷ []) old;
-            clean = sent laws.clean (happened ++ one ∷ []) old;
+            charged = charged laws.filed laws.none (happened ++ one ∷ []) start.server;
+            outcome = came laws.outcome (happened ++ one ∷ []) start.server;
+            seats = seated laws.seats (happened ++ one ∷ []) start.server;
+            clean = sent laws.clean (happened ++ one ∷ []) start.server;
           }
 
-      -- memory ran out before it was read to its end
-      pub made_lost : (later : Option Ear) (es : List Event) → length es ≤ 1 → turns + length es ≤ most → HeardMore mid later es
-          → MadeOf (happened ++ lost_events es) ear later held kept_by calls asked faults count most old (Err NoMemory)
-      made_lost later es one less told =
-          let ys : List Happened = lost_events es in
-          let stopped : AnswersButLast (happened ++ ys) old held kept_by calls asked = λ dir token loaded earlier serves short.
-          answers_lost dir.names happened es held kept_by calls asked one
-          (m.answers dir token loaded earlier serves (few_first laws.draws laws.always happened ys dir token loaded earlier short)) in
-          record {
-            told = told_more later ys (subst (λ (l : List Event). HeardMore mid later l) (sym (events_lost es)) told);
-            ends = omega (arith, length-append happened ys, m.each, less, length_lost es);
-            keeper = record {
-              answers = stopped;
-              sheets = holds_then laws.draws laws.always happened ys old server m.serves held kept_by kept_by m.sheets (holds_lost es server kept_by asked one);
-              counted = counted_lost happened es faults count one m.counted;
-            };
-            charged = charged laws.filed laws.none (happened ++ ys) old;
-            outcome = came laws.outcome (happened ++ ys) old;
-            seats = seated laws.seats (happened ++ ys) old;
-            clean = sent laws.clean (happened ++ ys) old;
-          }
+      -- where the link alone has gone on since
+      module _ (link : LinkSeen) where
+        abbrev since : ServingState
+        since = record { link = link; keeper = mid.keeper; server = mid.server }
 
-      -- the link is closed
-      pub made_closed : turns < most → (later : Option Ear) → HeardMore mid later [] → IsAtEnd later → MadeOf happened ear later held kept_by calls asked faults count most old (Ok true)
-      made_closed less later told over = record {
-        told = heard_still ear mid later (events_in happened) m.told told;
-        ends = (omega (arith, m.each, less), over);
-        keeper = record { answers = m.answers; sheets = m.sheets; counted = m.counted };
-        charged = charged laws.filed laws.none happened old;
-        outcome = came laws.outcome happened old;
-        seats = seated laws.seats happened old;
-        clean = sent laws.clean happened old;
-      }
+        -- memory ran out before it was read to its end
+        pub made_lost : (es : List Event) → length es ≤ 1 → turns + length es ≤ most → HeardMore mid.link.ear link.ear es
+            → MadeOf (happened ++ lost_events es) most start since (Err NoMemory)
+        made_lost es one less told =
+            let ys : List Happened = lost_events es in
+            let stopped : AnswersButLast (happened ++ ys) start.server start.keeper mid.keeper = λ dir token loaded earlier serves short.
+            answers_lost dir.names happened es start.keeper mid.keeper one
+            (m.answers dir token loaded earlier serves (few_first laws.draws laws.always happened ys dir token loaded earlier short)) in
+            record {
+              told = told_more link.ear ys (subst (λ (l : List Event). HeardMore mid.link.ear link.ear l) (sym (events_lost es)) told);
+              ends = omega (arith, length-append happened ys, m.each, less, length_lost es);
+              keeper = record {
+                answers = stopped;
+                sheets = holds_then laws.draws laws.always happened ys start.server mid.server m.serves start.keeper.held mid.keeper.held mid.keeper.held m.sheets
+                    (holds_lost es mid.server mid.keeper.held mid.keeper.calls one);
+                counted = counted_lost happened es start.keeper.faults mid.keeper.faults one m.counted;
+              };
+              charged = charged laws.filed laws.none (happened ++ ys) start.server;
+              outcome = came laws.outcome (happened ++ ys) start.server;
+              seats = seated laws.seats (happened ++ ys) start.server;
+              clean = sent laws.clean (happened ++ ys) start.server;
+            }
 
-      -- it failed
-      pub made_failed : turns < most → (later : Option Ear) → HeardMore mid later [] → MadeOf happened ear later held kept_by calls asked faults count most old (Err LinkFault)
-      made_failed less later told = record {
-        told = heard_still ear mid later (events_in happened) m.told told;
-        ends = omega (arith, m.each, less);
-        keeper = record { answers = m.answers; sheets = m.sheets; counted = m.counted };
-        charged = charged laws.filed laws.none happened old;
-        outcome = came laws.outcome happened old;
-        seats = seated laws.seats happened old;
-        clean = sent laws.clean happened old;
-      }
+        -- the link is closed
+        pub made_closed : turns < most → HeardMore mid.link.ear link.ear [] → IsAtEnd link.ear → MadeOf happened most start since (Ok true)
+        made_closed less told over = record {
+          told = heard_still start.link.ear mid.link.ear link.ear (events_in happened) m.told told;
+          ends = (omega (arith, m.each, less), over);
+          keeper = record { answers = m.answers; sheets = m.sheets; counted = m.counted };
+          charged = charged laws.filed laws.none happened start.server;
+          outcome = came laws.outcome happened start.server;
+          seats = seated laws.seats happened start.server;
+          clean = sent laws.clean happened start.server;
+        }
+
+        -- it failed
+        pub made_failed : turns < most → HeardMore mid.link.ear link.ear [] → MadeOf happened most start since (Err LinkFault)
+        made_failed less told = record {
+          told = heard_still start.link.ear mid.link.ear link.ear (events_in happened) m.told told;
+          ends = omega (arith, m.each, less);
+          keeper = record { answers = m.answers; sheets = m.sheets; counted = m.counted };
+          charged = charged laws.filed laws.none happened start.server;
+          outcome = came laws.outcome happened start.server;
+          seats = seated laws.seats happened start.server;
+          clean = sent laws.clean happened start.server;
+        }
 
       -- the turns were made
-      pub made_all : turns ≡ most → MadeOf happened ear mid held kept_by calls asked faults count most old (Ok false)
+      pub made_all : turns ≡ most → MadeOf happened most start mid (Ok false)
       made_all all = record {
         told = m.told;
         ends = m.each ∙ all;
         keeper = record { answers = m.answers; sheets = m.sheets; counted = m.counted };
-        charged = charged laws.filed laws.none happened old;
-        outcome = came laws.outcome happened old;
-        seats = seated laws.seats happened old;
-        clean = sent laws.clean happened old;
+        charged = charged laws.filed laws.none happened start.server;
+        outcome = came laws.outcome happened start.server;
+        seats = seated laws.seats happened start.server;
+        clean = sent laws.clean happened start.server;
       }

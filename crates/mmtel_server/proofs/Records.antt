@@ -18,6 +18,7 @@ use Rattle.mmtel_types.specs.declared.numbers.Account.{Account}
 use Rattle.mmtel_web.specs.Answers.{Kept, failed, no_memory, web_reply}
 use Rattle.mmtel_web.specs.Uploads.{kept_upload, upload_in}
 use Rattle.mmtel_server.specs.Follows.{Follows}
+use Rattle.mmtel_server.specs.Seen.{StepState}
 use Rattle.mmtel_server.specs.Stands.{Did}
 use Rattle.mmtel_server.specs.Stepped.{Stopped, call_of}
 use Rattle.mmtel_server.specs.declared.servers.Server.{Server}
@@ -98,19 +99,16 @@ unasked_answers none held calls = (λ e. absurd (apart e), (refl, refl))
 unasked_answers (stores account text) held calls = (refl, inl refl)
 unasked_answers asks held calls = (refl, inl refl)
 
-pub stopped_unasked : (old : Server) (out now : List Offer) (event : Event) (held : Option Keeper.Held) (calls : Option KeeperCalls) (faults : ℕ) → old.failed ≡ true
-    → Stopped old out now event held held calls calls faults faults
-stopped_unasked old out now event held calls faults is = record {
+pub stopped_unasked : (old : StepState) (event : Event) → old.server.failed ≡ true → Stopped event old old.offers old.keeper
+stopped_unasked old event is = record {
   kept = no_memory;
   rows = [];
   broke = λ took. (
     λ d token loaded happened before fuel went short enough. absurd (false≢true (sym went.did.stands.whole ∙ is)),
     λ d token loaded happened fuel serves short enough. absurd (false≢true (sym serves.stands.whole ∙ is)),
   );
-  between = held;
-  midst = calls;
-  mid = faults;
-  asked = λ took d token loaded happened serves short. unasked_answers (call_of d.names event) held calls;
+  between = old.keeper;
+  asked = λ took d token loaded happened serves short. unasked_answers (call_of d.names event) old.keeper.held old.keeper.calls;
   counted = refl;
   handed = (refl, (inl refl, refl));
 }

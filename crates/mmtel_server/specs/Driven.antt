@@ -26,6 +26,7 @@ use Rattle.mmtel_serving.specs.Calls.{Answers, Counted, MayBeCalled}
 use Rattle.mmtel_server.specs.Stands.{IsCut, Serves, Went}
 use Rattle.mmtel_server.specs.Charged.{Charged}
 use Rattle.mmtel_server_decisions.specs.Handed.{Handed, HandedCounted}
+use Rattle.mmtel_server.specs.Seen.{KeeperSeen, LinkSeen, ServingState}
 use Rattle.mmtel_server.specs.Stepped.{call_of}
 use Rattle.mmtel_server.specs.declared.driving.DriveFault.{DriveFault}
 use Rattle.mmtel_server.specs.declared.driving.DriveFault.TheVariants.{LinkFault, NoMemory}
@@ -95,18 +96,25 @@ abbrev pub StandsOrRose : ℕ → ℕ → Type 0
 StandsOrRose before now = (now ≡ before) ⊎ Rose before now
 
 -- each but the last, if that was not read to its end
+pub record EarReadButLast (ear later : Ear) (giving gave : ℕ) : Type 0 where
+  pub reads : List ℕ
+  pub last : List ℕ
+  pub parts : later.reads ≡ ear.reads ++ (reads ++ last)
+  pub one : length last ≤ 1
+  pub between : ℕ
+  pub each : EachRead giving between (to_come ear) reads
+  pub rose : StandsOrRose between gave
+
 abbrev pub ReadButLast : Option Ear → Option Ear → (giving gave : ℕ) → Type 0
 ReadButLast None later giving gave = ⊤
 ReadButLast (Some ear) None giving gave = ⊥
-ReadButLast (Some ear) (Some later) giving gave =
-    (reads : List ℕ) × (last : List ℕ) × (before : ℕ) × (later.reads ≡ ear.reads ++ (reads ++ last)) × (length last ≤ 1) × EachRead giving before (to_come ear) reads
-    × StandsOrRose before gave
+ReadButLast (Some ear) (Some later) giving gave = EarReadButLast ear later giving gave
 
 -- memory may have run out in reading the last
-abbrev pub ReadAll : Option Ear → Option Ear → (giving gave : ℕ) → Result Bool DriveFault → Type 0
-ReadAll ear later giving gave (Ok closed) = ReadEach ear later giving gave
-ReadAll ear later giving gave (Err LinkFault) = ReadEach ear later giving gave
-ReadAll ear later giving gave (Err NoMemory) = ReadButLast ear later giving gave
+abbrev pub ReadAll : (old new : LinkSeen) → Result Bool DriveFault → Type 0
+ReadAll old new (Ok closed) = ReadEach old.ear new.ear old.giving new.giving
+ReadAll old new (Err LinkFault) = ReadEach old.ear new.ear old.giving new.giving
+ReadAll old new (Err NoMemory) = ReadButLast old.ear new.ear old.giving new.giving
 
 -- ---- one turn
 
@@ -219,20 +227,24 @@ SentClean happened old =
 
 -- ---- what was made of the keeper
 
--- what the keeper answered to each event is the answer of the call that the event asks for; then the rows that waited were handed to it, where there were any; and nothing
--- else was asked of it
-abbrev pub EachAnswers : WebDirectory → List Happened → Option Held → Option Held → Option KeeperCalls → Option KeeperCalls → Type 0
-EachAnswers names [] held left calls after = (left ≡ held) × (after ≡ calls)
-EachAnswers names (one ∷ happened) held left calls after =
-    (asked : Option Held) × (between : Option Held) × (midst : Option KeeperCalls) × (past : Option KeeperCalls) × (waiting : List Row) ×
-    Answers (call_of names one.event) one.kept one.rows held asked calls midst ×
-    (Handed one.took waiting asked between midst past × EachAnswers names happened between left past after)
+-- what the keeper answered in one event is the answer of the call that the event asks for; then the rows that waited were handed to it, where there were any; and nothing else
+-- was asked of it
+pub record AnswersOne (names : WebDirectory) (one : Happened) (old new : KeeperSeen) : Type 0 where
+  pub between : KeeperSeen
+  pub answers : Answers (call_of names one.event) one.kept one.rows old.held between.held old.calls between.calls
+  pub waiting : List Row
+  pub handed : Handed one.took waiting between.held new.held between.calls new.calls
 
-abbrev pub AnswersAll : List Happened → Server → Option Held → Option Held → Option KeeperCalls → Option KeeperCalls → Type 0
-AnswersAll happened old held left calls after =
+-- the same of each event, in order; the count of its faults is said below
+abbrev pub EachAnswers : WebDirectory → List Happened → (old new : KeeperSeen) → Type 0
+EachAnswers names [] old new = (new.held ≡ old.held) × (new.calls ≡ old.calls)
+EachAnswers names (one ∷ happened) old new = (between : KeeperSeen) × AnswersOne names one old between × EachAnswers names happened between new
+
+abbrev pub AnswersAll : List Happened → Server → (old new : KeeperSeen) → Type 0
+AnswersAll happened server old new =
     (directory : Directory) (token : List ℕ) (loaded : Texts) (earlier : List Happened) →
-    Serves directory token loaded earlier old → IsShortRun directory token loaded (earlier ++ happened) →
-    EachAnswers directory.names happened held left calls after
+    Serves directory token loaded earlier server → IsShortRun directory token loaded (earlier ++ happened) →
+    EachAnswers directory.names happened old new
 
 -- with these uploads put over the sheets, and these rows behind the others
 abbrev pub with_all : Texts → List Row → Held → Held
@@ -240,102 +252,110 @@ with_all uploads rows held = record { sheets = put_each uploads held.sheets; row
 
 -- where the keeper tells what it holds, each upload that was kept was put over it, in their order, the rows that were filed in these events stand behind those that it
 -- held, and nothing else changed
-abbrev pub HoldsUploads : List Happened → Server → Option Held → Option Held → Type 0
-HoldsUploads happened old held left =
+abbrev pub HoldsUploads : List Happened → Server → (old new : Option Held) → Type 0
+HoldsUploads happened server old new =
     (directory : Directory) (token : List ℕ) (loaded : Texts) (earlier : List Happened) →
     (fuel : ℕ) → IsEnough directory token loaded fuel (earlier ++ happened) →
-    Serves directory token loaded earlier old → IsShortRun directory token loaded (earlier ++ happened) →
+    Serves directory token loaded earlier server → IsShortRun directory token loaded (earlier ++ happened) →
     (rows : List Row) × ((world_after directory token loaded fuel (earlier ++ happened)).filed ≡ (world_after directory token loaded fuel earlier).filed ++ rows)
-    × (left ≡ option_map (with_all (uploads_of directory.names happened) rows) held)
+    × (new ≡ option_map (with_all (uploads_of directory.names happened) rows) old)
 
--- its count of faults rose in each event in which its call failed, and where it did not take the rows at the end, and stood otherwise
-abbrev pub EachCounted : List Happened → (faults count : ℕ) → Type 0
-EachCounted [] faults count = count ≡ faults
-EachCounted (one ∷ happened) faults count =
-    (asked : ℕ) × (between : ℕ) × Counted one.kept faults asked × (HandedCounted one.took asked between × EachCounted happened between count)
+-- its count of faults rose in an event in which its call failed, and where it did not take the rows at the end, and stood otherwise
+pub record CountedOne (one : Happened) (old new : ℕ) : Type 0 where
+  pub between : ℕ
+  pub counted : Counted one.kept old between
+  pub handed : HandedCounted one.took between new
+
+abbrev pub EachCounted : List Happened → (old new : ℕ) → Type 0
+EachCounted [] old new = new ≡ old
+EachCounted (one ∷ happened) old new = (between : ℕ) × CountedOne one old between × EachCounted happened between new
 
 -- ---- the same where memory ran out, in the last of these events or behind it
 
 -- of the last one, if memory ran out in it: what the keeper answered is the answer of the call that the event asks for; the rows that waited then may have been handed to
 -- it, and it took none of them
-abbrev pub LastAnswers : WebDirectory → List Happened → Option Held → Option Held → Option KeeperCalls → Option KeeperCalls → Type 0
-LastAnswers names [] held left calls after = (left ≡ held) × (after ≡ calls)
-LastAnswers names (one ∷ []) held left calls after =
-    (midst : Option KeeperCalls) × (one.took ≡ false) × (Answers (call_of names one.event) one.kept one.rows held left calls midst × MayBeCalled midst after)
-LastAnswers names (one ∷ other ∷ happened) held left calls after = ⊥
+abbrev pub LastAnswers : WebDirectory → List Happened → (old new : KeeperSeen) → Type 0
+LastAnswers names [] old new = (new.held ≡ old.held) × (new.calls ≡ old.calls)
+LastAnswers names (one ∷ []) old new =
+    (asked : Option KeeperCalls) × (one.took ≡ false)
+    × (Answers (call_of names one.event) one.kept one.rows old.held new.held old.calls asked × MayBeCalled asked new.calls)
+LastAnswers names (one ∷ other ∷ happened) old new = ⊥
 
 -- and of all before it as above
-abbrev pub EachAnswersButLast : WebDirectory → List Happened → Option Held → Option Held → Option KeeperCalls → Option KeeperCalls → Type 0
-EachAnswersButLast names happened held left calls after =
-    (done : List Happened) × (last : List Happened) × (between : Option Held) × (midst : Option KeeperCalls) ×
-    (happened ≡ done ++ last) × (EachAnswers names done held between calls midst × LastAnswers names last between left midst after)
+pub record EachAnswersButLast (names : WebDirectory) (happened : List Happened) (old new : KeeperSeen) : Type 0 where
+  pub done : List Happened
+  pub last : List Happened
+  pub parts : happened ≡ done ++ last
+  pub between : KeeperSeen
+  pub each : EachAnswers names done old between
+  pub rest : LastAnswers names last between new
 
-abbrev pub AnswersButLast : List Happened → Server → Option Held → Option Held → Option KeeperCalls → Option KeeperCalls → Type 0
-AnswersButLast happened old held left calls after =
+abbrev pub AnswersButLast : List Happened → Server → (old new : KeeperSeen) → Type 0
+AnswersButLast happened server old new =
     (directory : Directory) (token : List ℕ) (loaded : Texts) (earlier : List Happened) →
-    Serves directory token loaded earlier old → IsShortRun directory token loaded (earlier ++ happened) →
-    EachAnswersButLast directory.names happened held left calls after
+    Serves directory token loaded earlier server → IsShortRun directory token loaded (earlier ++ happened) →
+    EachAnswersButLast directory.names happened old new
 
 -- the count of faults rose in it where its call failed, and stood otherwise
-abbrev pub LastCounted : List Happened → (faults count : ℕ) → Type 0
-LastCounted [] faults count = count ≡ faults
-LastCounted (one ∷ []) faults count = Counted one.kept faults count
-LastCounted (one ∷ other ∷ happened) faults count = ⊥
+abbrev pub LastCounted : List Happened → (old new : ℕ) → Type 0
+LastCounted [] old new = new ≡ old
+LastCounted (one ∷ []) old new = Counted one.kept old new
+LastCounted (one ∷ other ∷ happened) old new = ⊥
 
-abbrev pub EachCountedButLast : List Happened → (faults count : ℕ) → Type 0
-EachCountedButLast happened faults count =
-    (done : List Happened) × (last : List Happened) × (between : ℕ) × (happened ≡ done ++ last) × (EachCounted done faults between × LastCounted last between count)
+pub record EachCountedButLast (happened : List Happened) (old new : ℕ) : Type 0 where
+  pub done : List Happened
+  pub last : List Happened
+  pub parts : happened ≡ done ++ last
+  pub between : ℕ
+  pub each : EachCounted done old between
+  pub rest : LastCounted last between new
 
 -- ---- by the answer
 
-abbrev pub AnsweredAll : List Happened → Server → Option Held → Option Held → Option KeeperCalls → Option KeeperCalls → Result Bool DriveFault → Type 0
-AnsweredAll happened old held left calls after (Ok closed) = AnswersAll happened old held left calls after
-AnsweredAll happened old held left calls after (Err LinkFault) = AnswersAll happened old held left calls after
-AnsweredAll happened old held left calls after (Err NoMemory) = AnswersButLast happened old held left calls after
+abbrev pub AnsweredAll : List Happened → Server → (old new : KeeperSeen) → Result Bool DriveFault → Type 0
+AnsweredAll happened server old new (Ok closed) = AnswersAll happened server old new
+AnsweredAll happened server old new (Err LinkFault) = AnswersAll happened server old new
+AnsweredAll happened server old new (Err NoMemory) = AnswersButLast happened server old new
 
-abbrev pub CountedAll : List Happened → (faults count : ℕ) → Result Bool DriveFault → Type 0
-CountedAll happened faults count (Ok closed) = EachCounted happened faults count
-CountedAll happened faults count (Err LinkFault) = EachCounted happened faults count
-CountedAll happened faults count (Err NoMemory) = EachCountedButLast happened faults count
+abbrev pub CountedAll : List Happened → (old new : ℕ) → Result Bool DriveFault → Type 0
+CountedAll happened old new (Ok closed) = EachCounted happened old new
+CountedAll happened old new (Err LinkFault) = EachCounted happened old new
+CountedAll happened old new (Err NoMemory) = EachCountedButLast happened old new
 
--- what the keeper tells and counts, before and after
-pub record KeeperWentOn (happened : List Happened) (old : Server) (held left : Option Held) (calls after : Option KeeperCalls)
-    (faults count : ℕ) (result : Result Bool DriveFault) : Type 0 where
-  pub answers : AnsweredAll happened old held left calls after result
-  pub sheets : HoldsUploads happened old held left
-  pub counted : CountedAll happened faults count result
+-- what the keeper tells and counts
+pub record KeeperWentOn (happened : List Happened) (server : Server) (old new : KeeperSeen) (result : Result Bool DriveFault) : Type 0 where
+  pub answers : AnsweredAll happened server old new result
+  pub sheets : HoldsUploads happened server old.held new.held
+  pub counted : CountedAll happened old.faults new.faults result
 
 -- ---- the whole
 
--- what was made of these events, but for what was offered: what the link told before and after, what the keeper told and counted before and after, the turns, the server
--- before, and the answer
-pub record MadeOf (happened : List Happened) (ear later : Option Ear) (held left : Option Held) (calls after : Option KeeperCalls) (faults count : ℕ)
-    (turns : ℕ) (old : Server) (result : Result Bool DriveFault) : Type 0 where
+-- what was made of these events in so many turns, but for what was offered
+pub record MadeOf (happened : List Happened) (turns : ℕ) (old new : ServingState) (result : Result Bool DriveFault) : Type 0 where
   -- they are those that the link heard, where it tells it,
-  pub told : HeardMore ear later (events_in happened)
+  pub told : HeardMore old.link.ear new.link.ear (events_in happened)
   -- one a turn,
-  pub ends : EndsAfter turns later (length happened) result
+  pub ends : EndsAfter turns new.link.ear (length happened) result
   -- the keeper was asked what they ask, and keeps what they say,
-  pub keeper : KeeperWentOn happened old held left calls after faults count result
+  pub keeper : KeeperWentOn happened old.server old.keeper new.keeper result
   -- the charging rows that it took in the whole run, and behind them those that wait, are all that were closed in it, in their order,
-  pub charged : Charged happened old
+  pub charged : Charged happened old.server
   -- each call comes to its outcome, each seat that was left was charged once, and what is offered has its own lines
-  pub outcome : CameToOutcome happened old
-  pub seats : ChargedSeats happened old
-  pub clean : SentClean happened old
+  pub outcome : CameToOutcome happened old.server
+  pub seats : ChargedSeats happened old.server
+  pub clean : SentClean happened old.server
 
--- what the link told and counted before and after, what the keeper told and counted before and after, the turns, the server and the offers before and after, and the answer
-pub record Driven (ear later : Option Ear) (giving gave : ℕ) (held left : Option Held) (calls after : Option KeeperCalls) (faults count : ℕ)
-    (turns : ℕ) (old : Server) (out : List Offer) (new : Server) (now : List Offer) (result : Result Bool DriveFault) : Type 0 where
+-- what was made of a link and of a keeper in so many turns, with what the server offered before and now
+pub record Driven (turns : ℕ) (old new : ServingState) (out now : List Offer) (result : Result Bool DriveFault) : Type 0 where
   -- there are events that came, each with what the keeper answered in it,
   pub happened : List Happened
-  pub made : MadeOf happened ear later held left calls after faults count turns old result
+  pub made : MadeOf happened turns old new result
   -- the web connections among them read out,
-  pub read : ReadAll ear later giving gave result
+  pub read : ReadAll old.link new.link result
   -- the server did them all,
-  pub did : DidAll happened old out new now result
+  pub did : DidAll happened old.server out new.server now result
   -- and the secret was kept
-  pub kept : KeptAll happened old out now result
+  pub kept : KeptAll happened old.server out now result
 
 -- the count of taking in rose at a link's fault, and is as before at every other answer
 abbrev pub HasDriveCause : {T : Type 0} → ℕ → ℕ → Result T DriveFault → Type 0

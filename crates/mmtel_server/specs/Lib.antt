@@ -1,6 +1,7 @@
 -- What public clauses cite, which a user of the crate has to believe.
 pub mod Stands
 pub mod Charged
+pub mod Seen
 pub mod Stepped
 pub mod Driven
 pub mod Laws

@@ -1,14 +1,13 @@
 -- What the turns of `drive` so far took of a link and made of it.
 use Rattle.std.specs.Prelude.{◌≡◌, ◌⊎◌, ◌+◌, ◌<◌, ◌≤◌, ℕ, Bool, true, false, List, [], ◌∷◌, ◌++◌, length, take, Option, Some, None, Result, Ok, Err}
 use Rattle.mmtel_http.specs.Requests.{Request, unfinished, bad, large, asked}
-use Rattle.mmtel_keeper.specs.Kept.{Held, KeeperCalls}
 use Rattle.mmtel_link.specs.Told.{Ear, coming, web_bytes}
 use Rattle.mmtel_outside.specs.Counts.{Rose}
 use Rattle.mmtel_outside.specs.declared.events.Offer.{Offer}
 use Rattle.mmtel_run.specs.Events.{Happened, events_in}
 use Rattle.mmtel_scan.specs.declared.memory.NoMemory.{NoMemory}
 use Rattle.mmtel_server.specs.Driven.{AnswersAll, EachCounted, HeardMore, HoldsUploads, IsReadOut, ReadEach, ServesOn, WentOn, most_read}
-use Rattle.mmtel_server.specs.declared.servers.Server.{Server}
+use Rattle.mmtel_server.specs.Seen.{ServingState}
 
 -- ---- one connection
 
@@ -50,19 +49,17 @@ ReadsOn ear later giving gave bytes (Err e) = HasRead ear later giving gave (Err
 -- ---- all turns
 
 -- so many events came, and were done: what was made of them, but for what was offered
-pub record MadeSoFar (happened : List Happened) (ear later : Option Ear) (held left : Option Held) (calls after : Option KeeperCalls) (faults count : ℕ)
-    (turns : ℕ) (old new : Server) : Type 0 where
-  pub told : HeardMore ear later (events_in happened)
+pub record MadeSoFar (happened : List Happened) (turns : ℕ) (old new : ServingState) : Type 0 where
+  pub told : HeardMore old.link.ear new.link.ear (events_in happened)
   pub each : length happened ≡ turns
-  pub serves : ServesOn happened old new
-  pub answers : AnswersAll happened old held left calls after
-  pub sheets : HoldsUploads happened old held left
-  pub counted : EachCounted happened faults count
+  pub serves : ServesOn happened old.server new.server
+  pub answers : AnswersAll happened old.server old.keeper new.keeper
+  pub sheets : HoldsUploads happened old.server old.keeper.held new.keeper.held
+  pub counted : EachCounted happened old.keeper.faults new.keeper.faults
 
 -- and what was offered, for `drive`
-pub record Drove (ear later : Option Ear) (giving gave : ℕ) (held left : Option Held) (calls after : Option KeeperCalls) (faults count : ℕ)
-    (turns : ℕ) (old : Server) (out : List Offer) (new : Server) (now : List Offer) : Type 0 where
+pub record Drove (turns : ℕ) (old new : ServingState) (out now : List Offer) : Type 0 where
   pub happened : List Happened
-  pub made : MadeSoFar happened ear later held left calls after faults count turns old new
-  pub read : ReadEach ear later giving gave
-  pub did : WentOn happened old out new now
+  pub made : MadeSoFar happened turns old new
+  pub read : ReadEach old.link.ear new.link.ear old.link.giving new.link.giving
+  pub did : WentOn happened old.server out new.server now

@@ -2,7 +2,9 @@
 ghost use Rattle.std.specs.Prelude.{◌≡◌, ◌<◌, ◌*◌, [], length, true, IfOk, Ok, OnErr, OnOk, Option, List};
 ghost use Rattle.mmtel_http.specs.Requests.{request_of};
 ghost use Rattle.mmtel_link.specs.Told.{Ear, NextTold};
-ghost use Rattle.mmtel_server.specs.Driven.{CalledTimes, CalledWithin, Driven, HasDriveCause, HasFailedByNumber, IsNeeded, StandsOrRose, Takes, calls_a_turn, reads_a_turn};
+ghost use Rattle.mmtel_server.specs.Driven.{CalledTimes, CalledWithin, Driven, HasDriveCause, HasFailedByNumber};
+ghost use Rattle.mmtel_server.specs.Driven.{IsNeeded, StandsOrRose, Takes, calls_a_turn, reads_a_turn};
+ghost use Rattle.mmtel_server.specs.Seen.{keeper_seen, serving_state, step_state};
 ghost use Rattle.mmtel_server.specs.Stepped.{Stepped, Stopped};
 ghost use Rattle.mmtel_server.specs.Turns.{Grows, HasRead, IsReading, ReadsOn, is_unfinished};
 
@@ -47,7 +49,8 @@ impl From<NoMemory> for DriveFault {
 
 /// Reads once of the connection that came last, behind what was read of it. False at its end, and where the read fails, which ends it too.
 fn read_more<N: Link>(alloc: Global, link: &mut N, bytes: &mut Text) -> Result<bool, NoMemory>
-    ensures read { (ear : Option Ear) → IsReading ear (N.ear link.old) bytes.old → ReadsOn ear (N.ear link.new) (N.giving link.old) (N.giving link.new) bytes.new result }
+    ensures read { (ear : Option Ear) → IsReading ear (N.ear link.old) bytes.old →
+        ReadsOn ear (N.ear link.new) (N.giving link.old) (N.giving link.new) bytes.new result }
     ensures grows { IfOk result (Grows bytes.old bytes.new) }
     ensures stands { IfOk result (λ more. more ≡ true → N.giving link.new ≡ N.giving link.old) }
     ensures giving { StandsOrRose (N.giving link.old) (N.giving link.new) }
@@ -76,7 +79,8 @@ fn is_unfinished(bytes: &[u8]) -> bool
 /// Reads the connection that came last: until its bytes are a request, or can be none, or it is at its end, or a read fails (RFC 9112 §6.3); and no further.
 fn read_request<N: Link>(alloc: Global, link: &mut N) -> Result<Text, NoMemory>
     ensures needed { IfOk result (λ bytes. IsNeeded (length bytes) bytes) }
-    ensures read { (ear : Option Ear) → IsReading ear (N.ear link.old) [] → HasRead ear (N.ear link.new) (N.giving link.old) (N.giving link.new) result }
+    ensures read { (ear : Option Ear) → IsReading ear (N.ear link.old) [] →
+        HasRead ear (N.ear link.new) (N.giving link.old) (N.giving link.new) result }
     ensures giving { StandsOrRose (N.giving link.old) (N.giving link.new) }
     ensures given { N.given link.new ≡ N.given link.old }
     ensures calls { CalledWithin (N.calls link.old) (N.calls link.new) reads_a_turn }
@@ -101,7 +105,8 @@ fn event_of<N: Link>(
     link: &mut N,
     arrival: Arrival,
 ) -> Result<Option<Event>, DriveFault>
-    ensures heard { (ear : Option Ear) → NextTold ear (N.ear link.old) (Ok arrival) → Takes ear (N.ear link.new) (N.giving link.old) (N.giving link.new) result }
+    ensures heard { (ear : Option Ear) → NextTold ear (N.ear link.old) (Ok arrival) →
+        Takes ear (N.ear link.new) (N.giving link.old) (N.giving link.new) result }
     ensures giving { StandsOrRose (N.giving link.old) (N.giving link.new) }
     ensures given { N.given link.new ≡ N.given link.old }
     ensures calls { CalledWithin (N.calls link.old) (N.calls link.new) reads_a_turn }
@@ -150,10 +155,10 @@ fn meet<K: Keeper, L: Ledger>(
     out: &mut List<Offer>,
     steps: &mut Steps<L>,
 ) -> Result<(), NoMemory>
-    ensures done { OnOk result (Stepped server.old out.old server.new out.new event
-        (K.held keeper.old) (K.held keeper.new) (K.calls keeper.old) (K.calls keeper.new) (K.faults keeper.old) (K.faults keeper.new)) }
-    ensures met { OnErr result (Stopped server.old out.old out.new event
-        (K.held keeper.old) (K.held keeper.new) (K.calls keeper.old) (K.calls keeper.new) (K.faults keeper.old) (K.faults keeper.new)) }
+    ensures done { OnOk result (Stepped event (step_state server.old out.old K.Keeper keeper.old)
+        (step_state server.new out.new K.Keeper keeper.new)) }
+    ensures met { OnErr result (Stopped event (step_state server.old out.old K.Keeper keeper.old)
+        out.new (keeper_seen K.Keeper keeper.new)) }
 {
     let done = server.step(alloc, &event, keeper, out, steps);
     drop(event);
@@ -178,9 +183,8 @@ pub fn drive<N: Link, K: Keeper, L: Ledger>(
     out: &mut List<Offer>,
     steps: &mut Steps<L>,
 ) -> Result<bool, DriveFault>
-    ensures driven { Driven (N.ear link.old) (N.ear link.new) (N.giving link.old) (N.giving link.new)
-        (K.held keeper.old) (K.held keeper.new) (K.calls keeper.old) (K.calls keeper.new) (K.faults keeper.old) (K.faults keeper.new)
-        turns server.old out.old server.new out.new result }
+    ensures driven { Driven turns (serving_state N.Link link.old K.Keeper keeper.old server.old)
+        (serving_state N.Link link.new K.Keeper keeper.new server.new) out.old out.new result }
     ensures given { N.given link.new ≡ N.given link.old }
     ensures giving { StandsOrRose (N.giving link.old) (N.giving link.new) }
     ensures calls { CalledWithin (N.calls link.old) (N.calls link.new) (turns * calls_a_turn) }

@@ -4,10 +4,12 @@ mod calls;
 mod deadlines;
 mod deeds;
 mod messages;
+mod replacing;
 mod requests;
 mod rooms;
 mod rows;
 mod steps;
+mod visitors;
 
 use mmtel_b2bua::Calls;
 use mmtel_charging::Row;
@@ -18,6 +20,16 @@ use mmtel_scan::List;
 use mmtel_server_decisions::Alarms;
 use mmtel_transaction::{Tokens, Transactions};
 use mmtel_types::Moment;
+use std::alloc::Global;
+
+/// What each deed of a step reads beside the server.
+#[derive(Clone, Copy)]
+struct Context {
+    /// The allocator.
+    alloc: Global,
+    /// The moment at which it is done.
+    at: Moment,
+}
 
 /// A server, which stands for what was done in its run. It must be spent, by `Server::give_up`.
 pub struct Server {

@@ -34,21 +34,32 @@ pub struct Served {
     pub rows: List<Row>,
 }
 
-/// Keeps a record and puts it in force: room is made first, then the keeper stores it, and only then, without memory, it is put in force.
-fn keep<K: Keeper>(
-    alloc: Global,
-    records: &mut Records,
-    keeper: &mut K,
+/// A record that is uploaded.
+#[derive(Drop)]
+struct Upload {
+    /// The account whose record it is.
     account: Account,
+    /// The record.
     sheet: Sheet,
+    /// Its text.
     text: Text,
-) -> Outcome
-    requires its { sheet ≡ kept_sheet text }
-    ensures texts { records.new.texts.texts ≡ put_kept (kept_upload (kept_in result) (Some (account, text))) records.old.texts.texts }
+}
+
+/// Keeps a record and puts it in force: room is made first, then the keeper stores it, and only then, without memory, it is put in force.
+fn keep<K: Keeper>(alloc: Global, records: &mut Records, keeper: &mut K, upload: Upload) -> Outcome
+    requires its { upload.sheet ≡ kept_sheet upload.text }
+    ensures texts { records.new.texts.texts
+        ≡ put_kept (kept_upload (kept_in result) (Some (upload.account, upload.text))) records.old.texts.texts }
     ensures registered { (registrations : Registrations) → IsRegisteredBy records.old registrations → IsRegisteredBy records.new registrations }
-    ensures stored { Stored account text (kept_in result) (K.held keeper.old) (K.held keeper.new) (K.calls keeper.old) (K.calls keeper.new) }
+    ensures stored { Stored upload.account upload.text (kept_in result) (K.held keeper.old) (K.held keeper.new) (K.calls keeper.old)
+        (K.calls keeper.new) }
     ensures counted { Counted (kept_in result) (K.faults keeper.old) (K.faults keeper.new) }
 {
+    let Upload {
+        account,
+        sheet,
+        text,
+    } = upload;
     let sheet = match records.make_room(alloc, account, sheet) {
         Ok(sheet) => sheet,
         Err(NoMemory) => return Outcome::NoMemory,
@@ -77,18 +88,18 @@ fn serve_upload<K: Keeper>(
     alloc: Global,
     records: &mut Records,
     keeper: &mut K,
-    account: Account,
-    sheet: Sheet,
-    text: Text,
+    upload: Upload,
     said: Text,
     sorry: Text,
 ) -> Served
-    requires its { sheet ≡ kept_sheet text }
+    requires its { upload.sheet ≡ kept_sheet upload.text }
     requires sorry { sorry ≡ reply_of 507 [] }
     ensures reply { result.reply ≡ answers.after_call (kept_in result.kept) said }
-    ensures texts { records.new.texts.texts ≡ put_kept (kept_upload (kept_in result.kept) (Some (account, text))) records.old.texts.texts }
+    ensures texts { records.new.texts.texts
+        ≡ put_kept (kept_upload (kept_in result.kept) (Some (upload.account, upload.text))) records.old.texts.texts }
     ensures registered { (registrations : Registrations) → IsRegisteredBy records.old registrations → IsRegisteredBy records.new registrations }
-    ensures stored { Stored account text (kept_in result.kept) (K.held keeper.old) (K.held keeper.new) (K.calls keeper.old) (K.calls keeper.new) }
+    ensures stored { Stored upload.account upload.text (kept_in result.kept) (K.held keeper.old) (K.held keeper.new) (K.calls keeper.old)
+        (K.calls keeper.new) }
     ensures counted { Counted (kept_in result.kept) (K.faults keeper.old) (K.faults keeper.new) }
 {
     let failed = match reply(alloc, 503, &[]) {
@@ -100,7 +111,7 @@ fn serve_upload<K: Keeper>(
         failed,
         no_memory: sorry,
     };
-    let kept = keep(alloc, records, keeper, account, sheet, text);
+    let kept = keep(alloc, records, keeper, upload);
     Served {
         reply: replies.after_call(kept),
         kept,
@@ -183,7 +194,14 @@ fn serve_web<K: Keeper>(
             sheet,
             text,
             reply,
-        } => serve_upload(alloc, records, keeper, account, sheet, text, reply, sorry),
+        } => {
+            let upload = Upload {
+                account,
+                sheet,
+                text,
+            };
+            serve_upload(alloc, records, keeper, upload, reply, sorry)
+        }
         Web::Charges => serve_charges(alloc, keeper, sorry),
     }
 }

@@ -13,8 +13,8 @@ ghost use Rattle.mmtel_server.specs.Calling.{Names};
 ghost use Rattle.mmtel_server.specs.Follows.{Breaks, CallEnds, CallsHear, Follows};
 ghost use Rattle.mmtel_server.specs.Stands.{Stands};
 
-use super::Server;
 use super::rows::take_rows_of_calls;
+use super::{Context, Server};
 use crate::laws::numbers_are_drawn_on;
 use mmtel_answers::Hearing;
 use mmtel_b2bua::{CallFault, Signal};
@@ -27,7 +27,7 @@ use mmtel_scan::{List, NoMemory, Text};
 use mmtel_server_decisions::is_answer_of_calls;
 use mmtel_timers::Steps;
 use mmtel_transaction::{Emits, TKey};
-use mmtel_types::{CallNo, Moment};
+use mmtel_types::CallNo;
 use std::alloc::Global;
 use std::sync::ledger::Ledger;
 
@@ -43,23 +43,23 @@ fn bytes_of(text: &Option<Text>) -> Option<&[u8]>
 
 impl Server {
     /// What the calls bring forth on a signal that opens none too many, with what is in force and the tokens; their rows are taken from them.
-    fn tell_calls(&mut self, alloc: Global, signal: Signal, at: Moment) -> Result<Emits, NoMemory>
+    fn tell_calls(&mut self, context: &Context, signal: Signal) -> Result<Emits, NoMemory>
         requires { is_full signal self.old.calls.table.entries ≡ false }
-        ensures { IfOk result (λ emits. CallsHear self.old self.new at signal emits) }
+        ensures { IfOk result (λ emits. CallsHear self.old self.new context.now.at signal emits) }
     {
         records_are_those_kept();
         numbers_are_drawn_on();
         match self.calls.signal(
-            alloc,
+            context.alloc,
             signal,
             self.records.view(),
             &self.directory.peers,
             &self.directory.names.accounts,
             &mut self.tokens,
-            at,
+            context.at,
         ) {
             Ok(emits) => {
-                take_rows_of_calls(alloc, &mut self.calls, &mut self.waiting)?;
+                take_rows_of_calls(context.alloc, &mut self.calls, &mut self.waiting)?;
                 Ok(emits)
             }
             Err(CallFault::Full(_)) => unreachable!(),
@@ -74,19 +74,20 @@ impl Server {
     /// Want of memory alone; a front of what is to be offered is then offered.
     fn bring<L: Ledger>(
         &mut self,
-        alloc: Global,
+        context: &Context,
         signal: Signal,
-        at: Moment,
         out: &mut List<Offer>,
         steps: &mut Steps<L>,
     ) -> Result<(), NoMemory>
         requires { is_full signal self.old.calls.table.entries ≡ false }
-        ensures done { OnOk result (Follows self.old out.old self.new out.new (λ d token. signalled d token at signal)) }
-        ensures err { OnErr result (Breaks self.old out.old out.new (λ d token. signalled d token at signal)) }
+        ensures done { OnOk result (Follows self.old out.old self.new out.new
+            (λ d token. signalled d token context.now.at signal)) }
+        ensures err { OnErr result (Breaks self.old out.old out.new
+            (λ d token. signalled d token context.now.at signal)) }
     {
         numbers_are_drawn_on();
-        let emits = self.tell_calls(alloc, signal, at)?;
-        let done = self.emit_all(alloc, emits.items(), at, out, steps);
+        let emits = self.tell_calls(context, signal)?;
+        let done = self.emit_all(context, emits.items(), out, steps);
         drop(emits);
         done
     }
@@ -98,17 +99,18 @@ impl Server {
     /// Want of memory alone; a front of what is to be offered is then offered.
     pub(super) fn signal<L: Ledger>(
         &mut self,
-        alloc: Global,
+        context: &Context,
         signal: Signal,
-        at: Moment,
         out: &mut List<Offer>,
         steps: &mut Steps<L>,
     ) -> Result<(), NoMemory>
         requires { is_opening signal ≡ false }
-        ensures done { OnOk result (Follows self.old out.old self.new out.new (λ d token. signalled d token at signal)) }
-        ensures err { OnErr result (Breaks self.old out.old out.new (λ d token. signalled d token at signal)) }
+        ensures done { OnOk result (Follows self.old out.old self.new out.new
+            (λ d token. signalled d token context.now.at signal)) }
+        ensures err { OnErr result (Breaks self.old out.old out.new
+            (λ d token. signalled d token context.now.at signal)) }
     {
-        self.bring(alloc, signal, at, out, steps)
+        self.bring(context, signal, out, steps)
     }
 
     /// Opens a call, where fewer live than may.
@@ -118,37 +120,38 @@ impl Server {
     /// Want of memory alone; a front of what is to be offered is then offered.
     pub(super) fn open<L: Ledger>(
         &mut self,
-        alloc: Global,
+        context: &Context,
         key: TKey,
         invite: Hearing,
-        at: Moment,
         out: &mut List<Offer>,
         steps: &mut Steps<L>,
     ) -> Result<(), NoMemory>
         requires { are_full self.old.calls.table.entries ≡ false }
-        ensures done { OnOk result (Follows self.old out.old self.new out.new (λ d token. signalled d token at (arrived d.names.accounts key invite))) }
-        ensures err { OnErr result (Breaks self.old out.old out.new (λ d token. signalled d token at (arrived d.names.accounts key invite))) }
+        ensures done { OnOk result (Follows self.old out.old self.new out.new
+            (λ d token. signalled d token context.now.at (arrived d.names.accounts key invite))) }
+        ensures err { OnErr result (Breaks self.old out.old out.new
+            (λ d token. signalled d token context.now.at (arrived d.names.accounts key invite))) }
     {
         numbers_are_drawn_on();
-        let signal = arrived(alloc, &self.directory.names.accounts, key, invite)?;
-        self.bring(alloc, signal, at, out, steps)
+        let signal = arrived(context.alloc, &self.directory.names.accounts, key, invite)?;
+        self.bring(context, signal, out, steps)
     }
 
     /// What the calls bring forth where one of them, whose leg is away, ends; their rows are taken from them.
-    fn end_call(&mut self, alloc: Global, call: CallNo, at: Moment) -> Result<Emits, NoMemory>
+    fn end_call(&mut self, context: &Context, call: CallNo) -> Result<Emits, NoMemory>
         requires { is_away (entry_of call.0 self.old.calls.table.entries) ≡ true }
-        ensures { IfOk result (λ emits. CallEnds self.old self.new at call emits) }
+        ensures { IfOk result (λ emits. CallEnds self.old self.new context.now.at call emits) }
     {
         numbers_are_drawn_on();
         let emits = self.calls.finish(
-            alloc,
+            context.alloc,
             call,
             &self.directory.peers,
             &self.directory.names.accounts,
             &mut self.tokens,
-            at,
+            context.at,
         )?;
-        take_rows_of_calls(alloc, &mut self.calls, &mut self.waiting)?;
+        take_rows_of_calls(context.alloc, &mut self.calls, &mut self.waiting)?;
         Ok(emits)
     }
 
@@ -159,19 +162,20 @@ impl Server {
     /// Want of memory alone; a front of what is to be offered is then offered.
     pub(super) fn finish<L: Ledger>(
         &mut self,
-        alloc: Global,
+        context: &Context,
         call: CallNo,
-        at: Moment,
         out: &mut List<Offer>,
         steps: &mut Steps<L>,
     ) -> Result<(), NoMemory>
         requires { is_away (entry_of call.0 self.old.calls.table.entries) ≡ true }
-        ensures done { OnOk result (Follows self.old out.old self.new out.new (λ d token. finishing d token at call)) }
-        ensures err { OnErr result (Breaks self.old out.old out.new (λ d token. finishing d token at call)) }
+        ensures done { OnOk result (Follows self.old out.old self.new out.new
+            (λ d token. finishing d token context.now.at call)) }
+        ensures err { OnErr result (Breaks self.old out.old out.new
+            (λ d token. finishing d token context.now.at call)) }
     {
         numbers_are_drawn_on();
-        let emits = self.end_call(alloc, call, at)?;
-        let done = self.emit_all(alloc, emits.items(), at, out, steps);
+        let emits = self.end_call(context, call)?;
+        let done = self.emit_all(context, emits.items(), out, steps);
         drop(emits);
         done
     }
@@ -213,22 +217,23 @@ impl Server {
     /// Whoever has the dialog of an ACK of a 2xx hears it.
     fn hear_ack_of<L: Ledger>(
         &mut self,
-        alloc: Global,
+        context: &Context,
         holder: Holder,
         ack: Hearing,
-        at: Moment,
         out: &mut List<Offer>,
         steps: &mut Steps<L>,
     ) -> Result<(), NoMemory>
-        ensures done { OnOk result (Follows self.old out.old self.new out.new (λ d token. acknowledging_by d token at ack (Some (holder_in holder)))) }
-        ensures err { OnErr result (Breaks self.old out.old out.new (λ d token. acknowledging_by d token at ack (Some (holder_in holder)))) }
+        ensures done { OnOk result (Follows self.old out.old self.new out.new
+            (λ d token. acknowledging_by d token context.now.at ack (Some (holder_in holder)))) }
+        ensures err { OnErr result (Breaks self.old out.old out.new
+            (λ d token. acknowledging_by d token context.now.at ack (Some (holder_in holder)))) }
     {
         match holder {
             Holder::InCall { call, side } => {
-                self.signal(alloc, Signal::Ack { call, side, ack }, at, out, steps)
+                self.signal(context, Signal::Ack { call, side, ack }, out, steps)
             }
             Holder::InRoom { room, seat } => {
-                self.seat_signal(alloc, RoomSignal::Ack { room, seat, ack }, at, out, steps)
+                self.seat_signal(context, RoomSignal::Ack { room, seat, ack }, out, steps)
             }
         }
     }
@@ -236,18 +241,19 @@ impl Server {
     /// Does what is due of an ACK of a 2xx: it is of the dialog that it names (RFC 3261 §13.2.2.4).
     pub(super) fn hear_ack<L: Ledger>(
         &mut self,
-        alloc: Global,
+        context: &Context,
         ack: Hearing,
-        at: Moment,
         out: &mut List<Offer>,
         steps: &mut Steps<L>,
     ) -> Result<(), NoMemory>
-        ensures done { OnOk result (Follows self.old out.old self.new out.new (λ d token. acknowledging d token at ack)) }
-        ensures err { OnErr result (Breaks self.old out.old out.new (λ d token. acknowledging d token at ack)) }
+        ensures done { OnOk result (Follows self.old out.old self.new out.new
+            (λ d token. acknowledging d token context.now.at ack)) }
+        ensures err { OnErr result (Breaks self.old out.old out.new
+            (λ d token. acknowledging d token context.now.at ack)) }
     {
         numbers_are_drawn_on();
-        match self.named(alloc, &ack) {
-            Ok(Some(holder)) => self.hear_ack_of(alloc, holder, ack, at, out, steps),
+        match self.named(context.alloc, &ack) {
+            Ok(Some(holder)) => self.hear_ack_of(context, holder, ack, out, steps),
             Ok(None) => {
                 drop(ack);
                 Ok(())
@@ -262,18 +268,19 @@ impl Server {
     /// Does what is due of a response: it is of the calls where an INVITE of one has the branch that it answers, and else of the rooms (RFC 3261 §17.1.3).
     pub(super) fn hear_answer<L: Ledger>(
         &mut self,
-        alloc: Global,
+        context: &Context,
         key: TKey,
         response: Hearing,
-        at: Moment,
         out: &mut List<Offer>,
         steps: &mut Steps<L>,
     ) -> Result<(), NoMemory>
-        ensures done { OnOk result (Follows self.old out.old self.new out.new (λ d token. responding d token at key response)) }
-        ensures err { OnErr result (Breaks self.old out.old out.new (λ d token. responding d token at key response)) }
+        ensures done { OnOk result (Follows self.old out.old self.new out.new
+            (λ d token. responding d token context.now.at key response)) }
+        ensures err { OnErr result (Breaks self.old out.old out.new
+            (λ d token. responding d token context.now.at key response)) }
     {
         numbers_are_drawn_on();
-        let branch = match invite_answered(alloc, &response) {
+        let branch = match invite_answered(context.alloc, &response) {
             Ok(branch) => branch,
             Err(error) => {
                 drop(response);
@@ -283,55 +290,57 @@ impl Server {
         let is_of_calls = is_answer_of_calls(&self.calls, bytes_of(&branch));
         drop(branch);
         if is_of_calls {
-            self.signal(alloc, Signal::Answer { key, response }, at, out, steps)
+            self.signal(context, Signal::Answer { key, response }, out, steps)
         } else {
-            self.seat_signal(alloc, RoomSignal::Answer { key, response }, at, out, steps)
+            self.seat_signal(context, RoomSignal::Answer { key, response }, out, steps)
         }
     }
 
     /// Does what is due of a CANCEL, by the live INVITE transaction that it is of, if there is one (RFC 3261 §9.2).
     pub(super) fn hear_cancel<L: Ledger>(
         &mut self,
-        alloc: Global,
+        context: &Context,
         key: TKey,
         invite: Option<TKey>,
         cancel: Hearing,
-        at: Moment,
         out: &mut List<Offer>,
         steps: &mut Steps<L>,
     ) -> Result<(), NoMemory>
-        ensures done { OnOk result (Follows self.old out.old self.new out.new (λ d token. cancelling d token at key cancel invite)) }
-        ensures err { OnErr result (Breaks self.old out.old out.new (λ d token. cancelling d token at key cancel invite)) }
+        ensures done { OnOk result (Follows self.old out.old self.new out.new
+            (λ d token. cancelling d token context.now.at key cancel invite)) }
+        ensures err { OnErr result (Breaks self.old out.old out.new
+            (λ d token. cancelling d token context.now.at key cancel invite)) }
     {
         numbers_are_drawn_on();
         match invite {
             None => {
-                let done = self.replying(alloc, key, &cancel, &plainly(481), at, out, steps);
+                let done = self.replying(context, key, &cancel, &plainly(481), out, steps);
                 drop(cancel);
                 done
             }
-            Some(invite) => self.cancel_invite(alloc, key, invite, cancel, at, out, steps),
+            Some(invite) => self.cancel_invite(context, key, invite, cancel, out, steps),
         }
     }
 
     /// Does what is due of a CANCEL of this INVITE transaction: it is of the call whose INVITE that is, or is answered alone.
     fn cancel_invite<L: Ledger>(
         &mut self,
-        alloc: Global,
+        context: &Context,
         key: TKey,
         invite: TKey,
         cancel: Hearing,
-        at: Moment,
         out: &mut List<Offer>,
         steps: &mut Steps<L>,
     ) -> Result<(), NoMemory>
-        ensures done { OnOk result (Follows self.old out.old self.new out.new (λ d token. cancelling d token at key cancel (Some invite))) }
-        ensures err { OnErr result (Breaks self.old out.old out.new (λ d token. cancelling d token at key cancel (Some invite))) }
+        ensures done { OnOk result (Follows self.old out.old self.new out.new
+            (λ d token. cancelling d token context.now.at key cancel (Some invite))) }
+        ensures err { OnErr result (Breaks self.old out.old out.new
+            (λ d token. cancelling d token context.now.at key cancel (Some invite))) }
     {
         numbers_are_drawn_on();
         match self.calls.asked_by(invite) {
             None => {
-                let done = self.replying(alloc, key, &cancel, &plainly(200), at, out, steps);
+                let done = self.replying(context, key, &cancel, &plainly(200), out, steps);
                 drop(cancel);
                 done
             }
@@ -342,7 +351,7 @@ impl Server {
                     cancel,
                     invite,
                 };
-                self.signal(alloc, signal, at, out, steps)
+                self.signal(context, signal, out, steps)
             }
         }
     }

@@ -14,8 +14,8 @@ ghost use Rattle.mmtel_transaction.specs.Answers.{next_due};
 ghost use Rattle.mmtel_transaction.specs.Calls.{Done, live};
 ghost use Rattle.mmtel_transaction.specs.Stands as table;
 
-use super::Server;
 use super::deeds::offer_to;
+use super::{Context, Server};
 use crate::laws::numbers_are_drawn_on;
 use mmtel_b2bua::Signal;
 use mmtel_desk::invite_silent;
@@ -46,46 +46,50 @@ impl Server {
     /// A request was given up: the calls hear of an INVITE of theirs, and the rooms of all others.
     fn silence<L: Ledger>(
         &mut self,
-        alloc: Global,
+        context: &Context,
         branch: Text,
         method: Text,
-        at: Moment,
         out: &mut List<Offer>,
         steps: &mut Steps<L>,
     ) -> Result<(), NoMemory>
         ensures done { OnOk result (Follows self.old out.old self.new out.new
-            (λ d token world. silenced d token at branch method (is_of_calls (invite_silent branch method) (calls_in d world).entries) world)) }
+            (λ d token world. silenced d token context.now.at branch method (is_of_calls
+            (invite_silent branch method) (calls_in d world).entries) world)) }
         ensures err { OnErr result (Breaks self.old out.old out.new
-            (λ d token world. silenced d token at branch method (is_of_calls (invite_silent branch method) (calls_in d world).entries) world)) }
+            (λ d token world. silenced d token context.now.at branch method (is_of_calls
+            (invite_silent branch method) (calls_in d world).entries) world)) }
     {
         let is_of_calls = is_answer_of_calls(
             &self.calls,
             invite_silent(branch.bytes(), method.bytes()),
         );
         if is_of_calls {
-            self.signal(alloc, Signal::Silent { branch, method }, at, out, steps)
+            self.signal(context, Signal::Silent { branch, method }, out, steps)
         } else {
-            self.seat_signal(alloc, RoomSignal::Silent { branch, method }, at, out, steps)
+            self.seat_signal(context, RoomSignal::Silent { branch, method }, out, steps)
         }
     }
 
     /// The client transaction of a request that was answered has ended: the calls hear of an INVITE of theirs, and the rooms of all others.
     fn end_transaction<L: Ledger>(
         &mut self,
-        alloc: Global,
+        context: &Context,
         key: TKey,
-        at: Moment,
         out: &mut List<Offer>,
         steps: &mut Steps<L>,
     ) -> Result<(), NoMemory>
-        ensures done { OnOk result (Follows self.old out.old self.new out.new (λ d token world. ended_of d token at key (is_key_of_calls key (calls_in d world).entries) world)) }
-        ensures err { OnErr result (Breaks self.old out.old out.new (λ d token world. ended_of d token at key (is_key_of_calls key (calls_in d world).entries) world)) }
+        ensures done { OnOk result (Follows self.old out.old self.new out.new
+            (λ d token world. ended_of d token context.now.at key (is_key_of_calls key
+            (calls_in d world).entries) world)) }
+        ensures err { OnErr result (Breaks self.old out.old out.new
+            (λ d token world. ended_of d token context.now.at key (is_key_of_calls key
+            (calls_in d world).entries) world)) }
     {
         let is_of_calls = self.calls.has_heard(key);
         if is_of_calls {
-            self.signal(alloc, Signal::Over { key }, at, out, steps)
+            self.signal(context, Signal::Over { key }, out, steps)
         } else {
-            self.seat_signal(alloc, RoomSignal::Over { key }, at, out, steps)
+            self.seat_signal(context, RoomSignal::Over { key }, out, steps)
         }
     }
 
@@ -102,7 +106,8 @@ impl Server {
         out: &mut List<Offer>,
         steps: &mut Steps<L>,
     ) -> Result<(), NoMemory>
-        ensures done { OnOk result (IsBy now due → Follows self.old out.old self.new out.new (λ d token. rung d token due)) }
+        ensures done { OnOk result (IsBy now due → Follows self.old out.old self.new out.new
+            (λ d token. rung d token due)) }
         ensures err { OnErr result (IsBy now due → Breaks self.old out.old out.new (λ d token. rung d token due)) }
     {
         numbers_are_drawn_on();
@@ -113,8 +118,14 @@ impl Server {
                 branch,
                 method,
                 at,
-            } => self.silence(alloc, branch, method, moment_by(at, now), out, steps),
-            Due::Over(key, at) => self.end_transaction(alloc, key, moment_by(at, now), out, steps),
+            } => {
+                let at = moment_by(at, now);
+                self.silence(&Context { alloc, at }, branch, method, out, steps)
+            }
+            Due::Over(key, at) => {
+                let at = moment_by(at, now);
+                self.end_transaction(&Context { alloc, at }, key, out, steps)
+            }
             Due::Nothing => Ok(()),
         }
     }
@@ -138,25 +149,25 @@ impl Server {
     /// A deadline of a call or of a seat comes.
     fn sound<L: Ledger>(
         &mut self,
-        alloc: Global,
+        context: &Context,
         alarm: Alarm,
-        at: Moment,
         out: &mut List<Offer>,
         steps: &mut Steps<L>,
     ) -> Result<(), NoMemory>
-        ensures done { OnOk result (Follows self.old out.old self.new out.new (λ d token. alarmed d token at (alarm_in alarm))) }
-        ensures err { OnErr result (Breaks self.old out.old out.new (λ d token. alarmed d token at (alarm_in alarm))) }
+        ensures done { OnOk result (Follows self.old out.old self.new out.new
+            (λ d token. alarmed d token context.now.at (alarm_in alarm))) }
+        ensures err { OnErr result (Breaks self.old out.old out.new
+            (λ d token. alarmed d token context.now.at (alarm_in alarm))) }
     {
         match alarm {
             Alarm::OfCall { call, what } => self.signal(
-                alloc,
+                context,
                 Signal::Due { call, what },
-                at,
                 out,
                 steps,
             ),
             Alarm::OfSeat { room, seat, what } => {
-                self.seat_signal(alloc, RoomSignal::Due { room, seat, what }, at, out, steps)
+                self.seat_signal(context, RoomSignal::Due { room, seat, what }, out, steps)
             }
         }
     }
@@ -176,7 +187,10 @@ impl Server {
     {
         match self.armed.take(now.ms(), steps) {
             None => Ok(()),
-            Some(armed) => self.sound(alloc, armed.alarm, moment_by(armed.at, now), out, steps),
+            Some(armed) => {
+                let at = moment_by(armed.at, now);
+                self.sound(&Context { alloc, at }, armed.alarm, out, steps)
+            }
         }
     }
 
@@ -193,9 +207,11 @@ impl Server {
         out: &mut List<Offer>,
         steps: &mut Steps<L>,
     ) -> Result<(), NoMemory>
-        ensures done { OnOk result ((first : deadlines.Deadline) → kind_of first ≡ deadline → IsChosen (first_armed now (queue_of self.old.armed)) first →
+        ensures done { OnOk result ((first : deadlines.Deadline) → kind_of first ≡ deadline →
+            IsChosen (first_armed now (queue_of self.old.armed)) first →
             Follows self.old out.old self.new out.new (λ d token. fired d token now first)) }
-        ensures err { OnErr result ((first : deadlines.Deadline) → kind_of first ≡ deadline → IsChosen (first_armed now (queue_of self.old.armed)) first →
+        ensures err { OnErr result ((first : deadlines.Deadline) → kind_of first ≡ deadline →
+            IsChosen (first_armed now (queue_of self.old.armed)) first →
             Breaks self.old out.old out.new (λ d token. fired d token now first)) }
     {
         numbers_are_drawn_on();
@@ -229,8 +245,10 @@ impl Server {
         out: &mut List<Offer>,
         steps: &mut Steps<L>,
     ) -> Result<(), NoMemory>
-        ensures done { OnOk result ((fuel : ℕ) → FollowsTo self.old out.old self.new out.new (IsSettledBy fuel now) (λ d token. settled d token fuel now)) }
-        ensures err { OnErr result ((fuel : ℕ) → BreaksTo self.old out.old out.new (IsSettledBy fuel now) (λ d token. settled d token fuel now)) }
+        ensures done { OnOk result ((fuel : ℕ) → FollowsTo self.old out.old self.new out.new (IsSettledBy fuel now)
+            (λ d token. settled d token fuel now)) }
+        ensures err { OnErr result ((fuel : ℕ) → BreaksTo self.old out.old out.new (IsSettledBy fuel now)
+            (λ d token. settled d token fuel now)) }
     {
         numbers_are_drawn_on();
         for i in 0..FIRINGS {

@@ -8,7 +8,7 @@ ghost use Rattle.mmtel_transaction.specs.declared.words.Emit.TheVariants as emit
 ghost use Rattle.mmtel_server_decisions.specs.Arming.{alarm_in};
 ghost use Rattle.mmtel_server.specs.Follows.{Breaks, Follows};
 
-use crate::servers::Server;
+use crate::servers::{Context, Server};
 use mmtel_intake::is_untagged;
 use mmtel_message::Msg;
 use mmtel_outside::Offer;
@@ -17,7 +17,7 @@ use mmtel_server_decisions::{Alarm, Armed};
 use mmtel_timers::Steps;
 use mmtel_transaction::laws::numbers_are_distinct;
 use mmtel_transaction::{Emit, TKey, Tokens};
-use mmtel_types::{Moment, Peer};
+use mmtel_types::Peer;
 use std::alloc::Global;
 use std::sync::ledger::Ledger;
 
@@ -55,8 +55,10 @@ fn offer_to_peer(
 
 /// Draws the tag of a response to a message whose To has none (RFC 3261 §8.2.6.2); no bytes where it has one.
 pub(super) fn drawn_tag(alloc: Global, tokens: &mut Tokens, message: &Msg) -> Result<Text, NoMemory>
-    ensures tag { tokens.old.drawn < 2 ^ 60 → IfOk result (λ tag. tag ≡ tag_for tokens.old.token tokens.old.drawn (to_tag_in message.now.lines)) }
-    ensures drawn { tokens.old.drawn < 2 ^ 60 → OnOk result (tokens.new ≡ record { token = tokens.old.token; drawn = tokens.old.drawn + tags_due (to_tag_in message.now.lines) }) }
+    ensures tag { tokens.old.drawn < 2 ^ 60 →
+        IfOk result (λ tag. tag ≡ tag_for tokens.old.token tokens.old.drawn (to_tag_in message.now.lines)) }
+    ensures drawn { tokens.old.drawn < 2 ^ 60 → OnOk result (tokens.new
+        ≡ record { token = tokens.old.token; drawn = tokens.old.drawn + tags_due (to_tag_in message.now.lines) }) }
 {
     if is_untagged(alloc, message)? {
         tokens.draw(alloc)
@@ -70,78 +72,80 @@ impl Server {
     /// Sends a request in a client transaction of its own.
     pub(super) fn ask<L: Ledger>(
         &mut self,
-        alloc: Global,
+        context: &Context,
         peer: Peer,
         message: &Msg,
-        at: Moment,
         out: &mut List<Offer>,
         steps: &mut Steps<L>,
     ) -> Result<(), NoMemory>
-        ensures done { OnOk result (Follows self.old out.old self.new out.new (λ d token. emit_one at (emit.Ask peer message.now))) }
+        ensures done { OnOk result (Follows self.old out.old self.new out.new
+            (λ d token. emit_one context.now.at (emit.Ask peer message.now))) }
         ensures err { OnErr result (out.new ≡ out.old) }
         ensures calls { self.new.calls ≡ self.old.calls }
     {
         numbers_are_distinct();
-        let text = message.text(alloc)?;
-        self.transactions.ask(alloc, peer, message, at, steps)?;
-        offer_to(alloc, peer, at.ms(), text, out)
+        let text = message.text(context.alloc)?;
+        self.transactions
+            .ask(context.alloc, peer, message, context.at, steps)?;
+        offer_to(context.alloc, peer, context.at.ms(), text, out)
     }
 
     /// Answers a server transaction.
     pub(super) fn reply<L: Ledger>(
         &mut self,
-        alloc: Global,
+        context: &Context,
         key: TKey,
         message: &Msg,
-        at: Moment,
         out: &mut List<Offer>,
         steps: &mut Steps<L>,
     ) -> Result<(), NoMemory>
-        ensures done { OnOk result (Follows self.old out.old self.new out.new (λ d token. emit_one at (emit.Reply key message.now))) }
+        ensures done { OnOk result (Follows self.old out.old self.new out.new
+            (λ d token. emit_one context.now.at (emit.Reply key message.now))) }
         ensures err { OnErr result (out.new ≡ out.old) }
         ensures calls { self.new.calls ≡ self.old.calls }
     {
-        let text = message.text(alloc)?;
+        let text = message.text(context.alloc)?;
         let peer = self.transactions.peer(key, steps);
-        self.transactions.reply(alloc, key, message, at, steps)?;
-        offer_to_peer(alloc, peer, at.ms(), text, out)
+        self.transactions
+            .reply(context.alloc, key, message, context.at, steps)?;
+        offer_to_peer(context.alloc, peer, context.at.ms(), text, out)
     }
 
     /// Acknowledges the non-2xx final that a client transaction heard.
     pub(super) fn acknowledge<L: Ledger>(
         &mut self,
-        alloc: Global,
+        context: &Context,
         key: TKey,
         message: &Msg,
-        at: Moment,
         out: &mut List<Offer>,
         steps: &mut Steps<L>,
     ) -> Result<(), NoMemory>
-        ensures done { OnOk result (Follows self.old out.old self.new out.new (λ d token. emit_one at (emit.Ack key message.now))) }
+        ensures done { OnOk result (Follows self.old out.old self.new out.new
+            (λ d token. emit_one context.now.at (emit.Ack key message.now))) }
         ensures err { OnErr result (out.new ≡ out.old) }
         ensures calls { self.new.calls ≡ self.old.calls }
     {
-        let text = message.text(alloc)?;
+        let text = message.text(context.alloc)?;
         let peer = self.transactions.peer(key, steps);
-        self.transactions.ack(alloc, key, message, steps)?;
-        offer_to_peer(alloc, peer, at.ms(), text, out)
+        self.transactions.ack(context.alloc, key, message, steps)?;
+        offer_to_peer(context.alloc, peer, context.at.ms(), text, out)
     }
 
     /// Sends a text without a transaction.
     pub(super) fn send(
         &mut self,
-        alloc: Global,
+        context: &Context,
         peer: Peer,
         text: &[u8],
-        at: Moment,
         out: &mut List<Offer>,
     ) -> Result<(), NoMemory>
-        ensures done { OnOk result (Follows self.old out.old self.new out.new (λ d token. emit_one at (emit.Plain peer text.now))) }
+        ensures done { OnOk result (Follows self.old out.old self.new out.new
+            (λ d token. emit_one context.now.at (emit.Plain peer text.now))) }
         ensures err { OnErr result (out.new ≡ out.old) }
         ensures calls { self.new.calls ≡ self.old.calls }
     {
-        let text = Text::of(alloc, text)?;
-        offer_to(alloc, peer, at.ms(), text, out)
+        let text = Text::of(context.alloc, text)?;
+        offer_to(context.alloc, peer, context.at.ms(), text, out)
     }
 
     /// Arms a deadline, in this step.
@@ -152,7 +156,8 @@ impl Server {
         steps: &mut Steps<L>,
     ) -> Result<(), NoMemory>
         ensures done { OnOk result ((out : List Offer) →
-            Follows self.old out self.new out (λ d token world. arming (record { alarm = alarm_in alarm; at = at; step = world.steps - 1 }) world)) }
+            Follows self.old out self.new out
+            (λ d token world. arming (record { alarm = alarm_in alarm; at = at; step = world.steps - 1 }) world)) }
         ensures calls { self.new.calls ≡ self.old.calls }
     {
         let step = self.steps.saturating_sub(1);
@@ -162,21 +167,21 @@ impl Server {
     /// Does what a layer wants done.
     pub(super) fn emit<L: Ledger>(
         &mut self,
-        alloc: Global,
+        context: &Context,
         emit: &Emit,
-        at: Moment,
         out: &mut List<Offer>,
         steps: &mut Steps<L>,
     ) -> Result<(), NoMemory>
-        ensures done { OnOk result (Follows self.old out.old self.new out.new (λ d token. emit_one at emit.now)) }
+        ensures done { OnOk result (Follows self.old out.old self.new out.new
+            (λ d token. emit_one context.now.at emit.now)) }
         ensures err { OnErr result (out.new ≡ out.old) }
         ensures calls { self.new.calls ≡ self.old.calls }
     {
         match emit {
-            Emit::Ask { peer, msg } => self.ask(alloc, *peer, msg, at, out, steps),
-            Emit::Reply { key, msg } => self.reply(alloc, *key, msg, at, out, steps),
-            Emit::Plain { peer, text } => self.send(alloc, *peer, text.bytes(), at, out),
-            Emit::Ack { key, msg } => self.acknowledge(alloc, *key, msg, at, out, steps),
+            Emit::Ask { peer, msg } => self.ask(context, *peer, msg, out, steps),
+            Emit::Reply { key, msg } => self.reply(context, *key, msg, out, steps),
+            Emit::Plain { peer, text } => self.send(context, *peer, text.bytes(), out),
+            Emit::Ack { key, msg } => self.acknowledge(context, *key, msg, out, steps),
             Emit::Arm {
                 call,
                 what,
@@ -207,18 +212,18 @@ impl Server {
     /// Does all that a layer wants done, in order.
     pub(super) fn emit_all<L: Ledger>(
         &mut self,
-        alloc: Global,
+        context: &Context,
         emits: &[Emit],
-        at: Moment,
         out: &mut List<Offer>,
         steps: &mut Steps<L>,
     ) -> Result<(), NoMemory>
-        ensures done { OnOk result (Follows self.old out.old self.new out.new (λ d token. emitted at emits.now)) }
-        ensures err { OnErr result (Breaks self.old out.old out.new (λ d token. emitted at emits.now)) }
+        ensures done { OnOk result (Follows self.old out.old self.new out.new
+            (λ d token. emitted context.now.at emits.now)) }
+        ensures err { OnErr result (Breaks self.old out.old out.new (λ d token. emitted context.now.at emits.now)) }
         ensures calls { self.new.calls ≡ self.old.calls }
     {
         for emit in emits {
-            self.emit(alloc, emit, at, out, steps)?;
+            self.emit(context, emit, out, steps)?;
         }
         Ok(())
     }

@@ -14,8 +14,9 @@ ghost use Rattle.mmtel_sdp.specs.Offers.{offers_audio};
 ghost use Rattle.mmtel_server.specs.Follows.{Breaks, Follows, IsTaken};
 
 use crate::laws::numbers_are_drawn_on;
-use crate::servers::Server;
 use crate::servers::deeds::drawn_tag;
+use crate::servers::rooms::RoomSeat;
+use crate::servers::{Context, Server};
 use mmtel_answers::Hearing;
 use mmtel_b2bua::Signal;
 use mmtel_intake::{Answer, Course, Standing, Told, completed_reply, course, plainly, response_to};
@@ -68,22 +69,28 @@ impl Server {
     /// Answers a request in its transaction, with a tag of the server where To has none (RFC 3261 §8.2.6).
     pub(super) fn replying<L: Ledger>(
         &mut self,
-        alloc: Global,
+        context: &Context,
         key: TKey,
         request: &Hearing,
         answer: &Answer,
-        at: Moment,
         out: &mut List<Offer>,
         steps: &mut Steps<L>,
     ) -> Result<(), NoMemory>
-        ensures done { OnOk result (Follows self.old out.old self.new out.new (λ d token. replying d token at key request.now (answer_in answer.now))) }
+        ensures done { OnOk result (Follows self.old out.old self.new out.new
+            (λ d token. replying d token context.now.at key request.now (answer_in answer.now))) }
         ensures err { OnErr result (out.new ≡ out.old) }
     {
-        let tag = drawn_tag(alloc, &mut self.tokens, &request.message)?;
-        let made = response_to(alloc, self.directory.sip, tag.bytes(), request, answer);
+        let tag = drawn_tag(context.alloc, &mut self.tokens, &request.message)?;
+        let made = response_to(
+            context.alloc,
+            self.directory.sip,
+            tag.bytes(),
+            request,
+            answer,
+        );
         drop(tag);
         let response = made?;
-        let done = self.reply(alloc, key, &response, at, out, steps);
+        let done = self.reply(context, key, &response, out, steps);
         drop(response);
         done
     }
@@ -91,46 +98,52 @@ impl Server {
     /// Answers a request without a transaction, with a tag of the server where To has none (RFC 3261 §8.2.7).
     fn replying_plainly(
         &mut self,
-        alloc: Global,
+        context: &Context,
         request: &Hearing,
         answer: &Answer,
-        at: Moment,
         out: &mut List<Offer>,
     ) -> Result<(), NoMemory>
-        ensures done { OnOk result (Follows self.old out.old self.new out.new (λ d token. replying_plainly d token at request.now (answer_in answer.now))) }
+        ensures done { OnOk result (Follows self.old out.old self.new out.new
+            (λ d token. replying_plainly d token context.now.at request.now (answer_in answer.now))) }
         ensures err { OnErr result (out.new ≡ out.old) }
     {
-        let tag = drawn_tag(alloc, &mut self.tokens, &request.message)?;
-        let made = response_to(alloc, self.directory.sip, tag.bytes(), request, answer);
+        let tag = drawn_tag(context.alloc, &mut self.tokens, &request.message)?;
+        let made = response_to(
+            context.alloc,
+            self.directory.sip,
+            tag.bytes(),
+            request,
+            answer,
+        );
         drop(tag);
         let response = made?;
-        let written = response.text(alloc);
+        let written = response.text(context.alloc);
         drop(response);
         let text = written?;
-        self.send(alloc, request.peer, text.bytes(), at, out)
+        self.send(context, request.peer, text.bytes(), out)
     }
 
     /// Replies to bytes of a peer that were refused as they were read.
     fn refusing(
         &mut self,
-        alloc: Global,
+        context: &Context,
         peer: Peer,
         source: Addr,
         reply: &Msg,
-        at: Moment,
         out: &mut List<Offer>,
     ) -> Result<(), NoMemory>
-        ensures done { OnOk result (Follows self.old out.old self.new out.new (λ d token. refusing token at peer source reply.now)) }
+        ensures done { OnOk result (Follows self.old out.old self.new out.new
+            (λ d token. refusing token context.now.at peer source reply.now)) }
         ensures err { OnErr result (out.new ≡ out.old) }
     {
-        let tag = drawn_tag(alloc, &mut self.tokens, reply)?;
-        let made = completed_reply(alloc, tag.bytes(), source, reply);
+        let tag = drawn_tag(context.alloc, &mut self.tokens, reply)?;
+        let made = completed_reply(context.alloc, tag.bytes(), source, reply);
         drop(tag);
         let response = made?;
-        let written = response.text(alloc);
+        let written = response.text(context.alloc);
         drop(response);
         let text = written?;
-        self.send(alloc, peer, text.bytes(), at, out)
+        self.send(context, peer, text.bytes(), out)
     }
 }
 
@@ -139,42 +152,43 @@ impl Server {
     /// Registers an account for so many seconds, and answers (RFC 3261 §10.3).
     fn register<L: Ledger>(
         &mut self,
-        alloc: Global,
+        context: &Context,
         key: TKey,
         request: &Hearing,
         account: Account,
         seconds: u64,
-        at: Moment,
         out: &mut List<Offer>,
         steps: &mut Steps<L>,
     ) -> Result<(), NoMemory>
-        ensures done { OnOk result (Follows self.old out.old self.new out.new (λ d token. registered d token at key request.now account seconds)) }
+        ensures done { OnOk result (Follows self.old out.old self.new out.new
+            (λ d token. registered d token context.now.at key request.now account seconds)) }
         ensures err { OnErr result (out.new ≡ out.old) }
     {
-        self.records.register(account, until(at, seconds))?;
-        self.replying(alloc, key, request, &plainly(200), at, out, steps)
+        self.records.register(account, until(context.at, seconds))?;
+        self.replying(context, key, request, &plainly(200), out, steps)
     }
 
     /// Does with a request what is decided of it; a call is opened only where fewer live than may, and a room or a seat asked for only by whoever offers audio.
     fn take<L: Ledger>(
         &mut self,
-        alloc: Global,
+        context: &Context,
         key: TKey,
         request: Hearing,
         course: Course,
-        at: Moment,
         out: &mut List<Offer>,
         steps: &mut Steps<L>,
     ) -> Result<(), NoMemory>
         requires below { course_in course ≡ Open → are_full self.old.calls.table.entries ≡ false }
         requires audio { is_for_room (course_in course) ≡ true → offers_audio request.heard.body ≡ true }
-        ensures done { OnOk result (Follows self.old out.old self.new out.new (λ d token. taking d token at key request (course_in course))) }
-        ensures err { OnErr result (Breaks self.old out.old out.new (λ d token. taking d token at key request (course_in course))) }
+        ensures done { OnOk result (Follows self.old out.old self.new out.new
+            (λ d token. taking d token context.now.at key request (course_in course))) }
+        ensures err { OnErr result (Breaks self.old out.old out.new
+            (λ d token. taking d token context.now.at key request (course_in course))) }
     {
         numbers_are_drawn_on();
         match course {
             Course::Refuse(answer) => {
-                let done = self.replying(alloc, key, &request, &answer, at, out, steps);
+                let done = self.replying(context, key, &request, &answer, out, steps);
                 drop(answer);
                 drop(request);
                 done
@@ -186,24 +200,25 @@ impl Server {
                     key,
                     request,
                 };
-                self.signal(alloc, signal, at, out, steps)
+                self.signal(context, signal, out, steps)
             }
             Course::EnterRoom { room, seat } => {
-                self.enter_room(alloc, key, request, room, seat, at, out, steps)
+                let seat = RoomSeat { room, number: seat };
+                self.enter_room(context, key, request, seat, out, steps)
             }
-            Course::Open => self.open(alloc, key, request, at, out, steps),
+            Course::Open => self.open(context, key, request, out, steps),
             Course::OpenRoom => {
-                let done = self.open_room(alloc, key, &request, at, out, steps);
+                let done = self.open_room(context, key, &request, out, steps);
                 drop(request);
                 done
             }
             Course::JoinRoom { room } => {
-                let done = self.join_room(alloc, key, &request, room, at, out, steps);
+                let done = self.join_room(context, key, &request, room, out, steps);
                 drop(request);
                 done
             }
             Course::Register { account, seconds } => {
-                let done = self.register(alloc, key, &request, account, seconds, at, out, steps);
+                let done = self.register(context, key, &request, account, seconds, out, steps);
                 drop(request);
                 done
             }
@@ -213,20 +228,21 @@ impl Server {
     /// Does what is due of a request that opened a transaction.
     fn take_fresh<L: Ledger>(
         &mut self,
-        alloc: Global,
+        context: &Context,
         key: TKey,
         request: Hearing,
-        at: Moment,
         out: &mut List<Offer>,
         steps: &mut Steps<L>,
     ) -> Result<(), NoMemory>
-        ensures done { OnOk result (Follows self.old out.old self.new out.new (λ d token. taking_fresh d token at key request)) }
-        ensures err { OnErr result (Breaks self.old out.old out.new (λ d token. taking_fresh d token at key request)) }
+        ensures done { OnOk result (Follows self.old out.old self.new out.new
+            (λ d token. taking_fresh d token context.now.at key request)) }
+        ensures err { OnErr result (Breaks self.old out.old out.new
+            (λ d token. taking_fresh d token context.now.at key request)) }
     {
         numbers_are_drawn_on();
         let merged = self.transactions.merged(key, steps);
         let full = self.calls.is_full();
-        let named = match self.named(alloc, &request) {
+        let named = match self.named(context.alloc, &request) {
             Ok(named) => named,
             Err(error) => {
                 drop(request);
@@ -238,14 +254,14 @@ impl Server {
             full,
             named,
         };
-        let course = match course(alloc, &self.directory, &standing, &request) {
+        let course = match course(context.alloc, &self.directory, &standing, &request) {
             Ok(course) => course,
             Err(error) => {
                 drop(request);
                 return Err(error);
             }
         };
-        self.take(alloc, key, request, course, at, out, steps)
+        self.take(context, key, request, course, out, steps)
     }
 }
 
@@ -254,67 +270,56 @@ impl Server {
     /// Sends again what a message that is heard again is due.
     fn repeat(
         &mut self,
-        alloc: Global,
+        context: &Context,
         sent: Option<(Peer, Text)>,
-        at: Moment,
         out: &mut List<Offer>,
     ) -> Result<(), NoMemory>
-        ensures done { OnOk result (Follows self.old out.old self.new out.new (λ d token. repeating at sent)) }
+        ensures done { OnOk result (Follows self.old out.old self.new out.new
+            (λ d token. repeating context.now.at sent)) }
         ensures err { OnErr result (out.new ≡ out.old) }
     {
         match sent {
             None => Ok(()),
-            Some((peer, text)) => self.send(alloc, peer, text.bytes(), at, out),
+            Some((peer, text)) => self.send(context, peer, text.bytes(), out),
         }
     }
 
     /// Does what is due of a message of a peer, by what the transactions say of it.
     fn answer<L: Ledger>(
         &mut self,
-        alloc: Global,
-        peer: Peer,
-        source: Addr,
-        trusted: bool,
+        context: &Context,
+        whence: Whence,
         taken: Heard,
-        at: Moment,
         out: &mut List<Offer>,
         steps: &mut Steps<L>,
     ) -> Result<(), NoMemory>
         ensures done { OnOk result ((message : Message Start) → IsTaken message taken →
-            Follows self.old out.old self.new out.new (λ d token. answering d token at (said peer source trusted message) (Some taken))) }
+            Follows self.old out.old self.new out.new
+            (λ d token. answering d token context.now.at (said whence.peer whence.source whence.trusted message)
+            (Some taken))) }
         ensures err { OnErr result ((message : Message Start) → IsTaken message taken →
-            Breaks self.old out.old out.new (λ d token. answering d token at (said peer source trusted message) (Some taken))) }
+            Breaks self.old out.old out.new
+            (λ d token. answering d token context.now.at (said whence.peer whence.source whence.trusted message)
+            (Some taken))) }
     {
         numbers_are_drawn_on();
-        let heard = Whence {
-            peer,
-            source,
-            trusted,
-        };
         match taken {
             Heard::Fresh(key, message) => self.take_fresh(
-                alloc,
+                context,
                 key,
-                heard.hearing(message),
-                at,
+                whence.hearing(message),
                 out,
                 steps,
             ),
             Heard::Answer(key, message) => {
-                self.hear_answer(alloc, key, heard.hearing(message), at, out, steps)
+                self.hear_answer(context, key, whence.hearing(message), out, steps)
             }
-            Heard::Repeat(sent) => self.repeat(alloc, sent, at, out),
+            Heard::Repeat(sent) => self.repeat(context, sent, out),
             Heard::Acked(_) => Ok(()),
             Heard::Cancel(key, invite, message) => {
-                self.hear_cancel(alloc, key, invite, heard.hearing(message), at, out, steps)
+                self.hear_cancel(context, key, invite, whence.hearing(message), out, steps)
             }
-            Heard::AckOf2xx(message) => self.hear_ack(
-                alloc,
-                heard.hearing(message),
-                at,
-                out,
-                steps,
-            ),
+            Heard::AckOf2xx(message) => self.hear_ack(context, whence.hearing(message), out, steps),
             Heard::Stray => Ok(()),
         }
     }
@@ -322,28 +327,28 @@ impl Server {
     /// Answers a message that is one too many (RFC 3261 §21.5.4).
     fn turn_away(
         &mut self,
-        alloc: Global,
+        context: &Context,
         request: &Hearing,
-        at: Moment,
         out: &mut List<Offer>,
     ) -> Result<(), NoMemory>
-        ensures done { OnOk result (Follows self.old out.old self.new out.new (λ d token. answering d token at request.now None)) }
+        ensures done { OnOk result (Follows self.old out.old self.new out.new
+            (λ d token. answering d token context.now.at request.now None)) }
         ensures err { OnErr result (out.new ≡ out.old) }
     {
-        self.replying_plainly(alloc, request, &plainly(503), at, out)
+        self.replying_plainly(context, request, &plainly(503), out)
     }
 
     /// Hears a message of a peer.
     fn hear<L: Ledger>(
         &mut self,
-        alloc: Global,
+        context: &Context,
         heard: Hearing,
-        at: Moment,
         out: &mut List<Offer>,
         steps: &mut Steps<L>,
     ) -> Result<(), NoMemory>
-        ensures done { OnOk result (Follows self.old out.old self.new out.new (λ d token. told d token at heard)) }
-        ensures err { OnErr result (Breaks self.old out.old out.new (λ d token. told d token at heard)) }
+        ensures done { OnOk result (Follows self.old out.old self.new out.new
+            (λ d token. told d token context.now.at heard)) }
+        ensures err { OnErr result (Breaks self.old out.old out.new (λ d token. told d token context.now.at heard)) }
     {
         numbers_are_distinct();
         numbers_are_drawn_on();
@@ -353,16 +358,19 @@ impl Server {
             trusted,
             message,
         } = heard;
-        match self.transactions.hear(alloc, peer, message, at, steps) {
-            Ok(taken) => self.answer(alloc, peer, source, trusted, taken, at, out, steps),
+        let whence = Whence {
+            peer,
+            source,
+            trusted,
+        };
+        match self
+            .transactions
+            .hear(context.alloc, peer, message, context.at, steps)
+        {
+            Ok(taken) => self.answer(context, whence, taken, out, steps),
             Err(HearFault::Full(message)) => {
-                let request = Hearing {
-                    peer,
-                    source,
-                    trusted,
-                    message,
-                };
-                let done = self.turn_away(alloc, &request, at, out);
+                let request = whence.hearing(message);
+                let done = self.turn_away(context, &request, out);
                 drop(request);
                 done
             }
@@ -383,10 +391,12 @@ impl Server {
         out: &mut List<Offer>,
         steps: &mut Steps<L>,
     ) -> Result<(), NoMemory>
-        ensures done { OnOk result (Follows self.old out.old self.new out.new (λ d token. met d token at (digest_in told))) }
+        ensures done { OnOk result (Follows self.old out.old self.new out.new
+            (λ d token. met d token at (digest_in told))) }
         ensures err { OnErr result (Breaks self.old out.old out.new (λ d token. met d token at (digest_in told))) }
     {
         numbers_are_drawn_on();
+        let context = Context { alloc, at };
         match told {
             Told::Nothing => Ok(()),
             Told::Refused {
@@ -394,11 +404,11 @@ impl Server {
                 source,
                 reply,
             } => {
-                let done = self.refusing(alloc, peer, source, &reply, at, out);
+                let done = self.refusing(&context, peer, source, &reply, out);
                 drop(reply);
                 done
             }
-            Told::Heard(heard) => self.hear(alloc, heard, at, out, steps),
+            Told::Heard(heard) => self.hear(&context, heard, out, steps),
         }
     }
 }

@@ -34,9 +34,11 @@ pub(super) fn take_rows_of_calls(
     waiting: &mut List<Row>,
 ) -> Result<(), NoMemory>
     ensures waiting { OnOk result (waiting.new ≡ waiting.old ++ calls.old.table.rows) }
-    ensures done { OnOk result ((peers : Peers) (accounts : List AccountIdentity) (deeds : List Deed) → Stands peers accounts calls.old deeds →
+    ensures done { OnOk result ((peers : Peers) (accounts : List AccountIdentity) (deeds : List Deed) →
+        Stands peers accounts calls.old deeds →
         Stands peers accounts calls.new (Drops (length calls.old.table.rows) ∷ deeds)) }
-    ensures site { OnOk result ((peers : Peers) (accounts : List AccountIdentity) → site_of calls.new peers accounts ≡ site_of calls.old peers accounts) }
+    ensures site { OnOk result ((peers : Peers) (accounts : List AccountIdentity) →
+        site_of calls.new peers accounts ≡ site_of calls.old peers accounts) }
 {
     add_rows(alloc, calls.rows_waiting(), waiting)?;
     let count = calls.rows_waiting().len();

@@ -11,6 +11,7 @@ ghost use Rattle.mmtel_run.specs.Run.{world_after};
 ghost use Rattle.mmtel_run.specs.World.{came, ended, met};
 ghost use Rattle.mmtel_server.specs.Follows.{Breaks, BreaksTo, Follows, FollowsTo, IsReady, going};
 ghost use Rattle.mmtel_server_decisions.specs.Handed.{Handed, HandedCounted, StoppedHanding};
+ghost use Rattle.mmtel_server.specs.Seen.{keeper_seen, step_state};
 ghost use Rattle.mmtel_server.specs.Stands.{Serves, Went};
 ghost use Rattle.mmtel_server.specs.Stepped.{AskedAfter, Came, KeeperWent, Stepped, Stopped, StoppedAt, call_of, happened_in};
 ghost use Rattle.mmtel_serving.specs.Calls.{Answers, Counted, Met};
@@ -82,7 +83,8 @@ fn none_yet(alloc: Global, directory: &Directory) -> Result<(Calls, Rooms), NoMe
           table = no_calls;
           has_failed = false;
         }) }
-    ensures rooms { IfOk result (λ made. made.1 ≡ record { sip = directory.now.sip; mixer = directory.now.mixer; table = no_rooms; has_failed = false }) }
+    ensures rooms { IfOk result (λ made. made.1
+        ≡ record { sip = directory.now.sip; mixer = directory.now.mixer; table = no_rooms; has_failed = false }) }
 {
     let home = directory.home.copied(alloc)?;
     let country = country_copied(alloc, &directory.country)?;
@@ -110,7 +112,8 @@ impl Server {
         loaded: &[(Account, Text)],
     ) -> Result<Server, NoMemory>
         requires { directory.bound ≤ 16 }
-        ensures begins { IfOk result (λ server. (before : List Offer) → Went directory token loaded.now [] before server before) }
+        ensures begins { IfOk result (λ server. (before : List Offer) →
+            Went directory token loaded.now [] before server before) }
         ensures whole { IfOk result (λ server. server.failed ≡ false) }
     {
         let records = match Records::load(alloc, loaded) {
@@ -160,13 +163,14 @@ impl Server {
         out: &mut List<Offer>,
         steps: &mut Steps<L>,
     ) -> Result<(), NoMemory>
-        ensures done { OnOk result (Stepped self.old out.old self.new out.new event.now (K.held keeper.old) (K.held keeper.new) (K.calls keeper.old) (K.calls keeper.new)
-            (K.faults keeper.old) (K.faults keeper.new)) }
-        ensures met { OnErr result (Stopped self.old out.old out.new event.now (K.held keeper.old) (K.held keeper.new) (K.calls keeper.old) (K.calls keeper.new)
-            (K.faults keeper.old) (K.faults keeper.new)) }
+        ensures done { OnOk result (Stepped event.now (step_state self.old out.old K.Keeper keeper.old)
+            (step_state self.new out.new K.Keeper keeper.new)) }
+        ensures met { OnErr result (Stopped event.now (step_state self.old out.old K.Keeper keeper.old)
+            out.new (keeper_seen K.Keeper keeper.new)) }
         ensures fails { OnErr result (self.new.failed ≡ true) }
         ensures keeps { OnOk result (self.new.failed ≡ false) }
-        ensures over { self.old.failed ≡ true → IsErr result × (self.new ≡ self.old) × (out.new ≡ out.old) × (keeper.new ≡ keeper.old) }
+        ensures over { self.old.failed ≡ true →
+            IsErr result × (self.new ≡ self.old) × (out.new ≡ out.old) × (keeper.new ≡ keeper.old) }
     {
         if self.failed {
             return Err(NoMemory);
@@ -184,15 +188,16 @@ impl Server {
 
     /// The peers of its configuration, and the routes to them.
     pub fn peers(&self) -> &PeerTable
-        ensures peers { (directory : Directory) (token : List ℕ) (loaded : Texts) (happened : List Happened) → Serves directory token loaded happened self.now →
-            result.now ≡ directory.peers }
+        ensures peers { (directory : Directory) (token : List ℕ) (loaded : Texts) (happened : List Happened) →
+            Serves directory token loaded happened self.now → result.now ≡ directory.peers }
     {
         &self.directory.peers
     }
 
     /// The charging rows of calls that are over and of seats that were left which the keeper has not taken, in the order in which they were closed.
     pub fn rows_waiting(&self) -> &[Row]
-        ensures waiting { (directory : Directory) (token : List ℕ) (loaded : Texts) (happened : List Happened) (serves : Serves directory token loaded happened self.now) →
+        ensures waiting { (directory : Directory) (token : List ℕ) (loaded : Texts) (happened : List Happened)
+            (serves : Serves directory token loaded happened self.now) →
             result.now ≡ (world_after directory token loaded serves.fuel happened).waiting }
     {
         self.waiting.items()
@@ -233,8 +238,10 @@ impl Server {
         out: &mut List<Offer>,
         steps: &mut Steps<L>,
     ) -> Result<(), NoMemory>
-        ensures done { OnOk result (Follows self.old out.old self.new out.new (λ d token. met d token at (digest_datagram d from bytes.now))) }
-        ensures err { OnErr result (Breaks self.old out.old out.new (λ d token. met d token at (digest_datagram d from bytes.now))) }
+        ensures done { OnOk result (Follows self.old out.old self.new out.new
+            (λ d token. met d token at (digest_datagram d from bytes.now))) }
+        ensures err { OnErr result (Breaks self.old out.old out.new
+            (λ d token. met d token at (digest_datagram d from bytes.now))) }
     {
         numbers_are_drawn_on();
         let told = digest(alloc, &self.directory, from, bytes)?;
@@ -251,13 +258,15 @@ impl Server {
         out: &mut List<Offer>,
         steps: &mut Steps<L>,
     ) -> Result<Answered, NoMemory>
-        ensures done { IfOk result (λ a. Follows self.old out.old self.new out.new (λ d token. met d token at (digest_event d event.now (kept_in a.kept) a.rows))) }
-        ensures err { OnErr result ((kept : Kept) (rows : List Row) → Breaks self.old out.old out.new (λ d token. met d token at (digest_event d event.now kept rows))) }
-        ensures asked { IfOk result (λ a.
-            Answers (call_of self.old.directory.names event.now) (kept_in a.kept) a.rows (K.held keeper.old) (K.held keeper.new) (K.calls keeper.old) (K.calls keeper.new)) }
+        ensures done { IfOk result (λ a. Follows self.old out.old self.new out.new
+            (λ d token. met d token at (digest_event d event.now (kept_in a.kept) a.rows))) }
+        ensures err { OnErr result ((kept : Kept) (rows : List Row) →
+            Breaks self.old out.old out.new (λ d token. met d token at (digest_event d event.now kept rows))) }
+        ensures asked { IfOk result (λ a. Answers (call_of self.old.directory.names event.now) (kept_in a.kept) a.rows
+            (K.held keeper.old) (K.held keeper.new) (K.calls keeper.old) (K.calls keeper.new)) }
         ensures counted { IfOk result (λ a. Counted (kept_in a.kept) (K.faults keeper.old) (K.faults keeper.new)) }
-        ensures met { OnErr result (Met (call_of self.old.directory.names event.now) (K.held keeper.old) (K.held keeper.new) (K.calls keeper.old) (K.calls keeper.new)
-            (K.faults keeper.old) (K.faults keeper.new)) }
+        ensures met { OnErr result (Met (call_of self.old.directory.names event.now) (K.held keeper.old) (K.held keeper.new)
+            (K.calls keeper.old) (K.calls keeper.new) (K.faults keeper.old) (K.faults keeper.new)) }
     {
         numbers_are_drawn_on();
         match event {
@@ -277,9 +286,11 @@ impl Server {
     /// Want of memory alone; each of them waits still.
     fn hand_rows<K: Keeper>(&mut self, alloc: Global, keeper: &mut K) -> Result<bool, NoMemory>
         ensures done { IfOk result (λ took. (out : List Offer) → Follows self.old out self.new out (λ d token. ended took)) }
-        ensures handed { IfOk result (λ took. Handed took self.old.waiting (K.held keeper.old) (K.held keeper.new) (K.calls keeper.old) (K.calls keeper.new)) }
+        ensures handed { IfOk result (λ took. Handed took self.old.waiting (K.held keeper.old) (K.held keeper.new)
+            (K.calls keeper.old) (K.calls keeper.new)) }
         ensures counted { IfOk result (λ took. HandedCounted took (K.faults keeper.old) (K.faults keeper.new)) }
-        ensures met { OnErr result (StoppedHanding (K.held keeper.old) (K.held keeper.new) (K.calls keeper.old) (K.calls keeper.new) (K.faults keeper.old) (K.faults keeper.new)) }
+        ensures met { OnErr result (StoppedHanding (K.held keeper.old) (K.held keeper.new)
+            (K.calls keeper.old) (K.calls keeper.new) (K.faults keeper.old) (K.faults keeper.new)) }
     {
         hand_rows(alloc, &mut self.waiting, keeper)
     }
@@ -294,12 +305,13 @@ impl Server {
         out: &mut List<Offer>,
         steps: &mut Steps<L>,
     ) -> Result<(Answered, bool), NoMemory>
-        ensures done { IfOk result (λ a.
-            Came self.old out.old self.new out.new at event.now (kept_in a.0.kept) a.0.rows a.1 (K.held keeper.old) (K.held keeper.new) (K.calls keeper.old)
-            (K.calls keeper.new) (K.faults keeper.old) (K.faults keeper.new)) }
-        ensures met { OnErr result (StoppedAt (λ kept rows. (took : Bool) → Breaks self.old out.old out.new (λ d token. came d token at (digest_event d event.now kept rows) took))
-            (λ kept rows between midst. Answers (call_of self.old.directory.names event.now) kept rows (K.held keeper.old) between (K.calls keeper.old) midst)
-            (K.held keeper.new) (K.calls keeper.new) (K.faults keeper.old) (K.faults keeper.new)) }
+        ensures done { IfOk result (λ a. Came at (happened_in event.now (kept_in a.0.kept) a.0.rows a.1)
+            (step_state self.old out.old K.Keeper keeper.old) (step_state self.new out.new K.Keeper keeper.new)) }
+        ensures met { OnErr result (StoppedAt
+            (λ kept rows. (took : Bool) → Breaks self.old out.old out.new (λ d token. came d token at (digest_event d event.now kept rows) took))
+            (λ kept rows between. Answers (call_of self.old.directory.names event.now) kept rows
+            (K.held keeper.old) between.held (K.calls keeper.old) between.calls)
+            (keeper_seen K.Keeper keeper.old) (keeper_seen K.Keeper keeper.new)) }
     {
         numbers_are_drawn_on();
         self.begin();
@@ -321,14 +333,14 @@ impl Server {
         ensures done { IfOk result (λ a. (fuel : ℕ) →
             FollowsTo self.old out.old self.new out.new (IsReady fuel (happened_in event.now (kept_in a.0.kept) a.0.rows a.1))
             (going fuel (happened_in event.now (kept_in a.0.kept) a.0.rows a.1))) }
-        ensures keeper { IfOk result (λ a.
-            KeeperWent self.old out.old (happened_in event.now (kept_in a.0.kept) a.0.rows a.1) (K.held keeper.old) (K.held keeper.new) (K.calls keeper.old)
-            (K.calls keeper.new) (K.faults keeper.old) (K.faults keeper.new)) }
+        ensures keeper { IfOk result (λ a. KeeperWent (happened_in event.now (kept_in a.0.kept) a.0.rows a.1)
+            (step_state self.old out.old K.Keeper keeper.old) (keeper_seen K.Keeper keeper.new)) }
         ensures met { OnErr result (StoppedAt
-            (λ kept rows. (took : Bool) (fuel : ℕ) →
-            BreaksTo self.old out.old out.new (IsReady fuel (happened_in event.now kept rows took)) (going fuel (happened_in event.now kept rows took)))
-            (λ kept rows between midst. (took : Bool) → AskedAfter self.old out.old (happened_in event.now kept rows took) (K.held keeper.old) between (K.calls keeper.old) midst)
-            (K.held keeper.new) (K.calls keeper.new) (K.faults keeper.old) (K.faults keeper.new)) }
+            (λ kept rows. (took : Bool) (fuel : ℕ) → BreaksTo self.old out.old out.new
+            (IsReady fuel (happened_in event.now kept rows took)) (going fuel (happened_in event.now kept rows took)))
+            (λ kept rows between. (took : Bool) →
+            AskedAfter (step_state self.old out.old K.Keeper keeper.old) (happened_in event.now kept rows took) between)
+            (keeper_seen K.Keeper keeper.old) (keeper_seen K.Keeper keeper.new)) }
     {
         numbers_are_drawn_on();
         let clock = later(self.clock, moment(event));

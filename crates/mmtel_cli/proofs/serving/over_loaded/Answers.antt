@@ -3,7 +3,7 @@ use Rattle.mmtel_cli.proofs.ServedRuns.{counts_on}
 use Rattle.mmtel_cli.proofs.serving.over_loaded.Goals as goal
 
 pub returns-in-Ok-clause-served : goal.returns-in-Ok-clause-served
-returns-in-Ok-clause-served g c = λ kept. λ opened. c.over_link.ensures.served _ kept c.in-Ok.ensures.linked opened
+returns-in-Ok-clause-served g c = λ kept. λ opened. c.over_link.ensures.served _ c.in-Ok.ensures.linked opened
 
 pub returns-in-Err-clause-served : goal.returns-in-Err-clause-served
 returns-in-Err-clause-served g c = λ kept. λ opened. λ suited. inl (record { loaded = _; opened = opened; unlinked = c.in-Err.ensures.failed })

@@ -5,21 +5,21 @@ use Rattle.mmtel_cli.proofs.top.run.Goals as goal
 pub returns-clause-ran : goal.returns-clause-ran
 returns-clause-ran g c =
     ran c.calls_of_runs_come_to_their_outcome.ensures.law c.seats_of_runs_are_charged_once.ensures.law c.runs_send_clean_messages.ensures.law
-    c.homes_of_configurations_are_clean.ensures.law c.configurations_are_read.ensures.read c.bytes_are_seen.ensures.apart _ _ _ _ _ _ _ _ _ _ _ _ _ _ _ _ _
+    c.homes_of_configurations_are_clean.ensures.law c.configurations_are_read.ensures.read c.bytes_are_seen.ensures.apart _ _ _ _ _ _ _
     c.prepare-due.ensures.prepares c.write_report-status.ensures.ends
 
 pub returns-clause-calls : goal.returns-clause-calls
-returns-clause-calls g c = calls_told _ _ _ _ _ _ _ _ _ _ _ _ _ _ _ _ _ c.prepare-due.ensures.prepares c.write_report-status.ensures.ends
+returns-clause-calls g c = calls_told _ _ _ _ _ _ _ c.prepare-due.ensures.prepares c.write_report-status.ensures.ends
 
 pub returns-clause-keeper : goal.returns-clause-keeper
-returns-clause-keeper g c = is_spared _ _ _ _ _ _ _ _ _ _ _ _ _ _ _ _ _ c.prepare-due.ensures.spares c.prepare-due.ensures.prepares c.write_report-status.ensures.ends
+returns-clause-keeper g c = is_spared _ _ _ _ _ _ _ c.prepare-due.ensures.prepares c.prepare-due.ensures.spares c.write_report-status.ensures.ends
 
 pub returns-clause-link : goal.returns-clause-link
-returns-clause-link g c = is_unbound _ _ _ _ _ _ _ _ _ _ _ _ _ _ _ _ _ c.prepare-due.ensures.prepares c.write_report-status.ensures.ends
+returns-clause-link g c = is_unbound _ _ _ _ _ _ _ c.prepare-due.ensures.prepares c.write_report-status.ensures.ends
 
 pub returns-clause-taking : goal.returns-clause-taking
 returns-clause-taking g c =
-    counts_at_four _ _ _ _ _ _ _ _ _ _ _ _ _ _ _ _ _ c.prepare-due.ensures.prepares c.write_report-status.ensures.ends
+    counts_at_four _ _ _ _ _ _ _ c.prepare-due.ensures.prepares c.write_report-status.ensures.ends
     (ran c.calls_of_runs_come_to_their_outcome.ensures.law c.seats_of_runs_are_charged_once.ensures.law c.runs_send_clean_messages.ensures.law
-    c.homes_of_configurations_are_clean.ensures.law c.configurations_are_read.ensures.read c.bytes_are_seen.ensures.apart _ _ _ _ _ _ _ _ _ _ _ _ _ _ _ _ _
+    c.homes_of_configurations_are_clean.ensures.law c.configurations_are_read.ensures.read c.bytes_are_seen.ensures.apart _ _ _ _ _ _ _
     c.prepare-due.ensures.prepares c.write_report-status.ensures.ends)

@@ -5,16 +5,16 @@ use Rattle.mmtel_serve.proofs.serving.serve_event.Goals as goal
 
 pub returns-in-Ok-clause-done : goal.returns-in-Ok-clause-done
 returns-in-Ok-clause-done g c = any_ok c.give_each.result _
-    (served_of _ _ _ _ _ _ _ _ _ _ _ c.new-out.result c.step.new.out c.new-out.ensures c.give_each.result c.items.result.now c.peers.result.now.known c.items.ensures c.in-Ok.ensures.done
+    (served_of _ _ _ c.new-out.result c.step.new.out c.new-out.ensures c.give_each.result c.items.result.now c.peers.result.now.known c.items.ensures c.in-Ok.ensures.done
     (λ directory token loaded happened serves. ap (λ (p : Peers). p.known) (c.peers.ensures.peers directory token loaded happened serves)) c.give_each.ensures.gave)
 
 pub returns-in-Ok-clause-stopped : goal.returns-in-Ok-clause-stopped
 returns-in-Ok-clause-stopped g c = any_err c.give_each.result _
-    (inr (served_of _ _ _ _ _ _ _ _ _ _ _ c.new-out.result c.step.new.out c.new-out.ensures c.give_each.result c.items.result.now c.peers.result.now.known c.items.ensures c.in-Ok.ensures.done
+    (inr (served_of _ _ _ c.new-out.result c.step.new.out c.new-out.ensures c.give_each.result c.items.result.now c.peers.result.now.known c.items.ensures c.in-Ok.ensures.done
     (λ directory token loaded happened serves. ap (λ (p : Peers). p.known) (c.peers.ensures.peers directory token loaded happened serves)) c.give_each.ensures.gave))
 
 pub returns-clause-stopped : goal.returns-clause-stopped
-returns-clause-stopped g c = inl (stopped_of _ c.step.new.self _ _ _ _ _ _ _ _ _ c.new-out.result c.step.new.out c.new-out.ensures refl c.in-Err.ensures.met)
+returns-clause-stopped g c = inl (stopped_of _ _ _ c.new-out.result c.step.new.out c.new-out.ensures refl c.in-Err.ensures.met)
 
 pub returns-clause-lost : goal.returns-clause-lost
 returns-clause-lost g c = inl (refl, refl)

@@ -8,7 +8,7 @@ use Rattle.mmtel_server.proofs.servers.Server.ask.Goals as goal
 
 pub returns-clause-done : goal.returns-clause-done
 returns-clause-done g c = on_ok_weaker c.offer_to.result (λ offered.
-    asked c.numbers_are_distinct.ensures.few c.args.self.now c.ask.new.self c.args.out.now c.offer_to.new.out c.args.peer c.args.message.now c.args.at c.in_ok-text.text
+    asked c.numbers_are_distinct.ensures.few c.args.self.now c.ask.new.self c.args.out.now c.offer_to.new.out c.args.peer c.args.message.now c.args.context.now.at c.in_ok-text.text
     (λ h. c.in_ok-ask.field-0 ≡ tkey (length (opened h))) c.in_ok-ask.ensures.done c.in_ok-text.ensures.text
     (offered ∙ ap (λ (at : ℕ). c.args.out.now ++ offer.To c.args.peer at c.in_ok-text.text ∷ []) c.ms.ensures.number))
     c.offer_to.ensures.done

@@ -11,6 +11,7 @@ use Rattle.mmtel_server.proofs.Grows.{ends, on_err, short_of}
 use Rattle.mmtel_server.proofs.Runs.{begun_came, clocked_did}
 use Rattle.mmtel_server.proofs.servers.Server.come_at.Goals as goal
 use Rattle.mmtel_server_decisions.specs.Handed.{taken_of}
+use Rattle.mmtel_server.specs.Seen.{keeper_seen}
 use Rattle.mmtel_server.specs.Stepped.{call_of}
 
 pub returns-clause-done : goal.returns-clause-done
@@ -28,9 +29,7 @@ returns-clause-done g c =
           let between = short_of done (came d token c.args.at x took w) (ends law d token c.args.at took done) short in
           c.in_ok-took.ensures.done c.meet_event.new.out d token before done (c.in_ok-answered.ensures.done d token before there clocked between) short;
       waiting = c.meet_event.new.self.waiting;
-      between = g.K.Keeper.held c.meet_event.new.keeper;
-      midst = g.K.Keeper.calls c.meet_event.new.keeper;
-      mid = g.K.Keeper.faults c.meet_event.new.keeper;
+      between = keeper_seen g.K.Keeper c.meet_event.new.keeper;
       asked = subst (λ (x : Directory). Answers (call_of x.names c.args.event.now) (kept_in a.kept) a.rows (g.K.Keeper.held c.args.keeper.now) (g.K.Keeper.held c.meet_event.new.keeper)
           (g.K.Keeper.calls c.args.keeper.now) (g.K.Keeper.calls c.meet_event.new.keeper)) c.begin.ensures.directory c.in_ok-answered.ensures.asked;
       counted = c.in_ok-answered.ensures.counted;
@@ -57,9 +56,7 @@ returns-in_err-answered-clause-met g c =
       rows = m.rows;
       broke = λ took. broke_meeting c.numbers_are_drawn_on.ensures c.args.self.now c.begin.new.self c.args.out.now c.args.at (c.begin.ensures.done c.args.out.now)
           (λ d. digest_event d c.args.event.now m.kept m.rows) took c.meet_event.new.out (c.in_err-answered.ensures.err m.kept m.rows);
-      between = g.K.Keeper.held c.meet_event.new.keeper;
-      midst = g.K.Keeper.calls c.meet_event.new.keeper;
-      mid = g.K.Keeper.faults c.meet_event.new.keeper;
+      between = keeper_seen g.K.Keeper c.meet_event.new.keeper;
       asked = subst (λ (x : Directory). Answers (call_of x.names c.args.event.now) m.kept m.rows (g.K.Keeper.held c.args.keeper.now) (g.K.Keeper.held c.meet_event.new.keeper)
           (g.K.Keeper.calls c.args.keeper.now) (g.K.Keeper.calls c.meet_event.new.keeper)) c.begin.ensures.directory m.answers;
       counted = m.counted;
@@ -74,9 +71,7 @@ returns-in_err-took-clause-met g c =
       rows = a.rows;
       broke = λ took. broke_handing c.numbers_are_drawn_on.ensures c.args.self.now c.begin.new.self c.args.out.now c.args.at (c.begin.ensures.done c.args.out.now)
           (λ d. digest_event d c.args.event.now (kept_in a.kept) a.rows) took c.meet_event.new.self c.meet_event.new.out c.in_ok-answered.ensures.done;
-      between = g.K.Keeper.held c.meet_event.new.keeper;
-      midst = g.K.Keeper.calls c.meet_event.new.keeper;
-      mid = g.K.Keeper.faults c.meet_event.new.keeper;
+      between = keeper_seen g.K.Keeper c.meet_event.new.keeper;
       asked = subst (λ (x : Directory). Answers (call_of x.names c.args.event.now) (kept_in a.kept) a.rows (g.K.Keeper.held c.args.keeper.now) (g.K.Keeper.held c.meet_event.new.keeper)
           (g.K.Keeper.calls c.args.keeper.now) (g.K.Keeper.calls c.meet_event.new.keeper)) c.begin.ensures.directory c.in_ok-answered.ensures.asked;
       counted = c.in_ok-answered.ensures.counted;

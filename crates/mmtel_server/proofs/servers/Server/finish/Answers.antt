@@ -10,11 +10,11 @@ use Rattle.mmtel_server.specs.Follows.{brought_in, desk_at_end}
 pub returns-in_err-emits-clause-err : goal.returns-in_err-emits-clause-err
 returns-in_err-emits-clause-err g c =
     on_err c.from_residual.result _
-    (stops (λ d token. finishing d token c.args.at c.args.call) c.args.self.now c.args.out.now c.args.out.now (λ d token w. finishes c.numbers_are_drawn_on.ensures d token c.args.at c.args.call w) refl)
+    (stops (λ d token. finishing d token c.args.context.now.at c.args.call) c.args.self.now c.args.out.now c.args.out.now (λ d token w. finishes c.numbers_are_drawn_on.ensures d token c.args.context.now.at c.args.call w) refl)
 
 pub returns-clause-done : goal.returns-clause-done
 returns-clause-done g c =
-    let at = c.args.at in
+    let at = c.args.context.now.at in
     let call = c.args.call in
     on_ok_weaker c.emit_all-done.result
     (done_follows c.args.self.now c.end_call.new.self (λ d token. desk_at_end d token at call) (λ d token w. brought_in (Finishes call.0 at (tokens_now token w)) (desk_at_end d token at call w) w)
@@ -23,7 +23,7 @@ returns-clause-done g c =
 
 pub returns-clause-err : goal.returns-clause-err
 returns-clause-err g c =
-    let at = c.args.at in
+    let at = c.args.context.now.at in
     let call = c.args.call in
     on_err_weaker c.emit_all-done.result
     (done_breaks c.args.self.now c.end_call.new.self (λ d token. desk_at_end d token at call) (λ d token w. brought_in (Finishes call.0 at (tokens_now token w)) (desk_at_end d token at call w) w)

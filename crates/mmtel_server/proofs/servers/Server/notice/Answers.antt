@@ -8,15 +8,15 @@ use Rattle.mmtel_server.proofs.servers.Server.notice.Goals as goal
 
 pub returns-in_err-emits-clause-err : goal.returns-in_err-emits-clause-err
 returns-in_err-emits-clause-err g c = on_err c.from_residual.result _
-    (stops (λ d token. noticed d token c.args.at c.args.room c.args.seat c.args.code) c.args.self.now c.args.out.now c.args.out.now
-    (λ d token w. notices c.numbers_are_drawn_on.ensures d token c.args.at c.args.room c.args.seat c.args.code w) refl)
+    (stops (λ d token. noticed d token c.args.context.now.at c.args.seat.room c.args.seat.number c.args.code) c.args.self.now c.args.out.now c.args.out.now
+    (λ d token w. notices c.numbers_are_drawn_on.ensures d token c.args.context.now.at c.args.seat.room c.args.seat.number c.args.code w) refl)
 
 pub returns-clause-done : goal.returns-clause-done
 returns-clause-done g c = on_ok_weaker c.emit_all-done.result (λ follows.
-    housed_follows (λ d token w. Notifies c.args.room.0 c.args.seat c.args.code (tokens_now token w)) c.args.self.now c.tell_seat.new.self c.in_ok-emits.emits c.items.result.now c.args.at c.args.out.now c.emit_all-done.new.out
+    housed_follows (λ d token w. Notifies c.args.seat.room.0 c.args.seat.number c.args.code (tokens_now token w)) c.args.self.now c.tell_seat.new.self c.in_ok-emits.emits c.items.result.now c.args.context.now.at c.args.out.now c.emit_all-done.new.out
     c.items.ensures c.in_ok-emits.ensures c.emit_all-done.new.self follows) c.emit_all-done.ensures.done
 
 pub returns-clause-err : goal.returns-clause-err
 returns-clause-err g c = on_err_weaker c.emit_all-done.result (λ breaks.
-    housed_breaks (λ d token w. Notifies c.args.room.0 c.args.seat c.args.code (tokens_now token w)) c.args.self.now c.tell_seat.new.self c.in_ok-emits.emits c.items.result.now c.args.at c.args.out.now c.emit_all-done.new.out
+    housed_breaks (λ d token w. Notifies c.args.seat.room.0 c.args.seat.number c.args.code (tokens_now token w)) c.args.self.now c.tell_seat.new.self c.in_ok-emits.emits c.items.result.now c.args.context.now.at c.args.out.now c.emit_all-done.new.out
     c.items.ensures c.in_ok-emits.ensures breaks) c.emit_all-done.ensures.err

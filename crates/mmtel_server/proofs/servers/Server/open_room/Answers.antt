@@ -8,19 +8,19 @@ use Rattle.mmtel_server.proofs.servers.Server.open_room.Goals as goal
 
 pub returns-in_err-tag-clause-err : goal.returns-in_err-tag-clause-err
 returns-in_err-tag-clause-err g c = on_err c.from_residual.result _
-    (stops (λ d token. opening_room d token c.args.at c.args.key c.args.invite.now) c.args.self.now c.args.out.now c.args.out.now
-    (λ d token w. opens_room c.numbers_are_drawn_on.ensures d token c.args.at c.args.key c.args.invite.now w) refl)
+    (stops (λ d token. opening_room d token c.args.context.now.at c.args.key c.args.invite.now) c.args.self.now c.args.out.now c.args.out.now
+    (λ d token w. opens_room c.numbers_are_drawn_on.ensures d token c.args.context.now.at c.args.key c.args.invite.now w) refl)
 
 pub returns-clause-done : goal.returns-clause-done
 returns-clause-done g c = on_ok_weaker c.open_room_for.result (λ follows.
     follows_tagged c.args.self.now c.next_tag.new.tokens c.in_ok-tag.tag c.args.out.now c.in_ok-tag.ensures.drawn c.in_ok-tag.ensures.tag
-    (λ tag d token w. room_opened d c.args.at c.args.key c.args.invite.now tag (has_no_room (rooms_in d w).live) w)
-    (λ tag d token w. room_opens_grows c.numbers_are_drawn_on.ensures d token c.args.at c.args.key c.args.invite.now tag (has_no_room (rooms_in d w).live) w)
+    (λ tag d token w. room_opened d c.args.context.now.at c.args.key c.args.invite.now tag (has_no_room (rooms_in d w).live) w)
+    (λ tag d token w. room_opens_grows c.numbers_are_drawn_on.ensures d token c.args.context.now.at c.args.key c.args.invite.now tag (has_no_room (rooms_in d w).live) w)
     c.open_room_for.new.self c.open_room_for.new.out follows) c.open_room_for.ensures.done
 
 pub returns-clause-err : goal.returns-clause-err
 returns-clause-err g c = on_err_weaker c.open_room_for.result (λ breaks.
     breaks_tagged c.args.self.now c.next_tag.new.tokens c.in_ok-tag.tag c.args.out.now c.in_ok-tag.ensures.drawn c.in_ok-tag.ensures.tag
-    (λ tag d token w. room_opened d c.args.at c.args.key c.args.invite.now tag (has_no_room (rooms_in d w).live) w)
-    (λ tag d token w. room_opens_grows c.numbers_are_drawn_on.ensures d token c.args.at c.args.key c.args.invite.now tag (has_no_room (rooms_in d w).live) w)
+    (λ tag d token w. room_opened d c.args.context.now.at c.args.key c.args.invite.now tag (has_no_room (rooms_in d w).live) w)
+    (λ tag d token w. room_opens_grows c.numbers_are_drawn_on.ensures d token c.args.context.now.at c.args.key c.args.invite.now tag (has_no_room (rooms_in d w).live) w)
     c.open_room_for.new.out breaks) c.open_room_for.ensures.err

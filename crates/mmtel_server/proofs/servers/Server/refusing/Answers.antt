@@ -10,7 +10,7 @@ pub returns-clause-done : goal.returns-clause-done
 returns-clause-done c =
     let m = c.args.reply.now in
     on_ok_weaker c.send.result (tagged_one (λ d tag. emit.Plain c.args.peer (message_text (completed_reply tag c.args.source m))) (to_tag_in m.lines)
-    (to_tag_in m.lines) c.args.at c.args.self.now c.drawn_tag.new.tokens c.send.new.self c.args.out.now c.send.new.out c.in_ok-tag.tag (emit.Plain c.args.peer c.bytes-2.result.now)
+    (to_tag_in m.lines) c.args.context.now.at c.args.self.now c.drawn_tag.new.tokens c.send.new.self c.args.out.now c.send.new.out c.in_ok-tag.tag (emit.Plain c.args.peer c.bytes-2.result.now)
     refl c.in_ok-tag.ensures.drawn c.in_ok-tag.ensures.tag
     (ap (λ (x : List ℕ). emit.Plain c.args.peer x)
     (c.bytes-2.ensures ∙ (c.in_ok-text.ensures.text ∙ ap message_text (c.in_ok-response.ensures.message ∙ ap (λ (x : List ℕ). completed_reply x c.args.source m) c.bytes.ensures)))))

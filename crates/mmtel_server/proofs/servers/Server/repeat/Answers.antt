@@ -8,6 +8,6 @@ use Rattle.mmtel_server.specs.Follows.{Follows}
 
 pub returns-in-Some-clause-done : goal.returns-in-Some-clause-done
 returns-in-Some-clause-done c =
-    subst (λ (x : Option (Peer × List ℕ)). OnOk c.send.result (Follows c.args.self.now c.args.out.now c.send.new.self c.send.new.out (λ d token. repeating c.args.at x))) (sym c.in-Some.is)
+    subst (λ (x : Option (Peer × List ℕ)). OnOk c.send.result (Follows c.args.self.now c.args.out.now c.send.new.self c.send.new.out (λ d token. repeating c.args.context.now.at x))) (sym c.in-Some.is)
     (subst (λ (t : List ℕ). OnOk c.send.result
-    (Follows c.args.self.now c.args.out.now c.send.new.self c.send.new.out (λ d token. emit_one c.args.at (emit.Plain c.in-Some.peer t)))) c.bytes.ensures c.send.ensures.done)
+    (Follows c.args.self.now c.args.out.now c.send.new.self c.send.new.out (λ d token. emit_one c.args.context.now.at (emit.Plain c.in-Some.peer t)))) c.bytes.ensures c.send.ensures.done)

@@ -8,17 +8,17 @@ use Rattle.mmtel_server.specs.Follows.{Breaks, Follows}
 
 pub returns-in-None-clause-done : goal.returns-in-None-clause-done
 returns-in-None-clause-done g c =
-    subst (λ (o : Option Replaces). Follows c.args.self.now c.args.out.now c.args.self.now c.args.out.now (λ d token. replacing d token c.args.at c.args.peer c.args.room c.args.seat o)) (sym c.in-None.is)
+    subst (λ (o : Option Replaces). Follows c.args.self.now c.args.out.now c.args.self.now c.args.out.now (λ d token. replacing d token c.args.context.now.at c.args.peer c.args.seat.room c.args.seat.number o)) (sym c.in-None.is)
     (rests c.args.self.now c.args.out.now)
 
 pub returns-in-Some-clause-done : goal.returns-in-Some-clause-done
 returns-in-Some-clause-done g c =
     subst (λ (o : Option Replaces). OnOk c.replace_by-done.result
-    (Follows c.args.self.now c.args.out.now c.replace_by-done.new.self c.replace_by-done.new.out (λ d token. replacing d token c.args.at c.args.peer c.args.room c.args.seat o)))
+    (Follows c.args.self.now c.args.out.now c.replace_by-done.new.self c.replace_by-done.new.out (λ d token. replacing d token c.args.context.now.at c.args.peer c.args.seat.room c.args.seat.number o)))
     (sym c.in-Some.is) c.replace_by-done.ensures.done
 
 pub returns-in-Some-clause-err : goal.returns-in-Some-clause-err
 returns-in-Some-clause-err g c =
     subst (λ (o : Option Replaces). OnErr c.replace_by-done.result
-    (Breaks c.args.self.now c.args.out.now c.replace_by-done.new.out (λ d token. replacing d token c.args.at c.args.peer c.args.room c.args.seat o)))
+    (Breaks c.args.self.now c.args.out.now c.replace_by-done.new.out (λ d token. replacing d token c.args.context.now.at c.args.peer c.args.seat.room c.args.seat.number o)))
     (sym c.in-Some.is) c.replace_by-done.ensures.err

@@ -10,27 +10,27 @@ use Rattle.mmtel_server.specs.Follows.{Breaks, Follows}
 pub returns-in-None-clause-done : goal.returns-in-None-clause-done
 returns-in-None-clause-done g c = on_ok_weaker c.notice.result (λ follows.
     let P = Follows c.args.self.now c.args.out.now c.notice.new.self c.notice.new.out in
-    dialog_so c.args.self.now P (follows_reads c.args.self.now c.args.out.now c.notice.new.self c.notice.new.out) c.args.at c.args.room c.args.seat c.args.peer c.args.replaces.now c.side_replaced.result c.side_replaced.ensures
-    (subst (λ (o : Option (CallNo × Side)). P (λ d token. replaced_by d token c.args.at c.args.peer c.args.room c.args.seat o)) (sym c.in-None.is) follows))
+    dialog_so c.args.self.now P (follows_reads c.args.self.now c.args.out.now c.notice.new.self c.notice.new.out) c.args.context.now.at c.args.seat.room c.args.seat.number c.args.peer c.args.replaces.now c.side_replaced.result c.side_replaced.ensures
+    (subst (λ (o : Option (CallNo × Side)). P (λ d token. replaced_by d token c.args.context.now.at c.args.peer c.args.seat.room c.args.seat.number o)) (sym c.in-None.is) follows))
     c.notice.ensures.done
 
 pub returns-in-None-clause-err : goal.returns-in-None-clause-err
 returns-in-None-clause-err g c = on_err_weaker c.notice.result (λ breaks.
     let P = Breaks c.args.self.now c.args.out.now c.notice.new.out in
-    dialog_so c.args.self.now P (breaks_reads c.args.self.now c.args.out.now c.notice.new.out) c.args.at c.args.room c.args.seat c.args.peer c.args.replaces.now c.side_replaced.result c.side_replaced.ensures
-    (subst (λ (o : Option (CallNo × Side)). P (λ d token. replaced_by d token c.args.at c.args.peer c.args.room c.args.seat o)) (sym c.in-None.is) breaks))
+    dialog_so c.args.self.now P (breaks_reads c.args.self.now c.args.out.now c.notice.new.out) c.args.context.now.at c.args.seat.room c.args.seat.number c.args.peer c.args.replaces.now c.side_replaced.result c.side_replaced.ensures
+    (subst (λ (o : Option (CallNo × Side)). P (λ d token. replaced_by d token c.args.context.now.at c.args.peer c.args.seat.room c.args.seat.number o)) (sym c.in-None.is) breaks))
     c.notice.ensures.err
 
 pub returns-in-Some-clause-done : goal.returns-in-Some-clause-done
 returns-in-Some-clause-done g c = on_ok_weaker c.replace_side.result (λ follows.
     let P = Follows c.args.self.now c.args.out.now c.replace_side.new.self c.replace_side.new.out in
-    dialog_so c.args.self.now P (follows_reads c.args.self.now c.args.out.now c.replace_side.new.self c.replace_side.new.out) c.args.at c.args.room c.args.seat c.args.peer c.args.replaces.now c.side_replaced.result c.side_replaced.ensures
-    (subst (λ (o : Option (CallNo × Side)). P (λ d token. replaced_by d token c.args.at c.args.peer c.args.room c.args.seat o)) (sym c.in-Some.is) follows))
+    dialog_so c.args.self.now P (follows_reads c.args.self.now c.args.out.now c.replace_side.new.self c.replace_side.new.out) c.args.context.now.at c.args.seat.room c.args.seat.number c.args.peer c.args.replaces.now c.side_replaced.result c.side_replaced.ensures
+    (subst (λ (o : Option (CallNo × Side)). P (λ d token. replaced_by d token c.args.context.now.at c.args.peer c.args.seat.room c.args.seat.number o)) (sym c.in-Some.is) follows))
     c.replace_side.ensures.done
 
 pub returns-in-Some-clause-err : goal.returns-in-Some-clause-err
 returns-in-Some-clause-err g c = on_err_weaker c.replace_side.result (λ breaks.
     let P = Breaks c.args.self.now c.args.out.now c.replace_side.new.out in
-    dialog_so c.args.self.now P (breaks_reads c.args.self.now c.args.out.now c.replace_side.new.out) c.args.at c.args.room c.args.seat c.args.peer c.args.replaces.now c.side_replaced.result c.side_replaced.ensures
-    (subst (λ (o : Option (CallNo × Side)). P (λ d token. replaced_by d token c.args.at c.args.peer c.args.room c.args.seat o)) (sym c.in-Some.is) breaks))
+    dialog_so c.args.self.now P (breaks_reads c.args.self.now c.args.out.now c.replace_side.new.out) c.args.context.now.at c.args.seat.room c.args.seat.number c.args.peer c.args.replaces.now c.side_replaced.result c.side_replaced.ensures
+    (subst (λ (o : Option (CallNo × Side)). P (λ d token. replaced_by d token c.args.context.now.at c.args.peer c.args.seat.room c.args.seat.number o)) (sym c.in-Some.is) breaks))
     c.replace_side.ensures.err

@@ -14,7 +14,7 @@ returns-clause-done g c =
     let m = c.args.request.now in
     let a = answer_in c.args.answer.now in
     on_ok_weaker c.reply-done.result (tagged_one (λ d tag. emit.Reply c.args.key (response_to d.sip tag m a))
-    (to_tag_in c.request.inside.message.lines) m.heard.to_tag c.args.at c.args.self.now c.drawn_tag.new.tokens c.reply-done.new.self c.args.out.now c.reply-done.new.out c.in_ok-tag.tag
+    (to_tag_in c.request.inside.message.lines) m.heard.to_tag c.args.context.now.at c.args.self.now c.drawn_tag.new.tokens c.reply-done.new.self c.args.out.now c.reply-done.new.out c.in_ok-tag.tag
     (emit.Reply c.args.key c.in_ok-response.response)
     (ap (λ (x : Said). x.heard.to_tag) c.request.view_is) c.in_ok-tag.ensures.drawn c.in_ok-tag.ensures.tag
     (ap (λ (x : Message Start). emit.Reply c.args.key x) (c.in_ok-response.ensures.message ∙ ap (λ (x : List ℕ). response_to c.args.self.now.directory.sip x m a) c.bytes.ensures)))

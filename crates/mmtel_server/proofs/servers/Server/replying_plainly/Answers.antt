@@ -14,7 +14,7 @@ returns-clause-done c =
     let m = c.args.request.now in
     let a = answer_in c.args.answer.now in
     on_ok_weaker c.send.result (tagged_one (λ d tag. emit.Plain m.peer (message_text (response_to d.sip tag m a)))
-    (to_tag_in c.request.inside.message.lines) m.heard.to_tag c.args.at c.args.self.now c.drawn_tag.new.tokens c.send.new.self c.args.out.now c.send.new.out c.in_ok-tag.tag
+    (to_tag_in c.request.inside.message.lines) m.heard.to_tag c.args.context.now.at c.args.self.now c.drawn_tag.new.tokens c.send.new.self c.args.out.now c.send.new.out c.in_ok-tag.tag
     (emit.Plain c.request.inside.peer c.bytes-2.result.now)
     (ap (λ (x : Said). x.heard.to_tag) c.request.view_is) c.in_ok-tag.ensures.drawn c.in_ok-tag.ensures.tag
     (ap (λ (x : Peer). emit.Plain x c.bytes-2.result.now) (ap (λ (x : Said). x.peer) c.request.view_is)

@@ -9,28 +9,28 @@ use Rattle.mmtel_server.specs.Follows.{Breaks, Follows}
 
 pub returns-then-is_of_calls-clause-done : goal.returns-then-is_of_calls-clause-done
 returns-then-is_of_calls-clause-done g c = on_ok_weaker c.signal.result (λ holds.
-    follows_so c.is_answer_of_calls-is_of_calls.result (λ d w. is_of_calls (invite_silent c.args.branch c.args.method) (calls_in d w).entries) (λ b d token w. silenced d token c.args.at c.args.branch c.args.method b w) c.args.self.now c.args.out.now
+    follows_so c.is_answer_of_calls-is_of_calls.result (λ d w. is_of_calls (invite_silent c.args.branch c.args.method) (calls_in d w).entries) (λ b d token w. silenced d token c.args.context.now.at c.args.branch c.args.method b w) c.args.self.now c.args.out.now
     (sent_of c.args.self.now c.is_answer_of_calls-is_of_calls.result _ _ (c.invite_silent.ensures ∙ (ap (λ (l : List ℕ). invite_silent l c.bytes-2.result.now) c.bytes.ensures ∙ ap (λ (l : List ℕ). invite_silent c.args.branch l) c.bytes-2.ensures)) c.is_answer_of_calls-is_of_calls.ensures) c.signal.new.self c.signal.new.out
-    (subst (λ (b : Bool). Follows c.args.self.now c.args.out.now c.signal.new.self c.signal.new.out (λ d token w. silenced d token c.args.at c.args.branch c.args.method b w)) (sym c.if-is_of_calls.true) holds))
+    (subst (λ (b : Bool). Follows c.args.self.now c.args.out.now c.signal.new.self c.signal.new.out (λ d token w. silenced d token c.args.context.now.at c.args.branch c.args.method b w)) (sym c.if-is_of_calls.true) holds))
     c.signal.ensures.done
 
 pub returns-then-is_of_calls-clause-err : goal.returns-then-is_of_calls-clause-err
 returns-then-is_of_calls-clause-err g c = on_err_weaker c.signal.result (λ holds.
-    breaks_so c.is_answer_of_calls-is_of_calls.result (λ d w. is_of_calls (invite_silent c.args.branch c.args.method) (calls_in d w).entries) (λ b d token w. silenced d token c.args.at c.args.branch c.args.method b w) c.args.self.now c.args.out.now
+    breaks_so c.is_answer_of_calls-is_of_calls.result (λ d w. is_of_calls (invite_silent c.args.branch c.args.method) (calls_in d w).entries) (λ b d token w. silenced d token c.args.context.now.at c.args.branch c.args.method b w) c.args.self.now c.args.out.now
     (sent_of c.args.self.now c.is_answer_of_calls-is_of_calls.result _ _ (c.invite_silent.ensures ∙ (ap (λ (l : List ℕ). invite_silent l c.bytes-2.result.now) c.bytes.ensures ∙ ap (λ (l : List ℕ). invite_silent c.args.branch l) c.bytes-2.ensures)) c.is_answer_of_calls-is_of_calls.ensures) c.signal.new.out
-    (subst (λ (b : Bool). Breaks c.args.self.now c.args.out.now c.signal.new.out (λ d token w. silenced d token c.args.at c.args.branch c.args.method b w)) (sym c.if-is_of_calls.true) holds))
+    (subst (λ (b : Bool). Breaks c.args.self.now c.args.out.now c.signal.new.out (λ d token w. silenced d token c.args.context.now.at c.args.branch c.args.method b w)) (sym c.if-is_of_calls.true) holds))
     c.signal.ensures.err
 
 pub returns-else-is_of_calls-clause-done : goal.returns-else-is_of_calls-clause-done
 returns-else-is_of_calls-clause-done g c = on_ok_weaker c.seat_signal.result (λ holds.
-    follows_so c.is_answer_of_calls-is_of_calls.result (λ d w. is_of_calls (invite_silent c.args.branch c.args.method) (calls_in d w).entries) (λ b d token w. silenced d token c.args.at c.args.branch c.args.method b w) c.args.self.now c.args.out.now
+    follows_so c.is_answer_of_calls-is_of_calls.result (λ d w. is_of_calls (invite_silent c.args.branch c.args.method) (calls_in d w).entries) (λ b d token w. silenced d token c.args.context.now.at c.args.branch c.args.method b w) c.args.self.now c.args.out.now
     (sent_of c.args.self.now c.is_answer_of_calls-is_of_calls.result _ _ (c.invite_silent.ensures ∙ (ap (λ (l : List ℕ). invite_silent l c.bytes-2.result.now) c.bytes.ensures ∙ ap (λ (l : List ℕ). invite_silent c.args.branch l) c.bytes-2.ensures)) c.is_answer_of_calls-is_of_calls.ensures) c.seat_signal.new.self c.seat_signal.new.out
-    (subst (λ (b : Bool). Follows c.args.self.now c.args.out.now c.seat_signal.new.self c.seat_signal.new.out (λ d token w. silenced d token c.args.at c.args.branch c.args.method b w)) (sym c.if-is_of_calls.false) holds))
+    (subst (λ (b : Bool). Follows c.args.self.now c.args.out.now c.seat_signal.new.self c.seat_signal.new.out (λ d token w. silenced d token c.args.context.now.at c.args.branch c.args.method b w)) (sym c.if-is_of_calls.false) holds))
     c.seat_signal.ensures.done
 
 pub returns-else-is_of_calls-clause-err : goal.returns-else-is_of_calls-clause-err
 returns-else-is_of_calls-clause-err g c = on_err_weaker c.seat_signal.result (λ holds.
-    breaks_so c.is_answer_of_calls-is_of_calls.result (λ d w. is_of_calls (invite_silent c.args.branch c.args.method) (calls_in d w).entries) (λ b d token w. silenced d token c.args.at c.args.branch c.args.method b w) c.args.self.now c.args.out.now
+    breaks_so c.is_answer_of_calls-is_of_calls.result (λ d w. is_of_calls (invite_silent c.args.branch c.args.method) (calls_in d w).entries) (λ b d token w. silenced d token c.args.context.now.at c.args.branch c.args.method b w) c.args.self.now c.args.out.now
     (sent_of c.args.self.now c.is_answer_of_calls-is_of_calls.result _ _ (c.invite_silent.ensures ∙ (ap (λ (l : List ℕ). invite_silent l c.bytes-2.result.now) c.bytes.ensures ∙ ap (λ (l : List ℕ). invite_silent c.args.branch l) c.bytes-2.ensures)) c.is_answer_of_calls-is_of_calls.ensures) c.seat_signal.new.out
-    (subst (λ (b : Bool). Breaks c.args.self.now c.args.out.now c.seat_signal.new.out (λ d token w. silenced d token c.args.at c.args.branch c.args.method b w)) (sym c.if-is_of_calls.false) holds))
+    (subst (λ (b : Bool). Breaks c.args.self.now c.args.out.now c.seat_signal.new.out (λ d token w. silenced d token c.args.context.now.at c.args.branch c.args.method b w)) (sym c.if-is_of_calls.false) holds))
     c.seat_signal.ensures.err

@@ -8,13 +8,13 @@ use Rattle.mmtel_server.proofs.Charging.{charged}
 use Rattle.mmtel_server.proofs.Records.{stopped_unasked}
 use Rattle.mmtel_server.proofs.Runs.{adds_front, adds_on, asked_then, breaks_off, goes_on, waited_in}
 use Rattle.mmtel_server.proofs.servers.Server.step.Goals as goal
+use Rattle.mmtel_server.specs.Seen.{step_state}
 use Rattle.mmtel_server.specs.Stands.{AddsOn, GoesOn}
 use Rattle.mmtel_server.specs.Stepped.{call_of, happened_in}
 
 pub returns-then-self-clause-met : goal.returns-then-self-clause-met
 returns-then-self-clause-met g c =
-    stopped_unasked c.args.self.now c.args.out.now c.args.out.now c.args.event.now (g.K.Keeper.held c.args.keeper.now) (g.K.Keeper.calls c.args.keeper.now) (g.K.Keeper.faults c.args.keeper.now)
-    c.if-self.true
+    stopped_unasked (step_state c.args.self.now c.args.out.now g.K.Keeper c.args.keeper.now) c.args.event.now c.if-self.true
 
 pub returns-in-Ok-clause-done : goal.returns-in-Ok-clause-done
 returns-in-Ok-clause-done g c =
@@ -33,10 +33,8 @@ returns-in-Ok-clause-done g c =
       adds = subst (λ (b : Bool). AddsOn s c.args.out.now (record (c.step_on-done.new.self) { failed = b }) c.step_on-done.new.out one) (sym whole)
           (adds_on c.offers_are_added.ensures.events c.offers_are_added.ensures.deadlines s c.step_on-done.new.self c.args.out.now c.step_on-done.new.out one c.enough_comes.ensures.always (IfOk-at_ok _ c.in-Ok.is c.step_on-done.ensures.done));
       between = went.between;
-      midst = went.midst;
-      mid = went.mid;
       asked = asked_then c.offers_are_added.ensures.events c.offers_are_added.ensures.deadlines s c.args.out.now one
-          (λ (x : Directory). Answers (call_of x.names c.args.event.now) (kept_in a.0.kept) a.0.rows (g.K.Keeper.held c.args.keeper.now) went.between (g.K.Keeper.calls c.args.keeper.now) went.midst)
+          (λ (x : Directory). Answers (call_of x.names c.args.event.now) (kept_in a.0.kept) a.0.rows (g.K.Keeper.held c.args.keeper.now) went.between.held (g.K.Keeper.calls c.args.keeper.now) went.between.calls)
           c.enough_comes.ensures.always went.asked;
       counted = went.counted;
       waited = waited_in c.offers_are_added.ensures.events c.offers_are_added.ensures.deadlines s c.args.out.now one went.waiting went.waited;
@@ -56,10 +54,8 @@ returns-clause-met g c =
         adds_front c.offers_are_added.ensures.events c.offers_are_added.ensures.deadlines c.args.self.now c.args.out.now c.step_on-done.new.out (happened_in c.args.event.now m.kept m.rows took) (m.broke took),
       );
       between = m.between;
-      midst = m.midst;
-      mid = m.mid;
       asked = λ took. asked_then c.offers_are_added.ensures.events c.offers_are_added.ensures.deadlines c.args.self.now c.args.out.now (happened_in c.args.event.now m.kept m.rows took)
-          (λ (x : Directory). Answers (call_of x.names c.args.event.now) m.kept m.rows (g.K.Keeper.held c.args.keeper.now) m.between (g.K.Keeper.calls c.args.keeper.now) m.midst)
+          (λ (x : Directory). Answers (call_of x.names c.args.event.now) m.kept m.rows (g.K.Keeper.held c.args.keeper.now) m.between.held (g.K.Keeper.calls c.args.keeper.now) m.between.calls)
           c.enough_comes.ensures.always (m.asked took);
       counted = m.counted;
       handed = m.handed;

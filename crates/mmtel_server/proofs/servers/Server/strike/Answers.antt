@@ -23,7 +23,7 @@ returns-in-Some-clause-done g c = on_ok_weaker c.sound.result (λ follows first 
     let e : choose (armed_in armed) (queue_of rest) ≡ first =
     same_Some (choose (armed_in armed) (queue_of rest)) first (c.in-Some.ensures.first ∙ (ap (λ (n : ℕ). first_armed n (queue_of s.armed)) c.ms.ensures.number ∙ is)) in
     let by : first.first.at ≤ c.args.now = subst (λ (o : Option Chosen). IsDueIn c.args.now o) is (first_due c.args.now (queue_of s.armed)) in
-    let at : c.moment_by.result ≡ armed.at = c.moment_by.ensures (subst (λ (f : Chosen). f.first.at ≤ c.args.now) (sym e) by) in
+    let at : c.moment_by-at.result ≡ armed.at = c.moment_by-at.ensures (subst (λ (f : Chosen). f.first.at ≤ c.args.now) (sym e) by) in
     let mid : Server = record s { armed = rest } in
     subst (λ (f : Chosen). Follows s c.args.out.now c.sound.new.self c.sound.new.out (λ d token. struck d token f.first f.others)) e
     (on_left (λ d token. alarmed d token armed.at due) s rest c.args.out.now c.sound.new.out c.sound.new.self
@@ -38,7 +38,7 @@ returns-in-Some-clause-err g c = on_err_weaker c.sound.result (λ breaks first i
     let e : choose (armed_in armed) (queue_of rest) ≡ first =
     same_Some (choose (armed_in armed) (queue_of rest)) first (c.in-Some.ensures.first ∙ (ap (λ (n : ℕ). first_armed n (queue_of s.armed)) c.ms.ensures.number ∙ is)) in
     let by : first.first.at ≤ c.args.now = subst (λ (o : Option Chosen). IsDueIn c.args.now o) is (first_due c.args.now (queue_of s.armed)) in
-    let at : c.moment_by.result ≡ armed.at = c.moment_by.ensures (subst (λ (f : Chosen). f.first.at ≤ c.args.now) (sym e) by) in
+    let at : c.moment_by-at.result ≡ armed.at = c.moment_by-at.ensures (subst (λ (f : Chosen). f.first.at ≤ c.args.now) (sym e) by) in
     let mid : Server = record s { armed = rest } in
     subst (λ (f : Chosen). Breaks s c.args.out.now c.sound.new.out (λ d token. struck d token f.first f.others)) e
     (breaks_left (λ d token. alarmed d token armed.at due) s rest c.args.out.now c.sound.new.out

@@ -16,12 +16,12 @@ use Rattle.mmtel_server.proofs.Grows.{stops, takes_fresh}
 use Rattle.mmtel_server.proofs.servers.Server.take_fresh.Goals as goal
 
 pub returns-in-Err-clause-err : goal.returns-in-Err-clause-err
-returns-in-Err-clause-err g c = stops (λ d token. taking_fresh d token c.args.at c.args.key c.args.request) c.args.self.now c.args.out.now c.args.out.now
-    (λ d token w. takes_fresh c.numbers_are_drawn_on.ensures d token c.args.at c.args.key c.args.request w) refl
+returns-in-Err-clause-err g c = stops (λ d token. taking_fresh d token c.args.context.now.at c.args.key c.args.request) c.args.self.now c.args.out.now c.args.out.now
+    (λ d token w. takes_fresh c.numbers_are_drawn_on.ensures d token c.args.context.now.at c.args.key c.args.request w) refl
 
 pub returns-in-Err-course-clause-err : goal.returns-in-Err-course-clause-err
-returns-in-Err-course-clause-err g c = stops (λ d token. taking_fresh d token c.args.at c.args.key c.args.request) c.args.self.now c.args.out.now c.args.out.now
-    (λ d token w. takes_fresh c.numbers_are_drawn_on.ensures d token c.args.at c.args.key c.args.request w) refl
+returns-in-Err-course-clause-err g c = stops (λ d token. taking_fresh d token c.args.context.now.at c.args.key c.args.request) c.args.self.now c.args.out.now c.args.out.now
+    (λ d token w. takes_fresh c.numbers_are_drawn_on.ensures d token c.args.context.now.at c.args.key c.args.request w) refl
 
 pub take-requires : goal.take-requires
 take-requires g c = record {
@@ -36,7 +36,7 @@ returns-clause-done g c = on_ok_weaker c.take.result (λ follows.
     let s = c.args.self.now in
     let merged : World → Bool = λ w. is_merged c.args.key.0 (live w.acts) in
     let full : Directory → World → Bool = λ d w. are_full (calls_in d w).entries in
-    follows_so (course_in c.in-Ok-course.course) (λ d w. course d (merged w) (full d w) (holder_in d m w) m) (λ x d token. taking d token c.args.at c.args.key c.args.request x) s c.args.out.now
+    follows_so (course_in c.in-Ok-course.course) (λ d w. course d (merged w) (full d w) (holder_in d m w) m) (λ x d token. taking d token c.args.context.now.at c.args.key c.args.request x) s c.args.out.now
     (λ d token w have. c.in-Ok-course.ensures.course
     ∙ (ap (λ (b : Bool). course s.directory b c.is_full-full.result (option_map holder_of c.in-Ok.named) m) (c.merged-merged.ensures.live w.acts have.transactions)
     ∙ (ap (λ (b : Bool). course s.directory (merged w) b (option_map holder_of c.in-Ok.named) m) (c.is_full-full.ensures ∙ ap (λ (v : CallsView). are_full v.table.entries) have.calls)
@@ -51,7 +51,7 @@ returns-clause-err g c = on_err_weaker c.take.result (λ breaks.
     let s = c.args.self.now in
     let merged : World → Bool = λ w. is_merged c.args.key.0 (live w.acts) in
     let full : Directory → World → Bool = λ d w. are_full (calls_in d w).entries in
-    breaks_so (course_in c.in-Ok-course.course) (λ d w. course d (merged w) (full d w) (holder_in d m w) m) (λ x d token. taking d token c.args.at c.args.key c.args.request x) s c.args.out.now
+    breaks_so (course_in c.in-Ok-course.course) (λ d w. course d (merged w) (full d w) (holder_in d m w) m) (λ x d token. taking d token c.args.context.now.at c.args.key c.args.request x) s c.args.out.now
     (λ d token w have. c.in-Ok-course.ensures.course
     ∙ (ap (λ (b : Bool). course s.directory b c.is_full-full.result (option_map holder_of c.in-Ok.named) m) (c.merged-merged.ensures.live w.acts have.transactions)
     ∙ (ap (λ (b : Bool). course s.directory (merged w) b (option_map holder_of c.in-Ok.named) m) (c.is_full-full.ensures ∙ ap (λ (v : CallsView). are_full v.table.entries) have.calls)

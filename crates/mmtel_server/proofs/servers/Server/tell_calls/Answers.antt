@@ -9,9 +9,9 @@ returns-in-Ok c = λ directory token before out world did.
     let s = c.args.self.now in
     let peers = s.directory.peers in
     let accounts = s.directory.names.accounts in
-    let heard : InForce → Heard = λ v. record { at = c.args.at; view = v; tokens = s.tokens; signal = c.args.signal } in
+    let heard : InForce → Heard = λ v. record { at = c.args.context.now.at; view = v; tokens = s.tokens; signal = c.args.signal } in
     hear c.records_are_those_kept.ensures.told c.records_are_those_kept.ensures.seen c.numbers_are_drawn_on.ensures
-    directory token before out s world did c.view.ensures.agrees c.args.at c.args.signal
+    directory token before out s world did c.view.ensures.agrees c.args.context.now.at c.args.signal
     c.signal.new.self c.take_rows_of_calls.new.calls c.signal.new.tokens c.in-Ok.emits c.take_rows_of_calls.new.waiting
     (subst (λ (v : InForce). (deeds : List Deed) → Stands peers accounts s.calls deeds → Stands peers accounts c.signal.new.self (Hears (heard v) ∷ deeds)) c.view.ensures.all c.in-Ok.ensures.done)
     (subst (λ (v : InForce). (deeds : List Deed) → Stands peers accounts s.calls deeds → c.in-Ok.emits ≡ (hears_after (site_of s.calls peers accounts) deeds (heard v)).desk.out) c.view.ensures.all c.in-Ok.ensures.emits)

@@ -1,4 +1,4 @@
-use Rattle.std.proofs.Common.{ap, ◌∙◌}
+use Rattle.std.proofs.Common.{List, ℕ, ap, ◌∙◌}
 use Rattle.std.proofs.lemmas.Result.{on_ok_weaker}
 use Rattle.mmtel_directory.specs.declared.directories.Directory.{Directory}
 use Rattle.mmtel_message.specs.Message.{Message}
@@ -12,11 +12,12 @@ use Rattle.mmtel_server.proofs.servers.Server.turn_from_room.Goals as goal
 pub returns-clause-done : goal.returns-clause-done
 returns-clause-done g c = on_ok_weaker c.reply-done.result (λ follows.
     let s = c.args.self.now in
-    let said = c.args.invite.now in
-    follows_so c.in_ok-response.response (λ d w. response_to d.sip c.args.tag.now said (plainly c.args.code)) (λ (m : Message Start) d token. emit_one c.args.at (emit.Reply c.args.key m)) s c.args.out.now
+    let said = c.args.visitor.now.invite.now in
+    follows_so c.in_ok-response.response (λ d w. response_to d.sip c.args.visitor.now.tag.now said (plainly c.args.code)) (λ (m : Message Start) d token. emit_one c.args.context.now.at (emit.Reply c.args.visitor.now.key m)) s c.args.out.now
     (λ d token w have.
     c.in_ok-response.ensures.message
-    ∙ (ap (λ (a : Answer). response_to s.directory.sip c.args.tag.now said a) c.plainly.ensures.answer
-    ∙ ap (λ (x : Directory). response_to x.sip c.args.tag.now said (plainly c.args.code)) have.directory_same))
+    ∙ (ap (λ (a : Answer). response_to s.directory.sip c.bytes.result.now said a) c.plainly.ensures.answer
+    ∙ (ap (λ (t : List ℕ). response_to s.directory.sip t said (plainly c.args.code)) c.bytes.ensures
+    ∙ ap (λ (x : Directory). response_to x.sip c.args.visitor.now.tag.now said (plainly c.args.code)) have.directory_same)))
     c.reply-done.new.self c.reply-done.new.out follows)
     c.reply-done.ensures.done

@@ -1,10 +1,10 @@
-//! The program: the files of the system, the network, a database, the standard output, and the call that does the work. It ends with that call's status.
+//! The program: the files of the system, the network, a journal or a database, the standard output, and the call that does the work. It ends with that call's status.
 #![tactic(auto)]
 
 use mmtel_cli::{DiskFiles, OutSink, out_of_memory, program};
 use mmtel_net::NetLink;
 use mmtel_scan::Text;
-use mmtel_store::SqliteKeeper;
+use mmtel_stores::StoreKeeper;
 use std::alloc::Global;
 use std::io::ErrorKind;
 use std::process::ExitCode;
@@ -22,11 +22,11 @@ fn words(rt: &HostRuntime, alloc: Global) -> io::Result<Vec<Text>> {
     Ok(words)
 }
 
-/// Does what the words say, over the files of the system, the network and a database.
+/// Does what the words say, over the files of the system, the network and a journal or a database.
 fn perform(rt: &HostRuntime, alloc: Global, words: &[Text], out: &mut OutSink<'_>) -> ExitCode {
     let mut files = DiskFiles::new(rt);
     let mut link = NetLink::new(rt);
-    let mut keeper = SqliteKeeper::new(rt);
+    let mut keeper = StoreKeeper::new(rt);
     let status = program(alloc, words, &mut files, &mut link, &mut keeper, out);
     keeper.close();
     drop(link);

@@ -1,0 +1,95 @@
+-- What each method of a keeper over a journal is, as a call of the list: from the call on its journal, and what became of what is held.
+use Rattle.std.proofs.Common.{◌≡◌, inl, inr, ℕ, ◌<◌, ◌^◌, true, false, List, [], ◌∷◌, ◌++◌, length, Option, Some, None, refl, sym, ◌∙◌, subst, arith}
+use Rattle.std.specs.Prelude.{All, Result, OnErr}
+use Rattle.std.proofs.lemmas.List.Elements.{All-nil, All-cons}
+use Rattle.mmtel_types.specs.declared.numbers.Account.{Account}
+use Rattle.mmtel_charging.specs.declared.rows.Row.{Row}
+use Rattle.mmtel_sheet_texts.specs.Texts.{put}
+use Rattle.mmtel_keeper.specs.Kept.{Held}
+use Rattle.mmtel_journal.specs.History.{IsCall}
+use Rattle.mmtel_journal.specs.Payloads.{IsSheet, IsRow, IsPayload, EachOnce, put_sheets, payload_of_sheets, payload_of_rows}
+use Rattle.mmtel_journal.specs.Keepers.{held_of}
+use Rattle.mmtel_journal.specs.Kept.{Changes, IsNoneOr, IsKept}
+use Rattle.mmtel_journal.specs.Migrating.{set_all, sheets_in, AreReplacements}
+use Rattle.mmtel_journal.specs.declared.logs.Log.{Log}
+use Rattle.mmtel_journal.specs.declared.keepers.JournalKeeper.{JournalKeeper}
+use Rattle.mmtel_journal.proofs.Moments.{on_err}
+use Rattle.mmtel_journal.proofs.Calls.{untouched}
+use Rattle.mmtel_journal.proofs.Sheets.{length-in}
+
+module _ {D : Type 0} where
+  pub same_held : (old new : JournalKeeper D) → new.sheets.texts ≡ old.sheets.texts → new.rows.items ≡ old.rows.items → held_of new ≡ held_of old
+  same_held old new sheets rows = λ i. record { sheets = sheets i; rows = rows i }
+
+pub sheet_put : (old new : Held) (account : Account) (text : List ℕ) → IsSheet (account, text) → new.sheets ≡ put account text old.sheets → new.rows ≡ old.rows
+    → Changes (Some (payload_of_sheets ((account, text) ∷ []))) true old new
+sheet_put old new account text is sheets rows =
+    let each : All IsSheet ((account, text) ∷ []) = All-cons IsSheet (account, text) [] is (All-nil IsSheet) in
+    inl ((account, text) ∷ [], record { many = omega arith; each = each; spelled = refl }, λ i. record { sheets = sheets i; rows = rows i })
+
+pub rows_added : (old new : Held) (rows : List Row) → length rows < 2 ^ 64 → All IsRow rows → new.sheets ≡ old.sheets → new.rows ≡ old.rows ++ rows
+    → Changes (Some (payload_of_rows rows)) true old new
+rows_added old new rows many each sheets added = inr (rows, record { many = many; each = each; spelled = refl }, λ i. record { sheets = sheets i; rows = added i })
+
+pub sheets_given : (old new : Held) (found : List (ℕ × (Account × List ℕ))) → AreReplacements old.sheets found → length found < 2 ^ 64 → All IsSheet (sheets_in found)
+    → new.sheets ≡ set_all found old.sheets → new.rows ≡ old.rows → EachOnce old.sheets → Changes (Some (payload_of_sheets (sheets_in found))) true old new
+sheets_given old new found are many each sheets rows once =
+    let whole : new.sheets ≡ put_sheets (sheets_in found) old.sheets = sheets ∙ sym (are.puts once) in
+    inl (sheets_in found, record { many = omega (arith, many, length-in found); each = each; spelled = refl }, λ i. record { sheets = whole i; rows = rows i })
+
+pub sheet_form : (account : Account) (text : List ℕ) → IsSheet (account, text) → IsPayload (payload_of_sheets ((account, text) ∷ []))
+sheet_form account text is =
+    let each : All IsSheet ((account, text) ∷ []) = All-cons IsSheet (account, text) [] is (All-nil IsSheet) in
+    inl ((account, text) ∷ [], record { many = omega arith; each = each; spelled = refl })
+
+pub rows_form : (rows : List Row) → length rows < 2 ^ 64 → All IsRow rows → IsPayload (payload_of_rows rows)
+rows_form rows many each = inr (rows, record { many = many; each = each; spelled = refl })
+
+pub sheets_form : (found : List (ℕ × (Account × List ℕ))) → length found < 2 ^ 64 → All IsSheet (sheets_in found) → IsPayload (payload_of_sheets (sheets_in found))
+sheets_form found many each = inl (sheets_in found, record { many = omega (arith, many, length-in found); each = each; spelled = refl })
+
+module _ {D : Type 0} (honest : D → Type 0) (may_leave : D → List ℕ → Type 0) (clock : D → ℕ) (left_since : D → ℕ → List ℕ → Type 0) (old new : JournalKeeper D) where
+  abbrev IsRefused : Option (List ℕ) → Type 0
+  IsRefused payload = IsKept honest may_leave clock left_since old (record { payload = payload; ok = false }) new
+
+  abbrev IsRefusedCall : Option (List ℕ) → Type 0
+  IsRefusedCall payload = IsCall honest may_leave clock left_since old.log (record { payload = payload; ok = false }) new.log
+
+  refused_none : IsRefusedCall None → new.sheets.texts ≡ old.sheets.texts → new.rows.items ≡ old.rows.items → IsRefused None
+  refused_none log sheets rows = record { log = log; form = tt; held = λ once. same_held old new sheets rows }
+
+  refused_some : (payload : List ℕ) → IsPayload payload → IsRefusedCall (Some payload) → new.sheets.texts ≡ old.sheets.texts → new.rows.items ≡ old.rows.items
+      → IsRefused (Some payload)
+  refused_some payload form log sheets rows = record { log = log; form = form; held = λ once. same_held old new sheets rows }
+
+  -- a call that was refused at its journal
+  pub tried_kept : {T E : Type 0} (payload : List ℕ) → IsPayload payload
+      → IsCall honest may_leave clock left_since old.log (record { payload = Some payload; ok = false }) new.log
+      → new.sheets.texts ≡ old.sheets.texts → new.rows.items ≡ old.rows.items → (r : Result T E)
+      → OnErr r ((tried : Option (List ℕ)) × IsNoneOr payload tried × IsKept honest may_leave clock left_since old (record { payload = tried; ok = false }) new)
+  tried_kept payload form log sheets rows r = on_err _ r (Some payload, refl, refused_some payload form log sheets rows)
+
+  pub tried_some : {T E : Type 0} (payload : List ℕ) → IsPayload payload
+      → IsCall honest may_leave clock left_since old.log (record { payload = Some payload; ok = false }) new.log
+      → new.sheets.texts ≡ old.sheets.texts → new.rows.items ≡ old.rows.items → (r : Result T E)
+      → OnErr r ((tried : Option (List ℕ)) × IsKept honest may_leave clock left_since old (record { payload = tried; ok = false }) new)
+  tried_some payload form log sheets rows r = on_err _ r (Some payload, refused_some payload form log sheets rows)
+
+  module _ (only_now : (d : D) (c : List ℕ) → honest d → left_since d (clock d) c → may_leave d c) where
+    still_none : new.log ≡ old.log → new.sheets.texts ≡ old.sheets.texts → new.rows.items ≡ old.rows.items → IsRefused None
+    still_none same sheets rows =
+        refused_none (subst (λ (l : Log D). IsCall honest may_leave clock left_since old.log (record { payload = None; ok = false }) l) (sym same)
+        (untouched honest may_leave clock left_since only_now old.log None)) sheets rows
+
+    -- a call that was refused before it met the disk
+    pub untouched_kept : {T E : Type 0} → new.log ≡ old.log → new.sheets.texts ≡ old.sheets.texts → new.rows.items ≡ old.rows.items → (r : Result T E)
+        → OnErr r (IsKept honest may_leave clock left_since old (record { payload = None; ok = false }) new)
+    untouched_kept log sheets rows r = on_err _ r (still_none log sheets rows)
+
+    pub untouched_trying : {T E : Type 0} (payload : List ℕ) → new.log ≡ old.log → new.sheets.texts ≡ old.sheets.texts → new.rows.items ≡ old.rows.items → (r : Result T E)
+        → OnErr r ((tried : Option (List ℕ)) × IsNoneOr payload tried × IsKept honest may_leave clock left_since old (record { payload = tried; ok = false }) new)
+    untouched_trying payload log sheets rows r = on_err _ r (None, tt, still_none log sheets rows)
+
+    pub untouched_some : {T E : Type 0} → new.log ≡ old.log → new.sheets.texts ≡ old.sheets.texts → new.rows.items ≡ old.rows.items → (r : Result T E)
+        → OnErr r ((tried : Option (List ℕ)) × IsKept honest may_leave clock left_since old (record { payload = tried; ok = false }) new)
+    untouched_some log sheets rows r = on_err _ r (None, still_none log sheets rows)

@@ -1,0 +1,52 @@
+-- Reading a journal from left to right.
+use Rattle.std.specs.Prelude.{◌≡◌, ◌≢◌, ◌⊎◌, ◌<◌, ◌^◌, ℕ, Bool, true, false, List, [], ◌∷◌, ◌++◌, length, Option, Some, None}
+use Rattle.std.specs.Int.{w64, to_be_bytes}
+use Rattle.mmtel_types.specs.declared.numbers.Account.{Account}
+use Rattle.mmtel_charging.specs.declared.rows.Row.{Row}
+use Rattle.mmtel_keeper.specs.Kept.{Held}
+use Rattle.mmtel_journal.specs.Journal.{spelled}
+use Rattle.mmtel_journal.specs.Keepers.{nothing_held}
+use Rattle.mmtel_journal.specs.Payloads.{AreSheets, AreRows, IsPayload, Adds, AddsAll, put_sheets}
+
+-- the gate that ends a journal stands at this place, behind the records of payloads that come to this
+abbrev pub EndsAt : List ℕ → ℕ → Held → Type 0
+EndsAt bytes at held =
+    (payloads : List (List ℕ)) × (gate : ℕ) × (rest : List ℕ) × (gate ≢ 1) × (bytes ≡ spelled payloads ++ gate ∷ rest) ×
+    (at ≡ length (spelled payloads)) × AddsAll payloads nothing_held held
+
+-- no record begins so
+abbrev pub IsNoRecord : List ℕ → Type 0
+IsNoRecord tail = (payload rest : List ℕ) → length payload < 2 ^ 64 → IsPayload payload → tail ≡ to_be_bytes w64 (length payload) ++ payload ++ rest → ⊥
+
+-- behind the records of some payloads nothing stands at this place, or an open gate with no record behind it
+abbrev pub IsBrokenAt : List ℕ → ℕ → Type 0
+IsBrokenAt bytes at =
+    (payloads : List (List ℕ)) × (rest : List ℕ) × (held : Held) × AddsAll payloads nothing_held held × (bytes ≡ spelled payloads ++ rest) × (at ≡ length (spelled payloads))
+    × ((rest ≡ []) ⊎ ((tail : List ℕ) × (rest ≡ 1 ∷ tail) × IsNoRecord tail))
+
+-- used between the functions of this crate alone
+
+-- an answer, seen by view, is what reading gives
+abbrev pub Gives : {X Y : Type 0} → (X → Y) → Option X → Option Y → Type 0
+Gives view (Some x) read = read ≡ Some (view x)
+Gives view None read = read ≡ None
+
+-- the payload of a record behind its open gate, of whatever it says, and the bytes behind it
+abbrev pub IsFramed : List ℕ → List ℕ → List ℕ → Type 0
+IsFramed tail payload rest = (length payload < 2 ^ 64) × (tail ≡ to_be_bytes w64 (length payload) ++ payload ++ rest)
+
+abbrev pub IsUnframed : List ℕ → Type 0
+IsUnframed tail = (payload rest : List ℕ) → IsFramed tail payload rest → ⊥
+
+-- what reading the sheets or the rows of a payload came to: whether they are of the format, and what they make of those before
+abbrev pub TakesSheets : List ℕ → List (Account × List ℕ) → List (Account × List ℕ) → Bool → Type 0
+TakesSheets payload before after true = (sheets : List (Account × List ℕ)) × AreSheets payload sheets × (after ≡ put_sheets sheets before)
+TakesSheets payload before after false = (sheets : List (Account × List ℕ)) → AreSheets payload sheets → ⊥
+
+abbrev pub TakesRows : List ℕ → List Row → List Row → Bool → Type 0
+TakesRows payload before after true = (rows : List Row) × AreRows payload rows × (after ≡ before ++ rows)
+TakesRows payload before after false = (rows : List Row) → AreRows payload rows → ⊥
+
+abbrev pub TakesPayload : List ℕ → Held → Held → Bool → Type 0
+TakesPayload payload before after true = Adds payload before after
+TakesPayload payload before after false = IsPayload payload → ⊥

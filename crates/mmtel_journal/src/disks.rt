@@ -1,0 +1,119 @@
+//! A disk: what a read gives, and what a stop of the machine may leave.
+ghost use Rattle.std.specs.Prelude.{◌≡◌, ◌≤◌, ◌<◌, ◌↔◌, List, ℕ, length, take, drop, IfOk, OnOk};
+ghost use Rattle.mmtel_journal.specs.Disks.{Only, Leaves, Follows, Torn, Holds, Elapses};
+ghost use Rattle.mmtel_journal.specs.Faults.{HasDiskCause};
+
+use mmtel_scan::NoMemory;
+use std::alloc::AllocError;
+
+/// Why a call of a disk did not do what it was asked.
+#[derive(Clone, Copy, Debug, PartialEq, Eq)]
+pub enum DiskFault {
+    /// The disk could not. It was counted.
+    Failed,
+    /// Memory ran out. It was not counted.
+    NoMemory,
+}
+
+/// A disk, with a count of faults.
+pub trait Disk {
+    /// What a read gives.
+    ghost shown: { Self → List ℕ };
+
+    /// What a stop now may leave.
+    ghost may_leave: { Self → List ℕ → Type 0 };
+
+    /// A number that never falls.
+    ghost clock: { Self → ℕ };
+
+    /// What a stop at some moment since that clock might have left, during a call or between two.
+    ghost left_since: { Self → ℕ → List ℕ → Type 0 };
+
+    /// Whether it keeps what is told of it.
+    ghost honest: { Self → Type 0 };
+
+    /// How many calls answered `Failed`. It never falls, and stays at the greatest u64.
+    ghost faults: { Self → ℕ };
+
+    /// How many bytes there are.
+    fn len(&mut self) -> Result<u64, DiskFault>
+        ensures honest { honest self.old ↔ honest self.new }
+        ensures told { honest self.old → IfOk result (λ len. len ≡ length (shown self.old)) }
+        ensures shown { honest self.old → shown self.new ≡ shown self.old }
+        ensures stop { honest self.old → Leaves (may_leave self.new) (may_leave self.old) }
+        ensures time { honest self.old
+            → Elapses (clock self.old) (clock self.new) (left_since self.old) (left_since self.new)
+            (may_leave self.new) }
+        ensures cause { HasDiskCause (faults self.old) (faults self.new) result };
+
+    /// Reads what stands at a place and behind it into the front of the buffer, as much as it likes, but something where something is. Answers how much.
+    fn read(&mut self, at: u64, buf: &mut [u8]) -> Result<usize, DiskFault>
+        requires { 0 < length buf.old }
+        ensures honest { honest self.old ↔ honest self.new }
+        ensures within { IfOk result (λ count. count ≤ length buf.new) }
+        ensures given { honest self.old
+            → IfOk result (λ count. take count buf.new ≡ take count (drop at (shown self.old))) }
+        ensures some { honest self.old → at < length (shown self.old) → IfOk result (λ count. 0 < count) }
+        ensures shown { honest self.old → shown self.new ≡ shown self.old }
+        ensures stop { honest self.old → Leaves (may_leave self.new) (may_leave self.old) }
+        ensures time { honest self.old
+            → Elapses (clock self.old) (clock self.new) (left_since self.old) (left_since self.new)
+            (may_leave self.new) }
+        ensures cause { HasDiskCause (faults self.old) (faults self.new) result };
+
+    /// Writes over what is there, and past the end. Until a sync, a stop may leave any bytes in the range and past the old end.
+    ///
+    /// # Errors
+    ///
+    /// `Failed` only where the count of faults rose in this call; `NoMemory` leaves the count. So of every call.
+    fn write_at(&mut self, at: u64, bytes: &[u8]) -> Result<(), DiskFault>
+        ensures honest { honest self.old ↔ honest self.new }
+        ensures written { honest self.old
+            → OnOk result (at ≤ length (shown self.old) → Holds (shown self.old) at bytes.now (shown self.new)) }
+        ensures stop { honest self.old
+            → Follows (Torn at (length bytes.now)) (may_leave self.old) (may_leave self.new) }
+        ensures time { honest self.old
+            → Elapses (clock self.old) (clock self.new) (left_since self.old) (left_since self.new)
+            (may_leave self.new) }
+        ensures cause { HasDiskCause (faults self.old) (faults self.new) result };
+
+    /// After it, a stop leaves what a read gives.
+    fn sync(&mut self) -> Result<(), DiskFault>
+        ensures honest { honest self.old ↔ honest self.new }
+        ensures shown { honest self.old → OnOk result (shown self.new ≡ shown self.old) }
+        ensures durable { honest self.old → OnOk result (Only (shown self.old) (may_leave self.new)) }
+        ensures stop { honest self.old → Leaves (may_leave self.new) (may_leave self.old) }
+        ensures time { honest self.old
+            → Elapses (clock self.old) (clock self.new) (left_since self.old) (left_since self.new)
+            (may_leave self.new) }
+        ensures cause { HasDiskCause (faults self.old) (faults self.new) result };
+
+    /// What a read gives is an image.
+    ghost among: { (d : Self) → honest d → may_leave d (shown d) };
+
+    /// This moment is one of those since an earlier one.
+    ghost counts_now: { (d : Self) (t : ℕ) (c : List ℕ) → honest d → t ≤ clock d → may_leave d c → left_since d t c };
+
+    /// Since this moment there is no other.
+    ghost only_now: { (d : Self) (c : List ℕ) → honest d → left_since d (clock d) c → may_leave d c };
+}
+
+impl From<NoMemory> for DiskFault {
+    ghost use Rattle.mmtel_journal.specs.declared.disks.DiskFault.TheVariants as fault;
+
+    ghost from_gives = { λ _ e. e ≡ fault.NoMemory };
+
+    fn from(_error: NoMemory) -> DiskFault {
+        DiskFault::NoMemory
+    }
+}
+
+impl From<AllocError> for DiskFault {
+    ghost use Rattle.mmtel_journal.specs.declared.disks.DiskFault.TheVariants as fault;
+
+    ghost from_gives = { λ _ e. e ≡ fault.NoMemory };
+
+    fn from(_error: AllocError) -> DiskFault {
+        DiskFault::NoMemory
+    }
+}

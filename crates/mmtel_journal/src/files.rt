@@ -1,0 +1,177 @@
+//! A disk over a file of the system: the edge, of which no clause says what it holds.
+ghost use Rattle.std.specs.Prelude.{◌≡◌, [], IfOk, Err};
+ghost use Rattle.mmtel_journal.specs.Faults.{HasDiskCause};
+ghost use Rattle.mmtel_journal.specs.Files.{file_disk_faults};
+
+use crate::disks::{Disk, DiskFault};
+use std::fs::{File, OpenOptions};
+use std::io::ErrorKind;
+use std::os::fd::AsRawFd;
+use std::os::unix::fs::{FileExt, OpenOptionsExt};
+use std::{fs, io};
+
+/// A disk over a file, by its path in UTF-8.
+#[derive(Drop)]
+pub struct FileDisk {
+    file: File,
+    faults: u64,
+}
+
+/// Opens the file of a path to be read and written, and makes it where there is none.
+fn open_or_make(rt: &HostRuntime, path: &str) -> io::Result<File> {
+    let file = OpenOptions::new()
+        .read(true)
+        .write(true)
+        .create(true)
+        .mode(0o644)
+        .open(rt, path)?;
+    if file.as_raw_fd() > 2 {
+        return Ok(file);
+    }
+    // What is meant for a standard stream that was closed must not land in the journal.
+    let moved = file.try_clone();
+    drop(file);
+    moved
+}
+
+/// Takes a file for itself as long as it is open: whoever asks for it is refused meanwhile.
+fn lock(file: &File) -> io::Result<()> {
+    if !file.metadata()?.is_file() {
+        return Err(io::Error::from(ErrorKind::Unsupported));
+    }
+    match file.try_lock() {
+        Ok(()) => Ok(()),
+        Err(_) => Err(io::Error::from(ErrorKind::WouldBlock)),
+    }
+}
+
+/// Syncs the folder in which a file stands, so that the file is found there again.
+fn sync_folder(rt: &HostRuntime, path: &str) -> io::Result<()> {
+    let mut real = fs::canonicalize(rt, path)?;
+    real.pop();
+    let opened = File::open(rt, real.as_str());
+    drop(real);
+    let folder = opened?;
+    let done = folder.sync_all();
+    drop(folder);
+    done
+}
+
+/// Syncs a file and its folder, and gives up the system's copies of what is in it: after a sync of an earlier program that failed they may be other than what the disk has.
+fn sync_with_folder(rt: &HostRuntime, file: &File, path: &str) -> io::Result<()> {
+    file.sync_all()?;
+    let advised = libc::posix_fadvise(file.as_raw_fd(), 0, 0, libc::POSIX_FADV_DONTNEED);
+    if advised != 0 {
+        return Err(io::Error::from_raw_os_error(advised));
+    }
+    sync_folder(rt, path)
+}
+
+/// The file of a path, locked, with what it holds and its name on the disk.
+fn open_file(rt: &HostRuntime, path: &[u8]) -> io::Result<File> {
+    let Ok(path) = str::from_utf8(path) else {
+        return Err(io::Error::from(ErrorKind::InvalidInput));
+    };
+    let file = open_or_make(rt, path)?;
+    if let Err(error) = lock(&file) {
+        drop(file);
+        return Err(error);
+    }
+    match sync_with_folder(rt, &file, path) {
+        Ok(()) => Ok(file),
+        Err(error) => {
+            drop(file);
+            Err(error)
+        }
+    }
+}
+
+impl FileDisk {
+    /// The disk over the file of a path, which is made where there is none. It is locked as long as it is open, and synced with its folder, so that a file that was made is
+    /// found again after a stop.
+    ///
+    /// # Errors
+    ///
+    /// `Failed` where the path is no text, or is of no file, or the system could not open or sync it or its folder, or another has it; nothing counts it here.
+    pub fn at(rt: &HostRuntime, path: &[u8]) -> Result<FileDisk, DiskFault>
+        ensures fresh { IfOk result (λ disk. file_disk_faults disk ≡ 0) }
+    {
+        match open_file(rt, path) {
+            Ok(file) => Ok(FileDisk { file, faults: 0 }),
+            Err(e) if e.kind() == ErrorKind::OutOfMemory => Err(DiskFault::NoMemory),
+            Err(_) => Err(DiskFault::Failed),
+        }
+    }
+
+    /// Counts a fault.
+    fn failed(&mut self) -> DiskFault
+        ensures { HasDiskCause {T = Unit {0}} self.old.faults self.new.faults (Err result) }
+    {
+        self.faults = self.faults.saturating_add(1);
+        DiskFault::Failed
+    }
+
+    /// What a failed call of the system is. It is counted.
+    fn note(&mut self, error: io::Error) -> DiskFault
+        ensures { HasDiskCause {T = Unit {0}} self.old.faults self.new.faults (Err result) }
+    {
+        if error.kind() == ErrorKind::OutOfMemory {
+            return DiskFault::NoMemory;
+        }
+        self.failed()
+    }
+}
+
+impl Disk for FileDisk {
+    ghost shown = { λ _. [] };
+
+    ghost may_leave = { λ _ _. ⊥ };
+
+    ghost clock = { λ _. 0 };
+
+    ghost left_since = { λ _ _ _. ⊥ };
+
+    ghost honest = { λ _. ⊥ };
+
+    ghost faults = { file_disk_faults };
+
+    ghost among = { λ _ h. absurd h };
+
+    ghost counts_now = { λ _ _ _ h _ _. absurd h };
+
+    ghost only_now = { λ _ _ h _. absurd h };
+
+    fn len(&mut self) -> Result<u64, DiskFault> {
+        match self.file.metadata() {
+            Ok(data) => Ok(data.len()),
+            Err(e) => Err(self.note(e)),
+        }
+    }
+
+    fn read(&mut self, at: u64, buf: &mut [u8]) -> Result<usize, DiskFault> {
+        match self.file.read_at(buf, at) {
+            Ok(0) => {
+                if self.len()? > at {
+                    return Err(self.failed());
+                }
+                Ok(0)
+            }
+            Ok(count) => Ok(count),
+            Err(e) => Err(self.note(e)),
+        }
+    }
+
+    fn write_at(&mut self, at: u64, bytes: &[u8]) -> Result<(), DiskFault> {
+        match self.file.write_all_at(bytes, at) {
+            Ok(()) => Ok(()),
+            Err(e) => Err(self.note(e)),
+        }
+    }
+
+    fn sync(&mut self) -> Result<(), DiskFault> {
+        match self.file.sync_data() {
+            Ok(()) => Ok(()),
+            Err(e) => Err(self.note(e)),
+        }
+    }
+}

@@ -1,0 +1,47 @@
+//! What a stop leaves of a keeper's journal, as sheets and rows.
+ghost use Rattle.std.specs.Prelude.{ℕ, List, Result};
+ghost use Rattle.mmtel_journal.specs.Disks.{Leaves, LeavesOnly};
+ghost use Rattle.mmtel_journal.specs.Found.{FindsOrMore, HeldOrMore};
+ghost use Rattle.mmtel_journal.specs.History.{Call, refused_by, tried};
+ghost use Rattle.mmtel_journal.specs.Keepers.{held_of, Keeps};
+ghost use Rattle.mmtel_journal.specs.Kept.{IsKept, AreKept};
+ghost use Rattle.mmtel_journal.specs.Opening.{IsOpening, OpensAs};
+ghost use Rattle.mmtel_journal.specs.declared.opening.JournalFault.{JournalFault as TheFault};
+ghost use Rattle.mmtel_journal.specs.declared.keepers.JournalKeeper.{JournalKeeper as TheKeeper};
+
+use crate::disks::Disk;
+
+/// A law, and no code: over every list of calls, failed ones among them, a stop at any moment, within a call or between two, leaves a journal of the sheets and rows that
+/// the keeper holds then, which are those at first with those of the acknowledged calls, in order; or of these and one call more, whole, that was refused, or under way,
+/// since the last call that was acknowledged.
+pub fn stops_leave_what_is_held<D: Disk>()
+    ensures between { (calls : List Call) (old new : TheKeeper D) (payloads refused : List (List ℕ))
+        → D.honest old.log.disk → Keeps D.may_leave payloads refused old
+        → AreKept D.honest D.may_leave D.clock D.left_since old calls new
+        → Leaves (D.may_leave new.log.disk) (FindsOrMore (held_of new) (refused_by refused calls)) }
+    ensures within { (calls : List Call) (old mid new : TheKeeper D) (call : Call) (payloads refused : List (List ℕ))
+        → D.honest old.log.disk
+        → Keeps D.may_leave payloads refused old
+        → AreKept D.honest D.may_leave D.clock D.left_since old calls mid
+        → IsKept D.honest D.may_leave D.clock D.left_since mid call new
+        → LeavesOnly D.clock D.left_since mid.log.disk new.log.disk
+        (FindsOrMore (held_of mid) (tried (refused_by refused calls) call)) }
+{}
+
+/// A law, and no code: whatever such a stop leaves, opening it finds what is held then, or what one call more makes of it, whole, that was refused, or under way, since the last
+/// call that was acknowledged; unless the disk could not or memory ran out. It is never broken.
+pub fn stops_are_opened<D: Disk, E: Disk>()
+    ensures between { (calls : List Call) (old new : TheKeeper D) (payloads refused : List (List ℕ)) (c : List ℕ)
+        (opened : Result (TheKeeper E) (E × TheFault))
+        → D.honest old.log.disk
+        → Keeps D.may_leave payloads refused old → AreKept D.honest D.may_leave D.clock D.left_since old calls new
+        → D.may_leave new.log.disk c → IsOpening c opened
+        → OpensAs (HeldOrMore (held_of new) (refused_by refused calls)) opened }
+    ensures within { (calls : List Call) (old mid new : TheKeeper D) (call : Call) (payloads refused : List (List ℕ))
+        (c : List ℕ) (opened : Result (TheKeeper E) (E × TheFault))
+        → D.honest old.log.disk
+        → Keeps D.may_leave payloads refused old → AreKept D.honest D.may_leave D.clock D.left_since old calls mid
+        → IsKept D.honest D.may_leave D.clock D.left_since mid call new
+        → D.left_since new.log.disk (D.clock mid.log.disk) c → IsOpening c opened
+        → OpensAs (HeldOrMore (held_of mid) (tried (refused_by refused calls) call)) opened }
+{}

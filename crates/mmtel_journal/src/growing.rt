@@ -1,0 +1,88 @@
+//! What a call of a keeper grows in memory before its first call of the disk.
+ghost use Rattle.std.specs.Prelude.{◌≡◌, ◌++◌, ◌+◌, ◌∷◌, [], ◌≤◌, ◌<◌, length, All, IfOk, OnOk};
+ghost use Rattle.std.specs.Vec.{vec_capacity, vec_len};
+ghost use Rattle.mmtel_journal.specs.Logs.{body_of};
+ghost use Rattle.mmtel_journal.specs.Payloads.{IsSheet, IsRow, payload_of_sheets, payload_of_rows};
+
+use crate::writing::{rows_body, sheet_body};
+use mmtel_charging::Row;
+use mmtel_scan::{List, NoMemory, Text};
+use mmtel_sheet_texts::SheetTexts;
+use mmtel_types::Account;
+use std::alloc::Global;
+
+/// Makes room for more rows.
+fn make_room(kept: &mut Vec<Row>, more: usize) -> Result<(), NoMemory>
+    ensures same { kept.new.items ≡ kept.old.items }
+    ensures room { OnOk result (vec_len kept.new + more ≤ vec_capacity kept.new) }
+{
+    kept.reserve(more)?;
+    Ok(())
+}
+
+/// Adds rows for which there is room.
+pub fn add_reserved(kept: &mut Vec<Row>, rows: &[Row])
+    requires { vec_len kept.old + length rows.now ≤ vec_capacity kept.old }
+    ensures added { kept.new.items ≡ kept.old.items ++ rows.now }
+{
+    for row in rows {
+        kept.push_reserved(*row);
+    }
+}
+
+/// A copy of the sheets.
+pub fn copy_sheets(
+    alloc: Global,
+    sheets: &[(Account, Text)],
+) -> Result<List<(Account, Text)>, NoMemory>
+    ensures copied { IfOk result (λ copied. copied ≡ sheets.now) }
+{
+    let mut copied = List::new();
+    for sheet in sheets {
+        let text = Text::of(alloc, sheet.1.bytes())?;
+        copied.push(alloc, (sheet.0, text))?;
+    }
+    Ok(copied)
+}
+
+/// A copy of the rows as a list.
+pub fn copy_rows(alloc: Global, rows: &[Row]) -> Result<List<Row>, NoMemory>
+    ensures copied { IfOk result (λ copied. copied ≡ rows.now) }
+{
+    let mut copied = List::new();
+    for row in rows {
+        copied.push(alloc, *row)?;
+    }
+    Ok(copied)
+}
+
+/// Makes all growths of a store: the text, what is written behind the gate, and room for a sheet.
+pub fn grow_sheets(
+    alloc: Global,
+    sheets: &mut SheetTexts,
+    account: Account,
+    text: &[u8],
+) -> Result<(Text, Vec<u8>), NoMemory>
+    ensures same { sheets.new.texts ≡ sheets.old.texts }
+    ensures room { OnOk result (0 < sheets.new.room) }
+    ensures text { IfOk result (λ grown. grown.0 ≡ text.now) }
+    ensures fits { OnOk result (IsSheet (account, text.now)) }
+    ensures body { IfOk result (λ grown. grown.1.items ≡ body_of (payload_of_sheets ((account, text.now) ∷ []))) }
+{
+    let kept = Text::of(alloc, text)?;
+    let body = sheet_body(alloc, account, text)?;
+    sheets.reserve(alloc)?;
+    Ok((kept, body))
+}
+
+/// Makes all growths of rows that are added.
+pub fn grow_rows(alloc: Global, kept: &mut Vec<Row>, rows: &[Row]) -> Result<Vec<u8>, NoMemory>
+    ensures same { kept.new.items ≡ kept.old.items }
+    ensures room { OnOk result (vec_len kept.new + length rows.now ≤ vec_capacity kept.new) }
+    ensures fits { OnOk result (All IsRow rows.now) }
+    ensures body { IfOk result (λ body. body.items ≡ body_of (payload_of_rows rows.now)) }
+{
+    let body = rows_body(alloc, rows)?;
+    make_room(kept, rows.len())?;
+    Ok(body)
+}

@@ -1,0 +1,24 @@
+//! A keeper over a journal on a disk.
+#![tactic(auto)]
+
+mod appends;
+mod disks;
+mod fields;
+mod files;
+pub mod found;
+mod growing;
+pub mod history;
+mod keepers;
+mod logs;
+mod memory;
+mod migration;
+mod opening;
+mod payloads;
+mod reading;
+mod writing;
+
+pub use disks::{Disk, DiskFault};
+pub use files::FileDisk;
+pub use keepers::JournalKeeper;
+pub use memory::MemoryDisk;
+pub use opening::{JournalFault, make};

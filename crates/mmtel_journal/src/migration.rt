@@ -1,0 +1,53 @@
+//! Records of the first version that are held give way to records of the second.
+ghost use Rattle.std.specs.Prelude.{◌≡◌, length, All, IfOk, OnOk};
+ghost use Rattle.mmtel_journal.specs.Logs.{body_of};
+ghost use Rattle.mmtel_journal.specs.Migrating.{AreReplacements, AreWithin, set_all, sheets_in};
+ghost use Rattle.mmtel_journal.specs.Payloads.{IsSheet, payload_of_sheets};
+
+use crate::writing::{body_around, payload_head, put_sheet};
+use mmtel_keeper::migrated;
+use mmtel_scan::{List, NoMemory, Text};
+use mmtel_sheet_texts::SheetTexts;
+use mmtel_types::Account;
+use std::alloc::Global;
+
+/// The records that stand in the place of those of the first version, each with its place among the sheets and its account.
+pub fn replacements(
+    alloc: Global,
+    sheets: &[(Account, Text)],
+) -> Result<List<(usize, (Account, Text))>, NoMemory>
+    ensures replaced { IfOk result (AreReplacements sheets.now) }
+{
+    let mut found = List::new();
+    let mut at: usize = 0;
+    for sheet in sheets {
+        if let Some(text) = migrated(alloc, sheet.1.bytes())? {
+            found.push(alloc, (at, (sheet.0, text)))?;
+        }
+        at += 1;
+    }
+    Ok(found)
+}
+
+/// What is written behind a gate for them.
+pub fn replaced_body(alloc: Global, found: &[(usize, (Account, Text))]) -> Result<Vec<u8>, NoMemory>
+    ensures fits { OnOk result (All IsSheet (sheets_in found.now)) }
+    ensures body { IfOk result (λ body. body.items ≡ body_of (payload_of_sheets (sheets_in found.now))) }
+{
+    let mut payload = payload_head(alloc, 1, found.len() as u64)?;
+    for new in found {
+        put_sheet(&mut payload, new.1.0, new.1.1.bytes())?;
+    }
+    body_around(alloc, payload.as_slice())
+}
+
+/// Puts each in its place. It takes no memory.
+pub fn put_all(sheets: &mut SheetTexts, found: List<(usize, (Account, Text))>)
+    requires { AreWithin (length sheets.old.texts) found }
+    ensures put { sheets.new.texts ≡ set_all found sheets.old.texts }
+{
+    let mut found = found;
+    'found: while let Some((at, (_account, text))) = found.pop() {
+        sheets.set(at, text);
+    }
+}

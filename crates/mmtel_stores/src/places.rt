@@ -1,0 +1,127 @@
+//! Where a keeper keeps.
+
+use mmtel_charging::Row;
+use mmtel_journal::{Disk, FileDisk, JournalFault, JournalKeeper, make};
+use mmtel_keeper::{KeepFault, Keeper};
+use mmtel_scan::{List, Text};
+use mmtel_store::SqliteKeeper;
+use mmtel_types::Account;
+use std::alloc::Global;
+
+/// What a path names.
+#[derive(Drop)]
+pub enum Place<'a> {
+    /// A journal in a file.
+    Journal(JournalKeeper<FileDisk>),
+    /// A database.
+    Database(SqliteKeeper<'a>),
+}
+
+/// What a fault of a journal is for its keeper. A journal that is broken is one.
+fn fault_of(fault: JournalFault) -> KeepFault {
+    match fault {
+        JournalFault::NoMemory => KeepFault::NoMemory,
+        _ => KeepFault::Failed,
+    }
+}
+
+/// The file of a name behind the words that choose a journal; None where the path has none of them.
+pub fn journal_name(path: &[u8]) -> Option<&[u8]> {
+    match path {
+        [b'j', b'o', b'u', b'r', b'n', b'a', b'l', b':', name @ ..] => Some(name),
+        _ => None,
+    }
+}
+
+/// Whether a file begins as each journal does that a server wrote: with a gate that is closed or open. By its form any other byte is a closed one too; but a file of something
+/// else that was named by mistake is not to be written over.
+fn begins_with_gate(disk: &mut FileDisk) -> Result<bool, JournalFault> {
+    let mut first = [0; 1];
+    let count = disk.read(0, &mut first)?;
+    Ok(count == 1 && first[0] <= 1)
+}
+
+/// Syncs what a keeper before this wrote, so that what is found stays; and makes a journal where there is nothing.
+fn begin(disk: &mut FileDisk) -> Result<(), JournalFault> {
+    disk.sync()?;
+    if disk.len()? == 0 {
+        return make(disk);
+    }
+    if !begins_with_gate(disk)? {
+        return Err(JournalFault::Broken { at: 0 });
+    }
+    Ok(())
+}
+
+/// Opens the journal of a file, and makes one where the file is empty or there is none.
+pub fn open_journal<'a>(
+    rt: &'a HostRuntime,
+    alloc: Global,
+    name: &[u8],
+) -> Result<Place<'a>, KeepFault> {
+    let mut disk = FileDisk::at(rt, name)?;
+    if let Err(fault) = begin(&mut disk) {
+        drop(disk);
+        return Err(fault_of(fault));
+    }
+    match JournalKeeper::open(alloc, disk) {
+        Ok(keeper) => Ok(Place::Journal(keeper)),
+        Err((disk, fault)) => {
+            drop(disk);
+            Err(fault_of(fault))
+        }
+    }
+}
+
+/// Opens the database of a path.
+pub fn open_database<'a>(
+    rt: &'a HostRuntime,
+    alloc: Global,
+    path: &[u8],
+) -> Result<Place<'a>, KeepFault> {
+    let mut keeper = SqliteKeeper::new(rt);
+    match keeper.bind(alloc, path) {
+        Ok(()) => Ok(Place::Database(keeper)),
+        Err(fault) => {
+            keeper.close();
+            Err(fault)
+        }
+    }
+}
+
+impl Place<'_> {
+    pub fn migrate(&mut self, alloc: Global) -> Result<u64, KeepFault> {
+        match self {
+            Place::Journal(keeper) => keeper.migrate(alloc),
+            Place::Database(keeper) => keeper.migrate(alloc),
+        }
+    }
+
+    pub fn load(&mut self, alloc: Global) -> Result<List<(Account, Text)>, KeepFault> {
+        match self {
+            Place::Journal(keeper) => keeper.load(alloc),
+            Place::Database(keeper) => keeper.load(alloc),
+        }
+    }
+
+    pub fn store(&mut self, alloc: Global, account: Account, text: &[u8]) -> Result<(), KeepFault> {
+        match self {
+            Place::Journal(keeper) => keeper.store(alloc, account, text),
+            Place::Database(keeper) => keeper.store(alloc, account, text),
+        }
+    }
+
+    pub fn add_rows(&mut self, alloc: Global, rows: &[Row]) -> Result<(), KeepFault> {
+        match self {
+            Place::Journal(keeper) => keeper.add_rows(alloc, rows),
+            Place::Database(keeper) => keeper.add_rows(alloc, rows),
+        }
+    }
+
+    pub fn rows(&mut self, alloc: Global) -> Result<List<Row>, KeepFault> {
+        match self {
+            Place::Journal(keeper) => keeper.rows(alloc),
+            Place::Database(keeper) => keeper.rows(alloc),
+        }
+    }
+}

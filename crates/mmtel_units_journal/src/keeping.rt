@@ -1,0 +1,76 @@
+//! Calls of a keeper that a table asks for, and what it holds.
+
+use mmtel_charging::{Kind, Row};
+use mmtel_keeper::{KeepFault, Keeper};
+use mmtel_told::Told;
+use mmtel_types::{Account, CallNo, Cause, Moment};
+
+/// A record of 38 bytes.
+const SHEET: &[u8] = b"[communication-waiting]\nactive = true\n";
+
+/// A row that is told by one digit, which is how many times its call was held.
+fn row(digit: u8) -> Option<Row> {
+    let began = Moment::new(1_700_000_000_000)?;
+    Some(Row {
+        kind: Kind::Terminating,
+        account: Account(2),
+        call: CallNo(1),
+        began,
+        answered: Some(began),
+        ended: began,
+        holds: u32::from(digit),
+        cause: Cause::TooManyDiversions { busy: true },
+    })
+}
+
+/// Tells what a call came to.
+pub fn add_kept(told: &mut Told, done: Result<(), KeepFault>) {
+    match done {
+        Ok(()) => told.add(b"ok"),
+        Err(KeepFault::Failed) => told.add(b"failed"),
+        Err(KeepFault::NoMemory) => told.fail(),
+    }
+}
+
+/// Keeps the record for the account of a digit, and tells what came of it.
+pub fn add_record<K: Keeper>(told: &mut Told, keeper: &mut K, digit: u8) {
+    let account = Account(u32::from(digit.saturating_sub(b'0')));
+    let done = keeper.store(told.alloc, account, SHEET);
+    add_kept(told, done);
+}
+
+/// Adds the rows of two digits, and tells what came of it.
+pub fn add_rows<K: Keeper>(told: &mut Told, keeper: &mut K, digits: &[u8]) {
+    let [one, other] = digits else {
+        return told.fail();
+    };
+    let (Some(one), Some(other)) = (
+        row(one.saturating_sub(b'0')),
+        row(other.saturating_sub(b'0')),
+    ) else {
+        return told.fail();
+    };
+    let done = keeper.add_rows(told.alloc, &[one, other]);
+    add_kept(told, done);
+}
+
+/// Tells the accounts of the sheets, and the digits of the rows.
+pub fn add_held<K: Keeper>(told: &mut Told, keeper: &mut K) {
+    let loaded = keeper.load(told.alloc);
+    if let Some(sheets) = told.noted(loaded) {
+        for sheet in sheets.items() {
+            told.add_number(u64::from(sheet.0.0));
+            told.add(b":");
+            told.add_number(sheet.1.bytes().len() as u64);
+            told.add(b".");
+        }
+        drop(sheets);
+    }
+    let listed = keeper.rows(told.alloc);
+    if let Some(rows) = told.noted(listed) {
+        for row in rows.items() {
+            told.add_number(u64::from(row.holds));
+        }
+        drop(rows);
+    }
+}

@@ -1,0 +1,110 @@
+//! A keeper over a journal or a database in files, whichever a path names: bound again, and to what is none.
+
+use crate::keeping::{add_held, add_kept, add_record, add_rows};
+use mmtel_keeper::Keeper;
+use mmtel_stores::StoreKeeper;
+use mmtel_told::{Rows, Told, wrong_line};
+
+/// A keeper whose calls a table asks for, and another. Both have to be closed.
+struct Stored<'a> {
+    keeper: StoreKeeper<'a>,
+    other: StoreKeeper<'a>,
+}
+
+/// Binds a keeper, and tells what came of it.
+fn add_bound(told: &mut Told, keeper: &mut StoreKeeper<'_>, path: &[u8]) {
+    let done = keeper.bind(told.alloc, path);
+    add_kept(told, done);
+}
+
+impl Rows for Stored<'_> {
+    fn tell(&mut self, told: &mut Told, asked: &[u8]) {
+        match asked {
+            [b'b', path @ ..] => add_bound(told, &mut self.keeper, path),
+            [b'o', path @ ..] => add_bound(told, &mut self.other, path),
+            [b's', account] => add_record(told, &mut self.keeper, *account),
+            [b'a', digits @ ..] => add_rows(told, &mut self.keeper, digits),
+            _ => add_held(told, &mut self.keeper),
+        }
+        told.add(b"\n");
+    }
+}
+
+/// `b` binds the keeper to the path behind it, and `o` another keeper; `s` stores the record for the account of a digit, `a` adds the rows of two digits, `h` tells what is held.
+const STORING: &[u8] = b"> s1
+failed
+> bjournal:keeper.journal
+ok
+> s2
+ok
+> a12
+ok
+> h
+2:38.12
+> bjournal:keeper.journal
+ok
+> h
+2:38.12
+> ojournal:keeper.journal
+failed
+> bstore.db
+ok
+> h
+
+> s3
+ok
+> a34
+ok
+> ojournal:keeper.journal
+ok
+> bjournal:keeper.journal
+failed
+> ojournal:other.journal
+ok
+> bjournal:keeper.journal
+ok
+> a56
+ok
+> h
+2:38.1256
+> bstore.db
+ok
+> h
+3:38.34
+> bjournal:no/folder/keeper.journal
+failed
+> s4
+failed
+> bjournal:
+failed
+> bjournal:store.db
+failed
+> bkeeper.journal
+failed
+> bjournal:keeper.journal
+ok
+> h
+2:38.1256
+> bstore.db
+ok
+> h
+3:38.34
+";
+
+/// The first line of the table that is wrong.
+fn wrong_stored(rt: &HostRuntime, table: &[u8]) -> usize {
+    let mut stored = Stored {
+        keeper: StoreKeeper::new(rt),
+        other: StoreKeeper::new(rt),
+    };
+    let wrong = wrong_line(rt.alloc(), &mut stored, table);
+    let Stored { keeper, other } = stored;
+    keeper.close();
+    other.close();
+    wrong
+}
+
+#[test]
+fn stores_in_files(rt: HostRuntime) {
+    assert_eq!(rt; wrong_stored(&rt, STORING), 0);
+}

@@ -59,7 +59,7 @@ fn writes_lines(alloc: Global, script: &[u8], due: &[u8]) -> bool {
 }
 
 /// The same of a listing of a table.
-fn is_right(alloc: Global, script: &[u8], listing: &[u8]) -> bool {
+pub fn is_right(alloc: Global, script: &[u8], listing: &[u8]) -> bool {
     let mut lines = Page::new(alloc);
     add_lines(&mut lines, listing);
     let right = writes_lines(alloc, script, lines.bytes());

@@ -142,7 +142,7 @@ x6b696e642c6163636f756e742c63616c6c2c626567616e2c616e7377657265642c656e6465642c6
 "#;
 
 /// The table, for several tests.
-fn failing_runs() -> &'static [u8] {
+pub fn failing_runs() -> &'static [u8] {
     FAILING
 }
 

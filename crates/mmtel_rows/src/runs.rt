@@ -8,6 +8,7 @@ use crate::settings::{
     behind_settings, bytes_of, config, first_setting, named, numbers, of_pair, setting,
 };
 use mmtel_cli::{Keeper, MemoryFiles, MemoryKeeper, MemorySink, run};
+use mmtel_journal::{JournalKeeper, MemoryDisk, make};
 use mmtel_scan::{List, Text, part, plain_number, skip_text};
 use mmtel_types::Account;
 
@@ -74,7 +75,7 @@ fn files(page: &mut Page, script: &[u8], first: bool) -> MemoryFiles {
 }
 
 /// The keeper holds one record more.
-fn store(page: &mut Page, keeper: &mut MemoryKeeper, record: &[u8]) {
+fn store<K: Keeper>(page: &mut Page, keeper: &mut K, record: &[u8]) {
     let (digits, text) = named(page, record);
     let account = match plain_number(99, digits) {
         Some(number) => number as u32,
@@ -86,7 +87,7 @@ fn store(page: &mut Page, keeper: &mut MemoryKeeper, record: &[u8]) {
 }
 
 /// The keeper holds the records that the settings name.
-fn store_all(page: &mut Page, keeper: &mut MemoryKeeper, script: &[u8]) {
+fn store_all<K: Keeper>(page: &mut Page, keeper: &mut K, script: &[u8]) {
     let mut rest = script;
     for _ in 0..12 {
         match first_setting(rest) {
@@ -101,10 +102,14 @@ fn store_all(page: &mut Page, keeper: &mut MemoryKeeper, script: &[u8]) {
     }
 }
 
-fn keeper(page: &mut Page, script: &[u8]) -> MemoryKeeper {
-    let mut keeper = MemoryKeeper::new(numbers(page, script, b"keeps:"));
-    store_all(page, &mut keeper, script);
-    keeper
+/// A keeper over a journal that is made on a disk in memory: `make` takes three calls of the disk, and `open` two.
+fn journal(page: &mut Page, script: &[u8]) -> Option<JournalKeeper<MemoryDisk>> {
+    let failing = numbers(page, script, b"disk:");
+    let mut disk = MemoryDisk::new(page.alloc, failing);
+    let made = make(&mut disk);
+    page.keep(made.is_ok());
+    let opened = JournalKeeper::open(page.alloc, disk);
+    page.noted(opened)
 }
 
 fn add_word(page: &mut Page, words: &mut List<Text>, word: &[u8]) {
@@ -139,12 +144,12 @@ fn texts(page: &mut Page, words: &[u8]) -> List<Text> {
 }
 
 /// Writes the status of a run of these words over these files, a line end, what the run writes to the sink, and what the link was given.
-fn tell_over(
+fn tell_over<K: Keeper>(
     page: &mut Page,
     script: &[u8],
     words: &[Text],
     files: &mut MemoryFiles,
-    keeper: &mut MemoryKeeper,
+    keeper: &mut K,
     sink: &mut MemorySink,
 ) {
     let mut link = link(page, script);
@@ -157,12 +162,12 @@ fn tell_over(
 }
 
 /// The same over a sink as the settings say.
-fn tell_to_sink(
+fn tell_to_sink<K: Keeper>(
     page: &mut Page,
     script: &[u8],
     words: &[Text],
     files: &mut MemoryFiles,
-    keeper: &mut MemoryKeeper,
+    keeper: &mut K,
 ) {
     let failing = numbers(page, script, b"writes:");
     let room = bytes_of(script, b"room:");
@@ -178,7 +183,7 @@ fn tell_to_sink(
 }
 
 /// The same of these words, over files as the settings say.
-fn tell_run(page: &mut Page, script: &[u8], first: bool, words: &[u8], keeper: &mut MemoryKeeper) {
+fn tell_run<K: Keeper>(page: &mut Page, script: &[u8], first: bool, words: &[u8], keeper: &mut K) {
     let words = texts(page, words);
     let mut files = files(page, script, first);
     tell_to_sink(page, script, words.items(), &mut files, keeper);
@@ -187,12 +192,12 @@ fn tell_run(page: &mut Page, script: &[u8], first: bool, words: &[u8], keeper: &
 }
 
 /// Makes the first of two runs, whose status is due.
-fn run_before(
+fn run_before<K: Keeper>(
     page: &mut Page,
     script: &[u8],
     first: bool,
     words: &[u8],
-    keeper: &mut MemoryKeeper,
+    keeper: &mut K,
 ) {
     let mut before = Page::new(page.alloc);
     tell_run(&mut before, script, first, words, keeper);
@@ -202,7 +207,7 @@ fn run_before(
 }
 
 /// Tells the one run, or the second of two over one keeper.
-fn tell_runs(page: &mut Page, script: &[u8], first: bool, keeper: &mut MemoryKeeper) {
+fn tell_runs<K: Keeper>(page: &mut Page, script: &[u8], first: bool, keeper: &mut K) {
     let words = setting(script, b"words:").unwrap_or(REPLAY);
     match setting(script, b"then:") {
         None => tell_run(page, script, first, words, keeper),
@@ -213,9 +218,26 @@ fn tell_runs(page: &mut Page, script: &[u8], first: bool, keeper: &mut MemoryKee
     }
 }
 
+/// Tells the runs over a keeper that holds the records that the settings name.
+fn tell_keeping<K: Keeper>(page: &mut Page, script: &[u8], first: bool, keeper: &mut K) {
+    store_all(page, keeper, script);
+    tell_runs(page, script, first, keeper);
+}
+
+/// Tells the runs over a keeper over a journal.
+fn tell_over_journal(page: &mut Page, script: &[u8], first: bool) {
+    if let Some(mut keeper) = journal(page, script) {
+        tell_keeping(page, script, first, &mut keeper);
+        drop(keeper);
+    }
+}
+
 /// Writes the status of the run of a script, with the first or the second of each two, a line end, and what the run writes; where there is a second run, these of that one.
 pub fn tell(page: &mut Page, script: &[u8], first: bool) {
-    let mut keeper = keeper(page, script);
-    tell_runs(page, script, first, &mut keeper);
+    if setting(script, b"journal").is_some() {
+        return tell_over_journal(page, script, first);
+    }
+    let mut keeper = MemoryKeeper::new(numbers(page, script, b"keeps:"));
+    tell_keeping(page, script, first, &mut keeper);
     drop(keeper);
 }

@@ -2,7 +2,8 @@
 //!
 //! `=words:` the words of the run, parted by `|`; `=config:` another configuration, and `=further:` lines behind it, each ended by `;` (LF) or `^;` (CR LF), and of a pair of
 //! runs `=one:` those behind the one and `=other:` behind the other; `=no-config` and `=no-script` where that file is not there; `=file:NAME LINES` one more; `=record:ACCOUNT LINES` what the keeper holds before; `=reads:`, `=keeps:`, `=writes:` and
-//! `=link:` the numbers of the reads, of the keeper's calls, of the writes and of the link's calls that fail; `=room:` and `=most:` how many bytes the sink takes in all
+//! `=link:` the numbers of the reads, of the keeper's calls, of the writes and of the link's calls that fail; `=journal` where the keeper is one over a journal in memory, and then
+//! `=disk:` in the place of `=keeps:` the numbers of the calls of its disk that fail; `=room:` and `=most:` how many bytes the sink takes in all
 //! and in one write; `=then:` the words of a second run over the same keeper, and `=before:` the status of the first one, 0 where it is not there.
 //!
 //! With `=link:`, which may name no call, what the script tells comes over a link too, and what that link was given is told behind what was written: each datagram behind the

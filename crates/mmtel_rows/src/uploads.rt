@@ -127,7 +127,12 @@ at 1 web|HTTP/1.1 200 OK|Content-Type: application/toml|Content-Length: 38|Conne
 x5b636f6d6d756e69636174696f6e2d77616974696e675d0a616374697665203d20747275650a
 "#;
 
+/// The table, for another module's test too.
+pub fn upload_runs() -> &'static [u8] {
+    UPLOADS
+}
+
 #[test]
 fn uploads(rt: HostRuntime) {
-    assert_right(&rt, "UPLOADS", wrong_run(rt.alloc(), UPLOADS));
+    assert_right(&rt, "UPLOADS", wrong_run(rt.alloc(), upload_runs()));
 }

@@ -5,7 +5,7 @@ use Rattle.mmtel_rules.specs.Conditions.{condition_holds}
 use Rattle.mmtel_rules.specs.Identities.{identity_holds}
 use Rattle.mmtel_lex.specs.SameIdentity.{is_same_identity}
 use Rattle.mmtel_precedence.specs.Outcome.{outcome_from}
-use Rattle.mmtel_units_services.specs.Rows.{AreOutcomes}
+use Rattle.mmtel_units_services.specs.Rows.{AreEnds, AreOutcomes}
 
 pub are_outcomes : AreOutcomes
 unfolding outcome_from condition_holds identity_holds is_same_identity in_class
@@ -54,4 +54,18 @@ are_outcomes = record {
   caller_alone = refl;
   target_alone = refl;
   record_of_the_attempt = refl;
+}
+
+pub are_ends : AreEnds
+are_ends = record {
+  trying = refl;
+  ringing = refl;
+  progress = refl;
+  provisional = refl;
+  success = refl;
+  last_success = refl;
+  gave_up_ringing = refl;
+  gave_up = refl;
+  after_gave_up = λ c. refl;
+  after_answer = λ c. refl;
 }

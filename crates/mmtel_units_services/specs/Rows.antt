@@ -3,6 +3,7 @@
 use Rattle.std.specs.Prelude.{◌≡◌, ◌==◌, ℕ, Bool, true, false, if◌then◌else◌, List, [], ◌∷◌, Option, Some, None, codes}
 use Rattle.mmtel_types.specs.declared.causes.Cause.TheVariants as causes
 use Rattle.mmtel_types.specs.declared.numbers.Account.{Account}
+use Rattle.mmtel_types.specs.declared.numbers.Peer.{Peer}
 use Rattle.mmtel_types.specs.declared.privacy.PrivacySet.{PrivacySet}
 use Rattle.mmtel_lex.specs.SameIdentity.{is_same_identity}
 use Rattle.mmtel_lex.specs.declared.values.Uri.{Uri}
@@ -16,9 +17,12 @@ use Rattle.mmtel_sheet_values.specs.declared.values.Rule.{Rule}
 use Rattle.mmtel_sheet_values.specs.declared.values.Sheet.{Sheet}
 use Rattle.mmtel_targets.specs.declared.served.RegistrationState.TheVariants.{Registered, Unregistered}
 use Rattle.mmtel_targets.specs.declared.served.Served.{Served}
+use Rattle.mmtel_rules.specs.Circumstances.{Circumstances}
 use Rattle.mmtel_precedence.specs.Services.{AccountState, DueDiversion}
-use Rattle.mmtel_precedence.specs.Calls.{Answer, UserBusy, NoReply, Deflection, Standing, Call, Offer, NotOffered, Offered, Target, Result, Pending, Answered, Final, Outcome}
+use Rattle.mmtel_precedence.specs.Attempts.{CallerGaveUp, Response, end_by}
+use Rattle.mmtel_precedence.specs.Calls.{Answer, Cancel, UserBusy, NoReply, Deflection, Standing, Call, Offer, NotOffered, Offered, Target, Result, Pending, Answered, Final, Outcome}
 use Rattle.mmtel_precedence.specs.Outcome.{outcome}
+use Rattle.mmtel_precedence.specs.Turns.{EndAnswered, EndRefuse, turn_on}
 
 -- ---- parties
 
@@ -126,6 +130,9 @@ free = of_account empty_sheet true 0
 abbrev pub number : ℕ → Account
 number n = record { 0 = n }
 
+abbrev pub peer : ℕ → Peer
+peer n = record { 0 = n }
+
 abbrev pub account_of : Uri → Option Account
 account_of u = if is_same_identity bob u then Some (number 2) else if is_same_identity carol u then Some (number 3) else None
 
@@ -168,7 +175,7 @@ call received bound b c = record {
   home = codes "home.example";
   country = None;
   account_of = account_of;
-  leads = λ u. true;
+  peer_of = λ u. Some (peer 1);
   first = bob;
   opening = stands free b c;
   later = λ k. stands free b c;
@@ -281,7 +288,7 @@ pub record AreOutcomes : Type 0 where
       ≡ comes_to (target bob None NotOffered ∷ target carol (by carol 302) NotOffered ∷ []) (Final causes.NotRegistered)
   -- an identity of the home domain that is no account's, and a target to which no peer leads
   pub no_account : outcome (to_nobody dave (call 0 5 free free)) [] ≡ comes_to (target dave None NotOffered ∷ []) (Final causes.NoAccount)
-  pub no_route : outcome (record (call 0 5 free free) { leads = λ u. false }) [] ≡ comes_to (target bob None NotOffered ∷ []) (Final causes.NoRoute)
+  pub no_route : outcome (record (call 0 5 free free) { peer_of = λ u. None }) [] ≡ comes_to (target bob None NotOffered ∷ []) (Final causes.NoRoute)
   -- no answer, to a number, which is of the home domain and no account's; a caller cannot call it so
   pub to_a_number : outcome (call 0 5 (of_account (diverts (rule (Some event.NoAnswer) (Tel (codes "+49-30-1234") []) ∷ []) false) true 0) free)
       (record { at = 20100; how = NoReply } ∷ record { at = 20300; how = UserBusy 486 } ∷ [])
@@ -315,3 +322,16 @@ pub record AreOutcomes : Type 0 where
             (of_account (diverts (rule None vm ∷ []) false) true 0);
       }) (record { at = 20100; how = NoReply } ∷ [])
       ≡ comes_to (target bob None (Offered false) ∷ target carol (by carol 408) NotOffered ∷ target vm (by vm 302) (Offered false) ∷ []) Pending
+
+-- what came of an attempt of which no turn is asked: a provisional response ends nothing, a 2xx answers, and the caller gives up; and what follows under whatever record
+pub record AreEnds : Type 0 where
+  pub trying : end_by (Response 100 None) false ≡ None
+  pub ringing : end_by (Response 180 None) false ≡ None
+  pub progress : end_by (Response 183 None) true ≡ None
+  pub provisional : end_by (Response 199 None) false ≡ None
+  pub success : end_by (Response 200 None) false ≡ Some Answer
+  pub last_success : end_by (Response 299 None) true ≡ Some Answer
+  pub gave_up_ringing : end_by CallerGaveUp true ≡ Some Cancel
+  pub gave_up : end_by CallerGaveUp false ≡ Some Cancel
+  pub after_gave_up : (c : Circumstances) → turn_on c (Some (diverts (rule (Some event.NoAnswer) vm ∷ []) false)) Cancel ≡ EndRefuse causes.Cancelled
+  pub after_answer : (c : Circumstances) → turn_on c None Answer ≡ EndAnswered

@@ -2,8 +2,8 @@
 
 use crate::answers::heard::{OPENING, SIP, desk, hearing, tell_desk};
 use crate::asserting::assert_right;
-use mmtel_answers::{Aim, Hearing, diverted_aim, first_aim, retry_after};
-use mmtel_desk::{Desk, Invitation, Loose, loose_at, once_cancelled};
+use mmtel_answers::{Aim, Hearing, OwnResponse, diverted_aim, first_aim, retry_after};
+use mmtel_desk::{AttemptInvite, Desk, Invitation, Loose, loose_at, once_cancelled};
 use mmtel_lex::{List, Text, Uri, read_uri};
 use mmtel_message::{Line, add_bytes};
 use mmtel_told::Told;
@@ -59,7 +59,13 @@ Content-Length: 0
 fn offered(told: &mut Told, desk: &mut Desk, opening: &Hearing) -> Option<Invitation> {
     let aim = first_aim(told.alloc, Peer(2), &[], opening);
     let aim = told.noted(aim)?;
-    let sent = desk.offer(told.alloc, SIP, aim, opening, true, &[], false);
+    let attempt = AttemptInvite {
+        opening,
+        restricted: true,
+        passed: &[],
+        waiting: false,
+    };
+    let sent = desk.offer(told.alloc, SIP, aim, attempt);
     told.noted(sent)
 }
 
@@ -315,7 +321,13 @@ fn diverted(told: &mut Told) -> Option<Aim> {
 fn offer_diverted(told: &mut Told, desk: &mut Desk, open: &Hearing) -> Option<Invitation> {
     let aim = diverted(told)?;
     let passed = passed_line(told);
-    let sent = desk.offer(told.alloc, SIP, aim, open, false, passed.items(), true);
+    let attempt = AttemptInvite {
+        opening: open,
+        restricted: false,
+        passed: passed.items(),
+        waiting: true,
+    };
+    let sent = desk.offer(told.alloc, SIP, aim, attempt);
     drop(passed);
     told.noted(sent)
 }
@@ -323,7 +335,13 @@ fn offer_diverted(told: &mut Told, desk: &mut Desk, open: &Hearing) -> Option<In
 fn offer_first(told: &mut Told, desk: &mut Desk, open: &Hearing) -> Option<Invitation> {
     let aim = first_aim(told.alloc, Peer(2), &[], open);
     let aim = told.noted(aim)?;
-    let sent = desk.offer(told.alloc, SIP, aim, open, false, &[], false);
+    let attempt = AttemptInvite {
+        opening: open,
+        restricted: false,
+        passed: &[],
+        waiting: false,
+    };
+    let sent = desk.offer(told.alloc, SIP, aim, attempt);
     told.noted(sent)
 }
 
@@ -341,17 +359,13 @@ fn leave(told: &mut Told, loose: &mut List<Loose>, sent: Option<Invitation>) {
 
 /// Refuses with a tag and these lines.
 fn refuse_by(told: &mut Told, desk: &mut Desk, open: &Hearing, tag: &[u8], named: &List<Line>) {
-    let done = desk.answer(
-        told.alloc,
-        SIP,
-        TKey(0),
-        open,
-        tag,
-        500,
-        &[],
-        named.items(),
-        b"",
-    );
+    let own = OwnResponse {
+        code: 500,
+        passed: &[],
+        named: named.items(),
+        body: b"",
+    };
+    let done = desk.answer(told.alloc, SIP, TKey(0), open, tag, own);
     told.keep(done.is_ok());
 }
 

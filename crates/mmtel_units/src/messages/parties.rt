@@ -5,6 +5,7 @@ use crate::messages::drafts::{add, message_of};
 use mmtel_lex::{List, NoMemory, Text, read_uri};
 use mmtel_message::{Msg, Start};
 use mmtel_parties::{Parties, RegistrationState, ServedSides, kept_routes, next_hop};
+use mmtel_targets::is_registered;
 use mmtel_told::{Told, cut, next_line};
 use mmtel_trust::{Accounts, PeerTable};
 use mmtel_types::{Account, Addr, Peer};
@@ -100,9 +101,13 @@ fn tell_parties(told: &mut Told, accounts: &Accounts, parties: &Parties) {
     tell_account(told, parties.target_served());
     let carol = carol_served(told, accounts, parties);
     tell_account(told, carol);
-    told.add_if(parties.is_of_no_account(), b"refused ", b"- ");
-    told.add_if(parties.is_registered(true), b"y", b"n");
-    told.add_if(parties.is_registered(false), b"y", b"n");
+    told.add_if(
+        parties.served_accounts().is_of_no_account(),
+        b"refused ",
+        b"- ",
+    );
+    told.add_if(is_registered(parties.registration, true), b"y", b"n");
+    told.add_if(is_registered(parties.registration, false), b"y", b"n");
 }
 
 /// Tells what is said of the parties of a message.

@@ -5,33 +5,47 @@ use crate::precedence::records::{Called, facts, read_call, read_record};
 use crate::precedence::reports::{Teller, put_cause, put_code, put_uri, wrong_line};
 use mmtel_lex::{Uri, read_uri};
 use mmtel_precedence::{
-    AfterEnding, AttemptEnd, AttemptEvent, Onward, Reached, Served, ServedAccount, Turn, end_by,
-    party_of, refused_at_opening, turn_at, turn_on,
+    AfterEnding, AttemptEnd, AttemptTimeout, Failure, Onward, Reached, Served, ServedAccount, Turn,
+    end_by_final, end_by_timeout, party_of, refused_at_opening, turn_at, turn_on,
 };
 use mmtel_rules::Facts;
 use mmtel_scan::number_up_to;
 use mmtel_sheet_values::Sheet;
 use mmtel_told::{Told, cut};
-use mmtel_types::{Account, PrivacySet};
+use mmtel_types::{Account, Peer, PrivacySet};
 
-/// What came of an attempt, by its word.
-fn event_of<'a>(word: &[u8], target: Option<&'a Uri>) -> AttemptEvent<'a> {
+/// The time that passed, by its word.
+fn timeout_of(word: &[u8]) -> Option<AttemptTimeout> {
     if word == b"silence".as_slice() {
-        return AttemptEvent::Silence;
+        return Some(AttemptTimeout::Silence);
     }
     if word == b"no-reply-time".as_slice() {
-        return AttemptEvent::NoReplyTime;
+        return Some(AttemptTimeout::NoReplyTime);
     }
     if word == b"longest-time".as_slice() {
-        return AttemptEvent::LongestTime;
+        return Some(AttemptTimeout::LongestTime);
     }
-    if word == b"caller-gave-up".as_slice() {
-        return AttemptEvent::CallerGaveUp;
+    None
+}
+
+/// How an attempt ends, by the word for the time that passed or the status of a final response from 300; None of any other word.
+fn end_of<'a>(word: &[u8], target: Option<&'a Uri>, rang: bool) -> Option<AttemptEnd<'a>> {
+    if let Some(timeout) = timeout_of(word) {
+        return Some(end_by_timeout(timeout, rang));
     }
-    let code = number_up_to(999, word).unwrap_or(0);
-    AttemptEvent::Response {
-        code: u16::try_from(code).unwrap_or(0),
-        target,
+    let code = u16::try_from(number_up_to(999, word).unwrap_or(0)).unwrap_or(0);
+    if code < 300 {
+        return None;
+    }
+    Some(end_by_final(code, target, rang))
+}
+
+fn put_failure(told: &mut Told, failure: Failure) {
+    match failure {
+        Failure::UserBusy(code) => put_code(told, b"busy", code),
+        Failure::NotReachable(code) => put_code(told, b"unreachable", code),
+        Failure::NoReply => told.add(b"no-reply"),
+        Failure::Other(code) => put_code(told, b"other", code),
     }
 }
 
@@ -39,16 +53,11 @@ fn event_of<'a>(word: &[u8], target: Option<&'a Uri>) -> AttemptEvent<'a> {
 fn put_end(told: &mut Told, end: Option<AttemptEnd<'_>>) {
     match end {
         None => told.add(b"none"),
-        Some(AttemptEnd::Answered) => told.add(b"answered"),
-        Some(AttemptEnd::Cancelled) => told.add(b"cancelled"),
-        Some(AttemptEnd::UserBusy(code)) => put_code(told, b"busy", code),
-        Some(AttemptEnd::NotReachable(code)) => put_code(told, b"unreachable", code),
-        Some(AttemptEnd::NoReply) => told.add(b"no-reply"),
+        Some(AttemptEnd::Failed(failure)) => put_failure(told, failure),
         Some(AttemptEnd::Deflected { target, rang }) => {
             told.add_if(rang, b"alerted ", b"deflected ");
             put_uri(told, target);
         }
-        Some(AttemptEnd::Other(code)) => put_code(told, b"other", code),
     }
 }
 
@@ -65,8 +74,7 @@ fn put_onward(told: &mut Told, onward: &Onward) {
 
 fn put_turn(told: &mut Told, turn: &Turn) {
     match turn {
-        Turn::Offer { waiting: false } => told.add(b"offer"),
-        Turn::Offer { waiting: true } => told.add(b"wait"),
+        Turn::Offer { waiting, .. } => told.add_if(*waiting, b"wait", b"offer"),
         Turn::Divert(onward) => put_onward(told, onward),
         Turn::Refuse(cause) => put_cause(told, cause),
     }
@@ -74,7 +82,6 @@ fn put_turn(told: &mut Told, turn: &Turn) {
 
 fn put_after(told: &mut Told, after: &AfterEnding) {
     match after {
-        AfterEnding::Answered => told.add(b"answered"),
         AfterEnding::Divert(onward) => put_onward(told, onward),
         AfterEnding::Refuse(cause) => put_cause(told, cause),
     }
@@ -88,8 +95,8 @@ impl Teller for Ends {
         let (rang, what) = rang_in(question);
         let (word, contact) = cut(b' ', what);
         match read_uri(told.alloc, contact) {
-            Ok(uri) => put_end(told, end_by(event_of(word, Some(&uri)), rang)),
-            Err(_) => put_end(told, end_by(event_of(word, None), rang)),
+            Ok(uri) => put_end(told, end_of(word, Some(&uri), rang)),
+            Err(_) => put_end(told, end_of(word, None, rang)),
         }
     }
 }
@@ -104,13 +111,7 @@ fn rang_in(question: &[u8]) -> (bool, &[u8]) {
 }
 
 /// RFC 3261 §21, TS 24.604 §4.5.2.6.
-const ENDS: &[u8] = b"-100>none
--180>none
-r183>none
--199>none
--200>answered
-r299>answered
--486>busy 486
+const ENDS: &[u8] = b"-486>busy 486
 r600>busy 600
 -408>unreachable 408
 -500>unreachable 500
@@ -131,8 +132,6 @@ r399>other 480
 rno-reply-time>no-reply
 rlongest-time>no-reply
 -longest-time>unreachable 408
-rcaller-gave-up>cancelled
--caller-gave-up>cancelled
 ";
 
 #[test]
@@ -147,10 +146,9 @@ fn tell_after(
     told: &mut Told,
     called: &Called,
     sheet: Option<&Sheet>,
-    event: AttemptEvent,
-    rang: bool,
+    end: Option<AttemptEnd<'_>>,
 ) {
-    match end_by(event, rang) {
+    match end {
         None => told.add(b"none"),
         Some(end) => put_after(told, &turn_on(&facts(called), sheet, &end)),
     }
@@ -161,8 +159,8 @@ fn tell_what(told: &mut Told, called: &Called, sheet: Option<&Sheet>, question: 
     let (rang, what) = rang_in(question);
     let (word, contact) = cut(b' ', what);
     match read_uri(told.alloc, contact) {
-        Ok(uri) => tell_after(told, called, sheet, event_of(word, Some(&uri)), rang),
-        Err(_) => tell_after(told, called, sheet, event_of(word, None), rang),
+        Ok(uri) => tell_after(told, called, sheet, end_of(word, Some(&uri), rang)),
+        Err(_) => tell_after(told, called, sheet, end_of(word, None, rang)),
     }
 }
 
@@ -185,7 +183,7 @@ impl Teller for After {
     }
 }
 
-/// A no-answer rule; silence and the not-reachable rule, and a failure before it rang and after; deflection, with leave and without; cancel, and busy.
+/// A no-answer rule; silence and the not-reachable rule, and a failure before it rang and after; deflection, with leave and without; and busy.
 const AFTER: &[u8] =
     b"rno-reply-time|communication-diversion = { rule = [{ no-answer = true, target = \"sip:vm@far.example\" }] }>divert 408 sip:vm@far.example 1111
 -silence|communication-diversion = { rule = [{ not-reachable = true, target = \"sip:vm@far.example\" }] }>divert 503 sip:vm@far.example 1111
@@ -197,8 +195,6 @@ r302 sip:vm@far.example|communication-diversion = { deflection = true }>divert 4
 -302 sip:vm@far.example|communication-diversion = { deflection = false }>relayed 480
 -302|communication-diversion = { deflection = true }>relayed 480
 r302 sip:vm@far.example|none>relayed 480
--caller-gave-up|communication-diversion = { rule = [{ no-answer = true, target = \"sip:vm@far.example\" }] }>cancelled 487
--200|none>answered
 r486|>relayed 486
 r486|communication-diversion = { rule = [{ busy = true, target = \"sip:vm@far.example\", reveal-identity-to-target = false }] }>divert 486 sip:vm@far.example 1110
 r600|none>relayed 600
@@ -217,6 +213,14 @@ fn turns_after_attempts(rt: HostRuntime) {
 /// the record.
 struct At;
 
+/// A peer, unless none leads there.
+fn peer_unless(none: bool) -> Option<Peer> {
+    if none {
+        return None;
+    }
+    Some(Peer(1))
+}
+
 fn tell_at(told: &mut Told, flags: &[u8], called: &Called, sheet: &Sheet) {
     let account = ServedAccount {
         sheet,
@@ -231,7 +235,7 @@ fn tell_at(told: &mut Told, flags: &[u8], called: &Called, sheet: &Sheet) {
     let reached = Reached {
         served,
         is_unknown: flags.contains(&b'u'),
-        has_no_peer: flags.contains(&b'p'),
+        peer: peer_unless(flags.contains(&b'p')),
     };
     put_turn(told, &turn_at(&facts(called), &reached));
 }

@@ -5,3 +5,5 @@ pub mod Numbers
 pub mod Scanning
 -- What no clause of this crate cites: a word that the definitions of the crates above share.
 pub mod Chain
+-- What private functions alone cite: where a text keeps its bytes.
+pub mod Keeping

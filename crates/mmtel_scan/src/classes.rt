@@ -30,24 +30,21 @@ pub enum Class {
     BareByte,
 }
 
+/// Each byte of a token stands at its own place, and a comma at every other place.
+static TOKENS: [u8; 256] = *b"\
+    ,,,,,,,,,,,,,,,,,,,,,,,,,,,,,,,,\
+    ,!,,,%,',,*+,-.,0123456789,,,,,,\
+    ,ABCDEFGHIJKLMNOPQRSTUVWXYZ,,,,_\
+    `abcdefghijklmnopqrstuvwxyz,,,~,\
+    ,,,,,,,,,,,,,,,,,,,,,,,,,,,,,,,,\
+    ,,,,,,,,,,,,,,,,,,,,,,,,,,,,,,,,\
+    ,,,,,,,,,,,,,,,,,,,,,,,,,,,,,,,,\
+    ,,,,,,,,,,,,,,,,,,,,,,,,,,,,,,,,";
+
 fn is_token_byte(byte: u8) -> bool
     ensures { result ≡ is_token byte }
 {
-    let letter = byte.is_ascii_alphabetic();
-    let digit = byte.is_ascii_digit();
-
-    letter
-        || digit
-        || byte == b'!'
-        || byte == b'%'
-        || byte == b'\''
-        || byte == b'*'
-        || byte == b'+'
-        || byte == b'-'
-        || byte == b'.'
-        || byte == b'_'
-        || byte == b'`'
-        || byte == b'~'
+    TOKENS[byte as usize] != b','
 }
 
 impl Class {

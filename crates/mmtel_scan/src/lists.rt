@@ -1,5 +1,5 @@
 //! Lists whose items may be values that must be spent.
-ghost use Rattle.std.specs.Prelude.{◌≡◌, List, [], ◌++◌, ◌∷◌, ◌↔◌, IfErr, OnOk, OnErr, IsNone, option_to_list, take, drop, slice_set, slice_get, Some, length, ◌≤◌, ◌<◌, ◌+◌};
+ghost use Rattle.std.specs.Prelude.{◌≡◌, List, [], ◌++◌, ◌∷◌, ◌↔◌, IfOk, IfErr, OnOk, OnErr, IsNone, option_to_list, take, drop, slice_set, slice_get, Some, length, ◌≤◌, ◌<◌, ◌+◌};
 
 use crate::memory::NoMemory;
 use std::alloc::Global;
@@ -33,6 +33,18 @@ impl<T> List<T> {
         ensures { result ≡ [] }
     {
         List { kept: None }
+    }
+
+    /// The list of no items, with room for so many.
+    ///
+    /// # Errors
+    ///
+    /// Want of memory alone.
+    pub fn with_room(alloc: Global, len: usize) -> Result<List<T>, NoMemory>
+        ensures empty { IfOk result (λ list. list ≡ []) }
+    {
+        let kept = Vec::with_capacity(alloc, len)?;
+        Ok(List { kept: Some(kept) })
     }
 
     /// Adds an item at the end.

@@ -7,6 +7,7 @@ ghost use Rattle.mmtel_scan.specs.Numbers.{leads_zero, number_of, plain_number, 
 use crate::classes::{Class, is_all};
 use crate::memory::NoMemory;
 use crate::texts::Text;
+use itoa::Buffer;
 use std::alloc::Global;
 
 /// What the digits write, where it is at most the limit.
@@ -76,8 +77,8 @@ pub fn add_number(alloc: Global, out: &mut Text, number: u64) -> Result<(), NoMe
     ensures added { OnOk result (out.new ≡ out.old ++ decimal number) }
     ensures refused { OnErr result (out.new ≡ out.old) }
 {
-    let digits = number.to_string(alloc)?;
-    out.push(alloc, digits.as_bytes())
+    let mut buffer = Buffer::new();
+    out.push(alloc, buffer.format(number).as_bytes())
 }
 
 /// The value of a tag, branch or Call-ID that a token and a number make: `TOKEN-n` (RFC 3261 §19.3, §8.1.1.7, §8.1.1.4).
@@ -88,9 +89,11 @@ pub fn add_number(alloc: Global, out: &mut Text, number: u64) -> Result<(), NoMe
 pub fn token_text(alloc: Global, token: &[u8], number: u64) -> Result<Text, NoMemory>
     ensures text { IfOk result (λ t. t ≡ token_text token.now number) }
 {
-    let digits = number.to_string(alloc)?;
-    let mut out = Text::of(alloc, token)?;
+    let mut buffer = Buffer::new();
+    let digits = buffer.format(number).as_bytes();
+    let mut out = Text::with_room(alloc, token.len().saturating_add(1 + digits.len()))?;
+    out.push(alloc, token)?;
     out.push(alloc, b"-")?;
-    out.push(alloc, digits.as_bytes())?;
+    out.push(alloc, digits)?;
     Ok(out)
 }

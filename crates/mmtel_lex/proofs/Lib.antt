@@ -4,11 +4,13 @@ pub mod NameAddrLaws
 pub mod ParamLaws
 pub mod ParamValues
 pub mod ParamsLoop
+pub mod ParamsSeek
 pub mod PercentLaws
 pub mod PhoneLaws
 pub mod PrintLaws
 pub mod SameIdentityLaws
 pub mod SipLaws
+pub mod TextRefs
 pub mod UriContract
 pub mod UriLaws
 pub mod UriPlaceLaws

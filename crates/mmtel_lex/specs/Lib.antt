@@ -9,3 +9,6 @@ pub mod UriPlaces
 -- scheme_of, number_at, angle_of to quoted_of) serve private functions alone.
 pub mod Reading
 pub mod SameIdentity
+-- What the types that borrow from bytes are seen as: of Borrowed private functions and the invariant of ParamsRef alone.
+pub mod Borrowed
+pub mod UriRefs

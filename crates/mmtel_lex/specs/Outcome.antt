@@ -4,7 +4,7 @@ use Rattle.mmtel_lex.specs.declared.faults.LexFault.{LexFault}
 use Rattle.mmtel_lex.specs.declared.faults.LexFault.TheVariants as lex
 use Rattle.mmtel_lex.specs.declared.values.Uri.{Uri}
 use Rattle.mmtel_lex.specs.declared.faults.UriFault.{UriFault}
-use Rattle.mmtel_lex.specs.declared.faults.UriFault.TheVariants.{Malformed, NoMemory}
+use Rattle.mmtel_lex.specs.declared.faults.UriFault.TheVariants.{Malformed, Scheme, NoMemory}
 
 -- this answer, unless memory ran out
 abbrev pub IsUnlessMemory : Result Uri UriFault → Result Uri UriFault → Type 0
@@ -26,3 +26,9 @@ IsMalformed r = r ≡ Err lex.Malformed
 abbrev pub IsOfBytes : LexFault → Type 0
 IsOfBytes lex.Malformed = Unit {0}
 IsOfBytes lex.NoMemory = ⊥
+
+-- the bytes are at fault, and not memory
+abbrev pub IsUriOfBytes : UriFault → Type 0
+IsUriOfBytes Malformed = Unit {0}
+IsUriOfBytes Scheme = Unit {0}
+IsUriOfBytes NoMemory = ⊥

@@ -195,11 +195,6 @@ abbrev pub Answers : Result Uri UriFault → Result Uri Refusal → Type 0
 Answers (Ok u) read = read ≡ Ok u
 Answers (Err e) read = Refuses e read
 
--- the fault of a URI for that of its parts
-abbrev pub uri_fault : LexFault → UriFault
-uri_fault lex.Malformed = faults.Malformed
-uri_fault lex.NoMemory = faults.NoMemory
-
 -- ---- name-addrs
 
 -- what follows a '<': the URI, a '>' and parameters

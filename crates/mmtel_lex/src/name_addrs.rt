@@ -1,103 +1,157 @@
 //! Name-addrs: a display and a URI (RFC 3261 §20.10).
 ghost use Rattle.std.specs.Prelude.{IfOk, Err, ◌≡◌, ◌⊎◌};
+ghost use Rattle.std.specs.Option.{option_copied};
 ghost use Rattle.mmtel_lex.specs.Grammar.{IsNameAddr};
 ghost use Rattle.mmtel_lex.specs.Outcome.{IsReadUnlessMemory, IsMalformed};
+ghost use Rattle.mmtel_lex.specs.Params.{param_value};
 ghost use Rattle.mmtel_lex.specs.Reading.{Gives, angle_of, bare_of, words_of, quoted_of, name_addr_of};
 
 use crate::faults::LexFault;
-use crate::params::{params_front, text};
+use crate::param_refs::{ParamsRef, params_ref};
+use crate::params::text_ref;
 use crate::values::NameAddr;
-use mmtel_scan::{Class, Text, skip_byte, split_run, trim_end};
+use mmtel_scan::{Class, NoMemory, Text, skip_byte, split_run, trim_end};
 use std::alloc::Global;
+use std::marker::Model;
+
+/// A name-addr as it stands in bytes (RFC 3261 §20.10); contracts see the name-addr.
+#[derive(Drop)]
+pub struct NameAddrRef<'a> {
+    /// The display as it was written, quotes included; no bytes where there is none.
+    pub display: &'a [u8],
+    /// The bytes of the URI, whatever its scheme.
+    pub uri: &'a [u8],
+    /// The parameters of the header that it stands in.
+    pub params: ParamsRef<'a>,
+}
+
+impl<'a> Model for NameAddrRef<'a> {
+    ghost use Rattle.mmtel_lex.specs.declared.values.NameAddr.{NameAddr};
+
+    ghost Value = { NameAddr };
+
+    ghost view = { λ n. record { display = n.display.now; uri = n.uri.now; params = n.params } };
+}
+
+impl<'a> NameAddrRef<'a> {
+    /// The value of the first of its parameters of this name, which is compared without case (RFC 3261 §7.3.1); None where there is none of that name, or the first has no
+    /// value. It takes no memory.
+    pub fn param(&self, name: &[u8]) -> Option<&'a [u8]>
+        ensures { option_copied result ≡ param_value name.now self.now.params }
+    {
+        self.params.value(name)
+    }
+
+    /// A copy of the name-addr.
+    ///
+    /// # Errors
+    ///
+    /// Want of memory alone.
+    pub fn owned(&self, alloc: Global) -> Result<NameAddr, NoMemory>
+        ensures { IfOk result (λ name_addr. name_addr ≡ self.now) }
+    {
+        let display = Text::of(alloc, self.display)?;
+        let uri = Text::of(alloc, self.uri)?;
+        let params = self.params.owned(alloc)?;
+        Ok(NameAddr {
+            display,
+            uri,
+            params,
+        })
+    }
+}
 
 /// What follows a `<`: the URI, `>` and parameters.
 #[tactic(auto, unfolding(crate::specs::Reading::angle_of))]
-fn angled(alloc: Global, display: Text, bytes: &[u8]) -> Result<NameAddr, LexFault>
-    ensures { Gives (λ x. x) result (angle_of display bytes.now) }
+fn angled<'a>(display: &'a [u8], bytes: &'a [u8]) -> Option<NameAddrRef<'a>>
+    ensures { result ≡ angle_of display.now bytes.now }
 {
-    let (front, rest) = split_run(Class::UriByte, bytes);
-    if front.is_empty() {
-        return Err(LexFault::Malformed);
+    let (uri, rest) = split_run(Class::UriByte, bytes);
+    if uri.is_empty() {
+        return None;
     }
-    match skip_byte(b'>', rest) {
-        None => Err(LexFault::Malformed),
-        Some(tail) => {
-            let uri = Text::of(alloc, front)?;
-            let (params, rest) = params_front(alloc, tail)?;
-            if rest.is_empty() {
-                Ok(NameAddr {
-                    display,
-                    uri,
-                    params,
-                })
-            } else {
-                Err(LexFault::Malformed)
-            }
-        }
+    let tail = skip_byte(b'>', rest)?;
+    let (params, rest) = params_ref(tail)?;
+    if rest.is_empty() {
+        Some(NameAddrRef {
+            display,
+            uri,
+            params,
+        })
+    } else {
+        None
     }
 }
 
 /// A URI without brackets, and parameters.
 #[tactic(auto, unfolding(crate::specs::Reading::bare_of))]
-fn bare(alloc: Global, bytes: &[u8]) -> Result<NameAddr, LexFault>
-    ensures { Gives (λ x. x) result (bare_of bytes.now) }
+fn bare(bytes: &[u8]) -> Option<NameAddrRef<'_>>
+    ensures { result ≡ bare_of bytes.now }
 {
-    let (front, rest) = split_run(Class::BareByte, bytes);
-    if front.is_empty() {
-        return Err(LexFault::Malformed);
+    let (uri, rest) = split_run(Class::BareByte, bytes);
+    if uri.is_empty() {
+        return None;
     }
-    let uri = Text::of(alloc, front)?;
-    let (params, rest) = params_front(alloc, rest)?;
+    let (params, rest) = params_ref(rest)?;
     if rest.is_empty() {
-        Ok(NameAddr {
-            display: Text::new(),
+        Some(NameAddrRef {
+            display: &[],
             uri,
             params,
         })
     } else {
-        Err(LexFault::Malformed)
+        None
     }
 }
 
 /// A display of words or none and a URI in brackets, or a bare URI.
 #[tactic(auto, unfolding(crate::specs::Reading::words_of))]
-fn in_words(alloc: Global, bytes: &[u8]) -> Result<NameAddr, LexFault>
-    ensures { Gives (λ x. x) result (words_of bytes.now) }
+fn in_words(bytes: &[u8]) -> Option<NameAddrRef<'_>>
+    ensures { result ≡ words_of bytes.now }
 {
     let (front, rest) = split_run(Class::Display, bytes);
     match skip_byte(b'<', rest) {
-        None => bare(alloc, bytes),
+        None => bare(bytes),
         Some(tail) => {
             let (blanks, _) = split_run(Class::Blank, bytes);
             if !blanks.is_empty() {
-                return Err(LexFault::Malformed);
+                return None;
             }
-            let display = Text::of(alloc, trim_end(Class::Blank, front))?;
-            angled(alloc, display, tail)
+            angled(trim_end(Class::Blank, front), tail)
         }
     }
 }
 
 /// A display in quotes and a URI in brackets.
 #[tactic(auto, unfolding(crate::specs::Reading::quoted_of))]
-fn in_quotes(alloc: Global, bytes: &[u8]) -> Result<NameAddr, LexFault>
-    ensures { Gives (λ x. x) result (quoted_of bytes.now) }
+fn in_quotes(bytes: &[u8]) -> Option<NameAddrRef<'_>>
+    ensures { result ≡ quoted_of bytes.now }
 {
-    let (display, rest) = text(alloc, bytes)?;
+    let (display, rest) = text_ref(bytes)?;
     let (_, rest) = split_run(Class::Blank, rest);
-    match skip_byte(b'<', rest) {
-        None => Err(LexFault::Malformed),
-        Some(tail) => angled(alloc, display, tail),
+    let tail = skip_byte(b'<', rest)?;
+    angled(display, tail)
+}
+
+/// A name-addr as it stands in these bytes, all of which are read (RFC 3261 §20.10); None exactly where they are not of the grammar. It takes no memory.
+///
+/// It is a display or none, `<`, a URI of any scheme, `>` and parameters, or a bare URI without `,`, `;` and `?` and parameters.
+#[tactic(auto, unfolding(crate::specs::Reading::name_addr_of))]
+pub fn name_addr_ref(bytes: &[u8]) -> Option<NameAddrRef<'_>>
+    ensures exact { result ≡ name_addr_of bytes.now }
+{
+    match skip_byte(b'"', bytes) {
+        None => in_words(bytes),
+        Some(_) => in_quotes(bytes),
     }
 }
 
-#[tactic(auto, unfolding(crate::specs::Reading::name_addr_of))]
 fn name_addr(alloc: Global, bytes: &[u8]) -> Result<NameAddr, LexFault>
     ensures { Gives (λ x. x) result (name_addr_of bytes.now) }
 {
-    match skip_byte(b'"', bytes) {
-        None => in_words(alloc, bytes),
-        Some(_) => in_quotes(alloc, bytes),
+    match name_addr_ref(bytes) {
+        None => Err(LexFault::Malformed),
+        Some(read) => Ok(read.owned(alloc)?),
     }
 }
 

@@ -1,85 +1,88 @@
 //! Parameters and their parts (RFC 3261 §25.1).
-ghost use Rattle.std.specs.Prelude.{◌≡◌, ◌≤◌, ◌⊎◌, ℕ, List, length, IfOk, Err};
+ghost use Rattle.std.specs.Prelude.{◌≡◌, ◌≤◌, ◌⊎◌, ℕ, List, length, IfOk, IfSome, Err};
 ghost use Rattle.std.specs.Option.{option_copied, option_map};
 ghost use Rattle.std.specs.Str.{str_eq_ignore_ascii_case};
-ghost use Rattle.mmtel_lex.specs.Reading.{Gives, token_at, text_at, value_at, param_at, all_params_at, params_of};
+ghost use Rattle.mmtel_lex.specs.Reading.{Gives, token_at, text_at, param_at, all_params_at, params_of};
 ghost use Rattle.mmtel_lex.specs.Grammar.{IsParams};
 ghost use Rattle.mmtel_lex.specs.Params.{param_value};
 ghost use Rattle.mmtel_lex.specs.Outcome.{IsReadUnlessMemory, IsMalformed};
 
 use crate::faults::LexFault;
+use crate::param_refs::param_ref;
 use crate::values::{Param, Params};
 use mmtel_scan::{Class, List, Text, closing, skip_byte, split_run};
 use std::alloc::Global;
 
-/// A token at the front, and what follows it (RFC 3261 §25.1).
+/// A token at the front, and what follows it (RFC 3261 §25.1); None exactly where no byte of a token comes first. It takes no memory.
+#[tactic(auto, unfolding(crate::specs::Reading::token_at))]
+pub fn token_ref(bytes: &[u8]) -> Option<(&[u8], &[u8])>
+    ensures exact { option_map (λ x. (x.0.now, x.1.now)) result ≡ token_at bytes.now }
+    ensures shorter { IfSome result (λ x. length x.1.now ≤ length bytes.now) }
+{
+    let (front, rest) = split_run(Class::Token, bytes);
+    if front.is_empty() {
+        return None;
+    }
+    Some((front, rest))
+}
+
+/// A token at the front, copied, and what follows it (RFC 3261 §25.1).
 ///
 /// # Errors
 ///
 /// `Malformed` exactly where no byte of a token comes first.
-#[tactic(auto, unfolding(crate::specs::Reading::token_at))]
 pub fn token(alloc: Global, bytes: &[u8]) -> Result<(Text, &[u8]), LexFault>
     ensures exact { Gives (λ x. (x.0, x.1.now)) result (token_at bytes.now) }
     ensures shorter { IfOk result (λ x. length x.1.now ≤ length bytes.now) }
 {
-    let (front, rest) = split_run(Class::Token, bytes);
-    if front.is_empty() {
-        return Err(LexFault::Malformed);
+    match token_ref(bytes) {
+        None => Err(LexFault::Malformed),
+        Some((token, rest)) => Ok((Text::of(alloc, token)?, rest)),
     }
-    Ok((Text::of(alloc, front)?, rest))
 }
 
-/// A quoted string, its quotes included, or a token at the front, and what follows it (RFC 3261 §25.1).
-///
-/// # Errors
-///
-/// `Malformed` exactly where neither comes first; a quote that no other closes is no quoted string.
+/// A quoted string, its quotes included, or a token at the front, and what follows it (RFC 3261 §25.1); None exactly where neither comes first. It takes no memory.
 #[tactic(auto, unfolding(crate::specs::Reading::text_at))]
-pub fn text(alloc: Global, bytes: &[u8]) -> Result<(Text, &[u8]), LexFault>
-    ensures exact { Gives (λ x. (x.0, x.1.now)) result (text_at bytes.now) }
-    ensures shorter { IfOk result (λ x. length x.1.now ≤ length bytes.now) }
+pub fn text_ref(bytes: &[u8]) -> Option<(&[u8], &[u8])>
+    ensures exact { option_map (λ x. (x.0.now, x.1.now)) result ≡ text_at bytes.now }
+    ensures shorter { IfSome result (λ x. length x.1.now ≤ length bytes.now) }
 {
     match skip_byte(b'"', bytes) {
-        None => token(alloc, bytes),
+        None => token_ref(bytes),
         Some(tail) => match closing(tail) {
-            None => Err(LexFault::Malformed),
-            Some(at) => {
-                let mut text = Text::of(alloc, b"\"")?;
-                text.push(alloc, &tail[..at])?;
-                text.push(alloc, b"\"")?;
-                Ok((text, &tail[at + 1..]))
-            }
+            None => None,
+            Some(at) => Some(bytes.split_at(at + 2)),
         },
     }
 }
 
-/// The value behind a `=`, where one comes.
-#[tactic(auto, unfolding(crate::specs::Reading::value_at))]
-fn value(alloc: Global, bytes: &[u8]) -> Result<(Option<Text>, &[u8]), LexFault>
-    ensures exact { Gives (λ x. (x.0, x.1.now)) result (value_at bytes.now) }
+/// A quoted string, its quotes included, or a token at the front, copied, and what follows it (RFC 3261 §25.1).
+///
+/// # Errors
+///
+/// `Malformed` exactly where neither comes first; a quote that no other closes is no quoted string.
+pub fn text(alloc: Global, bytes: &[u8]) -> Result<(Text, &[u8]), LexFault>
+    ensures exact { Gives (λ x. (x.0, x.1.now)) result (text_at bytes.now) }
     ensures shorter { IfOk result (λ x. length x.1.now ≤ length bytes.now) }
 {
-    match skip_byte(b'=', bytes) {
-        None => Ok((None, bytes)),
-        Some(tail) => {
-            let (value, rest) = text(alloc, tail)?;
-            Ok((Some(value), rest))
-        }
+    match text_ref(bytes) {
+        None => Err(LexFault::Malformed),
+        Some((text, rest)) => Ok((Text::of(alloc, text)?, rest)),
     }
 }
 
-/// A parameter, whose `;` came before.
-#[tactic(auto, unfolding(crate::specs::Reading::param_at))]
+/// A parameter, whose `;` came before, copied, and what follows it.
 fn param(alloc: Global, bytes: &[u8]) -> Result<(Param, &[u8]), LexFault>
     ensures exact { Gives (λ x. (x.0, x.1.now)) result (param_at bytes.now) }
     ensures shorter { IfOk result (λ x. length x.1.now ≤ length bytes.now) }
 {
-    let (name, rest) = token(alloc, bytes)?;
-    let (value, rest) = value(alloc, rest)?;
-    Ok((Param { name, value }, rest))
+    match param_ref(bytes) {
+        None => Err(LexFault::Malformed),
+        Some((param, rest)) => Ok((param.owned(alloc)?, rest)),
+    }
 }
 
-/// The parameters at the front, each behind its `;`, and what follows them.
+/// The parameters at the front, copied, and what follows them.
 ///
 /// # Errors
 ///

@@ -1,58 +1,90 @@
 //! URIs of the schemes `sip` and `tel` (RFC 3261 §19.1.1, RFC 3966 §3).
-ghost use Rattle.std.specs.Prelude.{◌≡◌, ◌≤◌, ◌<◌, ◌^◌, ℕ, List, length, MatchResult, IfOk, IfErr, Ok, Err, ◌⊎◌};
-ghost use Rattle.std.specs.Option.{option_copied};
-ghost use Rattle.std.specs.List.{list_any, list_all};
-ghost use Rattle.mmtel_scan.specs.Classes.{in_class};
-ghost use Rattle.std.specs.Str.Parse.{digits_value};
-ghost use Rattle.mmtel_scan.specs.Classes.{IsAll};
-ghost use Rattle.mmtel_lex.specs.Grammar.{IsUri, IsForeign, IsNoUri};
-ghost use Rattle.mmtel_lex.specs.Outcome.{IsUnlessMemory, IsMalformedUri, IsOfBytes};
-ghost use Rattle.mmtel_lex.specs.Reading.{Gives, user_at, host_at, port_number, port_at, headers_at, headers_of, sip_parts, sip_of, scheme_of, sign_of, number_at};
-ghost use Rattle.mmtel_lex.specs.Reading.{tel_parts, tel_of, uri_of, Answers, uri_fault};
+ghost use Rattle.std.specs.Prelude.{◌≡◌, ◌≤◌, length, IfOk, IfErr, Err, ◌⊎◌};
+ghost use Rattle.std.specs.List.{list_any};
+ghost use Rattle.std.specs.Option.{option_copied, option_map};
 ghost use Rattle.std.specs.Str.{str_eq_ignore_ascii_case};
-ghost use Rattle.std.specs.Option.{option_map};
+ghost use Rattle.mmtel_scan.specs.Classes.{in_class};
 ghost use Rattle.mmtel_scan.specs.declared.classes.Class.TheVariants.{Digit};
+ghost use Rattle.mmtel_lex.specs.UriRefs.{Sees, uri_seen};
+ghost use Rattle.mmtel_lex.specs.Grammar.{IsUri, IsForeign, IsNoUri};
+ghost use Rattle.mmtel_lex.specs.Outcome.{IsUnlessMemory, IsMalformedUri, IsOfBytes, IsUriOfBytes};
+ghost use Rattle.mmtel_lex.specs.Reading.{Gives, user_at, host_at, port_number, port_at, headers_at, headers_of, sip_parts, sip_of, scheme_of, sign_of, number_at};
+ghost use Rattle.mmtel_lex.specs.Reading.{tel_parts, tel_of, uri_of, Answers, or_malformed};
 
 use crate::faults::{LexFault, UriFault};
-use crate::params::params_front;
+use crate::param_refs::{ParamsRef, owned_text, params_ref};
 use crate::values::Uri;
-use mmtel_scan::{Class, Text, is_all, number_up_to, part, skip_byte, split_run};
+use mmtel_scan::{Class, NoMemory, Text, is_all, number_up_to, part, skip_byte, split_run};
 use std::alloc::Global;
+
+/// A URI of a scheme that the server knows, as it stands in bytes.
+#[derive(Drop)]
+pub enum UriRef<'a> {
+    /// A sip URI (RFC 3261 §19.1.1).
+    Sip {
+        /// What stands before the `@`, a password included; None where there is no `@`.
+        user: Option<&'a [u8]>,
+        /// 1 to 255 bytes, in the case of letters in which they were written.
+        host: &'a [u8],
+        /// 1 to 65535.
+        port: Option<u16>,
+        params: ParamsRef<'a>,
+        /// What stands behind the `?`; no bytes where there is no `?`.
+        headers: &'a [u8],
+    },
+    /// A tel URI (RFC 3966 §3).
+    Tel {
+        /// A `+` or none, then digits and visual separators.
+        number: &'a [u8],
+        params: ParamsRef<'a>,
+    },
+}
 
 /// The user before the only `@`, where there is one, and what follows.
 #[tactic(auto, unfolding(crate::specs::Reading::user_at))]
-fn user(bytes: &[u8]) -> Result<(Option<&[u8]>, &[u8]), LexFault>
-    ensures { Gives (λ x. (option_copied x.0, x.1.now)) result (user_at bytes.now) }
+fn user(bytes: &[u8]) -> Option<(Option<&[u8]>, &[u8])>
+    ensures { option_map (λ x. (option_copied x.0, x.1.now)) result ≡ user_at bytes.now }
 {
     match part(b'@', bytes) {
-        None => Ok((None, bytes)),
+        None => Some((None, bytes)),
         Some((front, rest)) => {
             if front.is_empty() {
-                return Err(LexFault::Malformed);
+                return None;
             }
             if is_all(Class::User, front) && part(b'@', rest).is_none() {
-                Ok((Some(front), rest))
+                Some((Some(front), rest))
             } else {
-                Err(LexFault::Malformed)
+                None
             }
         }
     }
 }
 
-/// The host at the front, and what follows it: letters, digits, `-` and `.`, 1 to 255 bytes.
+/// The host at the front, and what follows it: letters, digits, `-` and `.`, 1 to 255 bytes; None exactly where no byte of a host comes first, or more than 255 do. It takes
+/// no memory.
+#[tactic(auto, unfolding(crate::specs::Reading::host_at))]
+pub fn host_ref(bytes: &[u8]) -> Option<(&[u8], &[u8])>
+    ensures exact { option_map (λ x. (x.0.now, x.1.now)) result ≡ host_at bytes.now }
+{
+    let (front, rest) = split_run(Class::Host, bytes);
+    if front.is_empty() || front.len() > 255 {
+        return None;
+    }
+    Some((front, rest))
+}
+
+/// The host at the front, copied, and what follows it: letters, digits, `-` and `.`, 1 to 255 bytes.
 ///
 /// # Errors
 ///
 /// `Malformed` exactly where no byte of a host comes first, or more than 255 do.
-#[tactic(auto, unfolding(crate::specs::Reading::host_at))]
 pub fn host(alloc: Global, bytes: &[u8]) -> Result<(Text, &[u8]), LexFault>
     ensures exact { Gives (λ x. (x.0, x.1.now)) result (host_at bytes.now) }
 {
-    let (front, rest) = split_run(Class::Host, bytes);
-    if front.is_empty() || front.len() > 255 {
-        return Err(LexFault::Malformed);
+    match host_ref(bytes) {
+        None => Err(LexFault::Malformed),
+        Some((host, rest)) => Ok((Text::of(alloc, host)?, rest)),
     }
-    Ok((Text::of(alloc, front)?, rest))
 }
 
 /// The port that the digits write.
@@ -66,82 +98,74 @@ fn port_number(digits: &[u8]) -> Option<u16>
     }
 }
 
+/// The port behind a `:` at the front, 1 to 65535, and what follows it; no port where no `:` comes first. None exactly where a `:` comes that the digits of such a number do
+/// not follow. It takes no memory.
+#[tactic(auto, unfolding(crate::specs::Reading::port_at))]
+pub fn port_ref(bytes: &[u8]) -> Option<(Option<u16>, &[u8])>
+    ensures exact { option_map (λ x. (x.0, x.1.now)) result ≡ port_at bytes.now }
+{
+    match skip_byte(b':', bytes) {
+        None => Some((None, bytes)),
+        Some(tail) => {
+            let (digits, rest) = split_run(Class::Digit, tail);
+            let port = port_number(digits)?;
+            Some((Some(port), rest))
+        }
+    }
+}
+
 /// The port behind a `:` at the front, 1 to 65535, and what follows it; no port where no `:` comes first. It takes no memory.
 ///
 /// # Errors
 ///
 /// `Malformed` exactly where a `:` comes that the digits of such a number do not follow.
-#[tactic(auto, unfolding(crate::specs::Reading::port_at))]
 pub fn port(bytes: &[u8]) -> Result<(Option<u16>, &[u8]), LexFault>
     ensures exact { Gives (λ x. (x.0, x.1.now)) result (port_at bytes.now) }
     // Memory is never the fault.
     ensures of_bytes { IfErr result (λ e. IsOfBytes e) }
 {
-    match skip_byte(b':', bytes) {
-        None => Ok((None, bytes)),
-        Some(tail) => {
-            let (digits, rest) = split_run(Class::Digit, tail);
-            match port_number(digits) {
-                None => Err(LexFault::Malformed),
-                Some(port) => Ok((Some(port), rest)),
-            }
-        }
+    match port_ref(bytes) {
+        None => Err(LexFault::Malformed),
+        Some(read) => Ok(read),
     }
 }
 
 /// The bytes behind a `?`: one or more, and nothing else.
 #[tactic(auto, unfolding(crate::specs::Reading::headers_of))]
-fn header_bytes(alloc: Global, bytes: &[u8]) -> Result<Text, LexFault>
-    ensures { Gives (λ x. x) result (headers_of bytes.now) }
+fn header_bytes(bytes: &[u8]) -> Option<&[u8]>
+    ensures { option_copied result ≡ headers_of bytes.now }
 {
     let (front, rest) = split_run(Class::User, bytes);
     if front.is_empty() {
-        return Err(LexFault::Malformed);
+        return None;
     }
     if !rest.is_empty() {
-        return Err(LexFault::Malformed);
+        return None;
     }
-    Ok(Text::of(alloc, front)?)
+    Some(front)
 }
 
 /// The header part, which ends the URI.
 #[tactic(auto, unfolding(crate::specs::Reading::headers_at))]
-fn headers(alloc: Global, bytes: &[u8]) -> Result<Text, LexFault>
-    ensures { Gives (λ x. x) result (headers_at bytes.now) }
+fn headers(bytes: &[u8]) -> Option<&[u8]>
+    ensures { option_copied result ≡ headers_at bytes.now }
 {
     match skip_byte(b'?', bytes) {
-        None => {
-            if bytes.is_empty() {
-                Ok(Text::new())
-            } else {
-                Err(LexFault::Malformed)
-            }
-        }
-        Some(tail) => header_bytes(alloc, tail),
-    }
-}
-
-/// A text of the bytes, where there are bytes.
-fn owned(alloc: Global, bytes: Option<&[u8]>) -> Result<Option<Text>, LexFault>
-    ensures { Gives (λ x. x) result (Some (option_copied bytes.entry)) }
-{
-    match bytes {
-        None => Ok(None),
-        Some(bytes) => Ok(Some(Text::of(alloc, bytes)?)),
+        None => { if bytes.is_empty() { Some(&[]) } else { None } }
+        Some(tail) => header_bytes(tail),
     }
 }
 
 /// The parts behind `sip:`, one behind the other.
-fn sip_parts(alloc: Global, bytes: &[u8]) -> Result<Uri, LexFault>
-    ensures { Gives (λ x. x) result (sip_parts bytes.now) }
+fn sip_parts(bytes: &[u8]) -> Option<UriRef<'_>>
+    ensures { option_map uri_seen result ≡ sip_parts bytes.now }
 {
     let (user, rest) = user(bytes)?;
-    let (host, rest) = host(alloc, rest)?;
-    let (port, rest) = port(rest)?;
-    let (params, rest) = params_front(alloc, rest)?;
-    let headers = headers(alloc, rest)?;
-    let user = owned(alloc, user)?;
-    Ok(Uri::Sip {
+    let (host, rest) = host_ref(rest)?;
+    let (port, rest) = port_ref(rest)?;
+    let (params, rest) = params_ref(rest)?;
+    let headers = headers(rest)?;
+    Some(UriRef::Sip {
         user,
         host,
         port,
@@ -152,13 +176,13 @@ fn sip_parts(alloc: Global, bytes: &[u8]) -> Result<Uri, LexFault>
 
 /// All of the bytes behind `sip:`, each of which is one of a URI.
 #[tactic(auto, unfolding(crate::specs::Reading::sip_of))]
-fn sip(alloc: Global, bytes: &[u8]) -> Result<Uri, LexFault>
-    ensures { Gives (λ x. x) result (sip_of bytes.now) }
+fn sip(bytes: &[u8]) -> Option<UriRef<'_>>
+    ensures { option_map uri_seen result ≡ sip_of bytes.now }
 {
     if is_all(Class::UriByte, bytes) {
-        sip_parts(alloc, bytes)
+        sip_parts(bytes)
     } else {
-        Err(LexFault::Malformed)
+        None
     }
 }
 
@@ -183,12 +207,14 @@ fn is_named(name: &[u8], wanted: &[u8]) -> bool
     name.eq_ignore_ascii_case(wanted)
 }
 
-fn sign(bytes: &[u8]) -> (&[u8], &[u8])
-    ensures { (result.0.now, result.1.now) ≡ sign_of bytes.now }
+/// The bytes behind a `+`, or all.
+fn after_sign(bytes: &[u8]) -> &[u8]
+    ensures rest { result.now ≡ (sign_of bytes.now).1 }
+    ensures shorter { length result.now ≤ length bytes.now }
 {
     match skip_byte(b'+', bytes) {
-        None => (&[], bytes),
-        Some(tail) => (b"+", tail),
+        None => bytes,
+        Some(tail) => tail,
     }
 }
 
@@ -200,70 +226,125 @@ fn has_digit(bytes: &[u8]) -> bool
 
 /// The number of a tel URI, its `+` included, and what follows it.
 #[tactic(auto, unfolding(crate::specs::Reading::number_at))]
-fn phone(alloc: Global, bytes: &[u8]) -> Result<(Text, &[u8]), LexFault>
-    ensures { Gives (λ x. (x.0, x.1.now)) result (number_at bytes.now) }
+fn phone(bytes: &[u8]) -> Option<(&[u8], &[u8])>
+    ensures { option_map (λ x. (x.0.now, x.1.now)) result ≡ number_at bytes.now }
 {
-    let (sign, tail) = sign(bytes);
-    let (marks, rest) = split_run(Class::Phone, tail);
+    let (marks, rest) = split_run(Class::Phone, after_sign(bytes));
     if !has_digit(marks) {
-        return Err(LexFault::Malformed);
+        return None;
     }
-    let mut number = Text::of(alloc, sign)?;
-    number.push(alloc, marks)?;
-    Ok((number, rest))
+    Some(bytes.split_at(bytes.len() - rest.len()))
 }
 
 /// The parts behind `tel:`, one behind the other.
-fn tel_parts(alloc: Global, bytes: &[u8]) -> Result<Uri, LexFault>
-    ensures { Gives (λ x. x) result (tel_parts bytes.now) }
+fn tel_parts(bytes: &[u8]) -> Option<UriRef<'_>>
+    ensures { option_map uri_seen result ≡ tel_parts bytes.now }
 {
-    let (number, rest) = phone(alloc, bytes)?;
-    let (params, rest) = params_front(alloc, rest)?;
+    let (number, rest) = phone(bytes)?;
+    let (params, rest) = params_ref(rest)?;
     if rest.is_empty() {
-        Ok(Uri::Tel { number, params })
+        Some(UriRef::Tel { number, params })
     } else {
-        Err(LexFault::Malformed)
+        None
     }
 }
 
 /// All of the bytes behind `tel:`, each of which is one of a URI.
 #[tactic(auto, unfolding(crate::specs::Reading::tel_of))]
-fn tel(alloc: Global, bytes: &[u8]) -> Result<Uri, LexFault>
-    ensures { Gives (λ x. x) result (tel_of bytes.now) }
+fn tel(bytes: &[u8]) -> Option<UriRef<'_>>
+    ensures { option_map uri_seen result ≡ tel_of bytes.now }
 {
     if is_all(Class::UriByte, bytes) {
-        tel_parts(alloc, bytes)
+        tel_parts(bytes)
     } else {
-        Err(LexFault::Malformed)
+        None
     }
 }
 
-/// The URI, or why its bytes gave none.
-fn of_uri(read: Result<Uri, LexFault>) -> Result<Uri, UriFault>
-    ensures { MatchResult read (λ u. result ≡ Ok u) (λ e. result ≡ Err (uri_fault e)) }
+/// The URI, or that its bytes are malformed.
+fn or_malformed(read: Option<UriRef<'_>>) -> Result<UriRef<'_>, UriFault>
+    ensures exact { Sees result (or_malformed (option_map uri_seen read.entry)) }
+    ensures of_bytes { IfErr result (λ e. IsUriOfBytes e) }
 {
     match read {
-        Ok(uri) => Ok(uri),
-        Err(LexFault::NoMemory) => Err(UriFault::NoMemory),
-        Err(LexFault::Malformed) => Err(UriFault::Malformed),
+        Some(uri) => Ok(uri),
+        None => Err(UriFault::Malformed),
     }
 }
 
+/// A URI of the scheme `sip` or `tel` as it stands in these bytes, all of which are read (RFC 3261 §19.1.1, RFC 3966 §3). It takes no memory.
+///
+/// # Errors
+///
+/// `Malformed` exactly where the bytes are neither of the grammar nor of another scheme. `Scheme` exactly where they begin with another scheme.
 #[tactic(auto, unfolding(crate::specs::Reading::uri_of))]
-fn uri(alloc: Global, bytes: &[u8]) -> Result<Uri, UriFault>
-    ensures { Answers result (uri_of bytes.now) }
+pub fn uri_ref(bytes: &[u8]) -> Result<UriRef<'_>, UriFault>
+    // The answer is that of the total reading function.
+    ensures exact { Sees result (uri_of bytes.now) }
+    // Memory is never the fault.
+    ensures of_bytes { IfErr result (λ e. IsUriOfBytes e) }
 {
     match scheme(bytes) {
         None => Err(UriFault::Malformed),
         Some((name, rest)) => {
             if is_named(name, b"sip") {
-                of_uri(sip(alloc, rest))
+                or_malformed(sip(rest))
             } else if is_named(name, b"tel") {
-                of_uri(tel(alloc, rest))
+                or_malformed(tel(rest))
             } else {
                 Err(UriFault::Scheme)
             }
         }
+    }
+}
+
+impl<'a> UriRef<'a> {
+    /// A copy of the URI.
+    ///
+    /// # Errors
+    ///
+    /// Want of memory alone.
+    pub fn owned(&self, alloc: Global) -> Result<Uri, NoMemory>
+        ensures { IfOk result (λ uri. uri ≡ uri_seen self.now) }
+    {
+        match self {
+            UriRef::Sip {
+                user,
+                host,
+                port,
+                params,
+                headers,
+            } => {
+                let params = params.owned(alloc)?;
+                let host = Text::of(alloc, *host)?;
+                let headers = Text::of(alloc, *headers)?;
+                let user = owned_text(alloc, *user)?;
+                Ok(Uri::Sip {
+                    user,
+                    host,
+                    port: *port,
+                    params,
+                    headers,
+                })
+            }
+            UriRef::Tel { number, params } => {
+                let number = Text::of(alloc, *number)?;
+                let params = params.owned(alloc)?;
+                Ok(Uri::Tel { number, params })
+            }
+        }
+    }
+}
+
+fn uri(alloc: Global, bytes: &[u8]) -> Result<Uri, UriFault>
+    ensures { Answers result (uri_of bytes.now) }
+{
+    match uri_ref(bytes) {
+        Ok(uri) => match uri.owned(alloc) {
+            Ok(uri) => Ok(uri),
+            Err(NoMemory) => Err(UriFault::NoMemory),
+        },
+        Err(fault) => Err(fault),
     }
 }
 

@@ -1,0 +1,19 @@
+-- The URI that a borrowed one is, and what its reader answers.
+use Rattle.std.specs.Prelude.{◌≡◌, Result, Ok, Err}
+use Rattle.std.specs.Option.{option_copied}
+use Rattle.mmtel_lex.specs.declared.faults.UriFault.{UriFault}
+use Rattle.mmtel_lex.specs.declared.uris.UriRef.{UriRef}
+use Rattle.mmtel_lex.specs.declared.uris.UriRef.TheVariants as refs
+use Rattle.mmtel_lex.specs.declared.values.Uri.{Uri}
+use Rattle.mmtel_lex.specs.declared.values.Uri.TheVariants.{Sip, Tel}
+use Rattle.mmtel_lex.specs.Reading.{Refusal, Refuses}
+
+-- the URI whose parts stand in bytes
+abbrev pub uri_seen : UriRef → Uri
+uri_seen (refs.Sip user host port params headers) = Sip (option_copied user) host.now port params headers.now
+uri_seen (refs.Tel number params) = Tel number.now params
+
+-- what uri_ref returned is what reading gives
+abbrev pub Sees : Result UriRef UriFault → Result Uri Refusal → Type 0
+Sees (Ok u) read = read ≡ Ok (uri_seen u)
+Sees (Err e) read = Refuses e read

@@ -1,58 +1,31 @@
 -- Loops over a message's lines, and edits of them.
-use Rattle.std.proofs.Common.{◌≡◌, Bool, true, false, ℕ, zero, suc, ◌+◌, ◌<◌, List, [], ◌∷◌, ◌++◌, length, take, drop, get_or, Option, Some, None, refl, sym, ap, subst, nat_lt, length-take, take-suc, append-nil, slice_set, append_assoc, ◌∙◌, arith, drop-cons, add-one, inl, inr}
+use Rattle.std.proofs.Common.{◌≡◌, Bool, true, false, ℕ, zero, suc, ◌+◌, ◌<◌, List, [], ◌∷◌, ◌++◌, length, take, drop, get_or, Option, Some, None, refl, sym, ap, subst, nat_lt, length-take, take-suc, slice_set, append_assoc, arith, drop-cons, add-one, inl, inr}
 use Rattle.std.proofs.lemmas.Bool.{cases_Bool}
 use Rattle.std.proofs.lemmas.List.{drop_all}
 use Rattle.std.specs.Prelude.{position}
 use Rattle.std.proofs.lemmas.Grind.{take-set_at}
-use Rattle.std.specs.Option.{option_map}
-use Rattle.std.proofs.lemmas.Bool.Decides.{nat_tests}
+use Rattle.std.proofs.lemmas.Option.{slice_get_within}
+use Rattle.std.specs.List.{slice_get}
 use Rattle.mmtel_scan.proofs.Positions.{position_yes, position_no}
 use Rattle.mmtel_message.proofs.LineLaws.{mapped, unmapped, same_some}
-use Rattle.mmtel_message.specs.Message.{Line, is_line, first_value, replaced, dropped}
+use Rattle.mmtel_message.specs.Message.{Line, is_line, replaced, dropped}
 use Rattle.mmtel_message.specs.Faults.{line_fault, fault_from}
 use Rattle.mmtel_message.specs.Entries.{dotted_step, is_dotted}
-use Rattle.mmtel_message.specs.Expansion.{lines_for, expanded_from}
 use Rattle.mmtel_message.specs.declared.fields.Five.{Five}
 use Rattle.mmtel_message.specs.declared.messages.Start.{Start}
 
-pub first_over : (name : List ℕ) (ls : List Line) (i : ℕ) (x : Line) (whole : Option (List ℕ)) → i < length ls → x ≡ get_or ls i x → is_line name x ≡ false → whole ≡ first_value name (drop i ls) → whole ≡ first_value name (drop (i + 1) ls)
-first_over name ls i x whole lt at_i e so_far =
-    let one : drop i ls ≡ x ∷ drop (i + 1) ls = rw (add-one, drop-cons ls i x lt, sym at_i) refl in
-    rw (one, e) at so_far
-
-pub first_here : (name : List ℕ) (ls : List Line) (i : ℕ) (x : Line) (whole : Option (List ℕ)) → i < length ls → x ≡ get_or ls i x → is_line name x ≡ true → whole ≡ first_value name (drop i ls) → whole ≡ Some x.1
-first_here name ls i x whole lt at_i e so_far =
-    let one : drop i ls ≡ x ∷ drop (i + 1) ls = rw (add-one, drop-cons ls i x lt, sym at_i) refl in
-    rw (one, e) at so_far
-
--- ---- expanded lines
-
-pub expand_over : (privacy allow : List ℕ) (ls out : List Line) (i : ℕ) (x : Line) (whole : List Line) → i < length ls → x ≡ get_or ls i x → whole ≡ out ++ expanded_from privacy allow (take i ls) (drop i ls) → whole ≡ (out ++ lines_for privacy allow (take i ls) x) ++ expanded_from privacy allow (take (i + 1) ls) (drop (i + 1) ls)
-unfolding expanded_from
-expand_over privacy allow ls out i x whole lt at_i so_far =
-    let one : drop i ls ≡ x ∷ drop (i + 1) ls = rw (add-one, drop-cons ls i x lt, sym at_i) refl in
-    let more : take i ls ++ x ∷ [] ≡ take (i + 1) ls = rw (add-one, take-suc ls i x lt, sym at_i) refl in
-    (rw (one, more) at so_far) ∙ sym (append_assoc out (lines_for privacy allow (take i ls) x) (expanded_from privacy allow (take (i + 1) ls) (drop (i + 1) ls)))
-
-pub expand_all : (privacy allow : List ℕ) (ls out : List Line) (i : ℕ) (whole : List Line) → i ≡ length ls → whole ≡ out ++ expanded_from privacy allow (take i ls) (drop i ls) → whole ≡ out
-unfolding expanded_from
-expand_all privacy allow ls out i whole e so_far = (rw (drop_all i ls (omega arith)) at so_far) ∙ append-nil out
-
 -- ---- the first fault
 
-pub fault_here : (start : Start) (five : Five) (room : ℕ) (ls : List Line) (i : ℕ) (x : Line) (whole : Option ℕ) → i < length ls → x ≡ get_or ls i x → line_fault start five room (take i ls) x ≡ true → whole ≡ fault_from start five room (take i ls) (drop i ls) → whole ≡ Some (i + 1)
+pub fault_here : (start : Start) (five : Five) (room : ℕ) (ls : List Line) (i : ℕ) (x : Line) (whole : Option ℕ) → slice_get ls i ≡ Some x → drop i ls ≡ x ∷ drop (i + 1) ls → line_fault start five room (take i ls) x ≡ true → whole ≡ fault_from start five room (take i ls) (drop i ls) → whole ≡ Some (i + 1)
 unfolding fault_from
-fault_here start five room ls i x whole lt at_i e so_far =
-    let one : drop i ls ≡ x ∷ drop (i + 1) ls = rw (add-one, drop-cons ls i x lt, sym at_i) refl in
-    let cut : length (take i ls) ≡ i = omega (arith, length-take i ls) in
-    rw (one, e, cut) at so_far
+fault_here start five room ls i x whole item first e so_far =
+    let within : i < length ls = slice_get_within ls i x item in
+    let cut : length (take i ls) ≡ i = omega (arith, length-take i ls, within) in
+    rw (first, e, cut) at so_far
 
-pub fault_over : (start : Start) (five : Five) (room : ℕ) (ls : List Line) (i : ℕ) (x : Line) (whole : Option ℕ) → i < length ls → x ≡ get_or ls i x → line_fault start five room (take i ls) x ≡ false → whole ≡ fault_from start five room (take i ls) (drop i ls) → whole ≡ fault_from start five room (take (i + 1) ls) (drop (i + 1) ls)
+pub fault_over : (start : Start) (five : Five) (room : ℕ) (ls : List Line) (i : ℕ) (x : Line) (whole : Option ℕ) → drop i ls ≡ x ∷ drop (i + 1) ls → take (i + 1) ls ≡ take i ls ++ x ∷ [] → line_fault start five room (take i ls) x ≡ false → whole ≡ fault_from start five room (take i ls) (drop i ls) → whole ≡ fault_from start five room (take (i + 1) ls) (drop (i + 1) ls)
 unfolding fault_from
-fault_over start five room ls i x whole lt at_i e so_far =
-    let one : drop i ls ≡ x ∷ drop (i + 1) ls = rw (add-one, drop-cons ls i x lt, sym at_i) refl in
-    let more : take i ls ++ x ∷ [] ≡ take (i + 1) ls = rw (add-one, take-suc ls i x lt, sym at_i) refl in
-    rw (one, e, more) at so_far
+fault_over start five room ls i x whole first last e so_far = rw (first, e, sym last) at so_far
 
 pub fault_none : (start : Start) (five : Five) (room : ℕ) (ls : List Line) (i : ℕ) (whole : Option ℕ) → i ≡ length ls → whole ≡ fault_from start five room (take i ls) (drop i ls) → whole ≡ None
 unfolding fault_from

@@ -1,13 +1,22 @@
 -- A line that is read on: a front that has no blank at its end, a gap, and the piece that was read last.
-use Rattle.std.proofs.Common.{◌≡◌, ◌<◌, true, false, ℕ, List, [], ◌∷◌, ◌++◌, length, reverse, Option, refl, sym, ap, subst, ◌∙◌, arith, append_assoc}
-use Rattle.std.proofs.lemmas.List.{reverse-append, length-reverse, nil_from_length}
+use Rattle.std.proofs.Common.{◌≡◌, ◌==◌, ◌<◌, ◌≤◌, Bool, true, false, ℕ, List, [], ◌∷◌, ◌++◌, length, map, take, drop, reverse, Option, Some, None, refl, sym, ap, subst, ◌∙◌, arith, append_assoc, inl, inr}
+use Rattle.std.proofs.lemmas.List.{append-nil, map-append, reverse-append, length-reverse, length-take, nil_from_length}
+use Rattle.std.proofs.lemmas.Bool.{cases_Bool}
+use Rattle.std.proofs.lemmas.Bool.Decides.{nat_tests}
+use Rattle.std.specs.Prelude.{IfSome}
+use Rattle.mmtel_scan.proofs.Runs.{and_true}
 use Rattle.mmtel_scan.specs.Classes.{in_class, IsAll, Stops}
 use Rattle.mmtel_scan.specs.Scanning.{after_run, trimmed}
 use Rattle.mmtel_scan.specs.declared.classes.Class.{Class}
 use Rattle.mmtel_scan.specs.declared.classes.Class.TheVariants.{Blank}
 use Rattle.mmtel_scan.proofs.Trims.{Trims, all_append, trimmed_again, trimmed_takes}
-use Rattle.mmtel_message.specs.Lines.{split, rest_lines, starts_blank, unfolded, unfolded_from}
-use Rattle.mmtel_message.proofs.LineLaws.{goes_join, goes_new, goes_done, goes_first}
+use Rattle.mmtel_message.specs.declared.held.HeldValue.{HeldValue}
+use Rattle.mmtel_message.specs.declared.held.HeldValue.TheVariants.{Received, Edited}
+use Rattle.mmtel_message.specs.Held.{value_of}
+use Rattle.mmtel_message.specs.Lines.{crlf, starts, put, split, starts_blank, joined, unfolded, unfolded_from}
+use Rattle.mmtel_message.specs.Places.{IsLater, IsWithin, continues, rest_at}
+use Rattle.mmtel_message.proofs.LineLaws.{split_is_cons}
+use Rattle.mmtel_message.proofs.PlaceLaws.{within_front}
 
 -- ---- blanks at the end
 
@@ -38,28 +47,92 @@ some_kept before piece pos =
 
 -- ---- lines that continue
 
--- the lines, where some are made and one is read on
-pub record ReadsOn (total made : List (List ℕ)) (front gap piece : List ℕ) (rest : List (List ℕ)) : Type 0 where
-  pub lines : total ≡ made ++ unfolded_from (front ++ gap ++ piece) rest
+-- a line's first byte is the first of what it is the first line of
+abbrev first_blank : List (List ℕ) → Bool
+first_blank [] = false
+first_blank (l ∷ ls) = starts_blank l
+
+put_blank : (b : ℕ) (ls : List (List ℕ)) (line : List ℕ) (others : List (List ℕ)) → put b ls ≡ line ∷ others → starts_blank line ≡ in_class Blank b
+unfolding in_class
+put_blank b [] line others e = ap (λ (l : List (List ℕ)). first_blank l) (sym e)
+put_blank b (l ∷ ls) line others e =
+    elim (cases_Bool (crlf (b ∷ l))) [
+      | inl y ↦
+          let is_return : (b == 13) ≡ true = (and_true (b == 13) (starts 10 l) y).0 in
+          let none : false ≡ in_class Blank b = grind (arith, nat_tests, is_return) in
+          ap (λ (x : List (List ℕ)). first_blank x) (sym (rw y at e)) ∙ none
+      | inr n ↦ ap (λ (x : List (List ℕ)). first_blank x) (sym (rw n at e))
+    ]
+
+split_blank : (s line : List ℕ) (others : List (List ℕ)) → split s ≡ line ∷ others → starts_blank line ≡ starts_blank s
+unfolding split
+split_blank [] line others e = ap (λ (l : List (List ℕ)). first_blank l) (sym e)
+split_blank (b ∷ s) line others e = put_blank b (split s) line others e
+
+-- a line that is read on, where these lines follow
+pub record ReadsOn (total : List (List ℕ)) (front gap piece : List ℕ) (rest : List (List ℕ)) : Type 0 where
+  pub lines : total ≡ unfolded_from (front ++ gap ++ piece) rest
   pub gap_in : IsAll Blank gap
   pub ends : Stops Blank (reverse front)
 
-pub begins_on : (s line : List ℕ) (after : Option (List ℕ)) → split s ≡ line ∷ rest_lines after → ReadsOn (unfolded (split s)) [] [] [] line (rest_lines after)
-begins_on s line after e = record { lines = goes_first line s after e; gap_in = refl; ends = tt }
+unfolds_on : (current line s : List ℕ) (others : List (List ℕ)) → split s ≡ line ∷ others → starts_blank s ≡ true → unfolded_from current (split s) ≡ unfolded_from (joined current line) others
+unfolding unfolded_from
+unfolds_on current line s others e blank = rw (e, split_blank s line others e ∙ blank) refl
 
-pub joins_on : (total made : List (List ℕ)) (front gap piece line s : List ℕ) (after : Option (List ℕ)) → split s ≡ line ∷ rest_lines after → starts_blank line ≡ true → ReadsOn total made front gap piece (split s) → ReadsOn total made (trimmed Blank (front ++ gap ++ piece)) (32 ∷ []) (after_run Blank line) (rest_lines after)
+pub joins_on : (total : List (List ℕ)) (front gap piece line s : List ℕ) (others : List (List ℕ)) → split s ≡ line ∷ others → starts_blank s ≡ true → ReadsOn total front gap piece (split s) → ReadsOn total (trimmed Blank (front ++ gap ++ piece)) (32 ∷ []) (after_run Blank line) others
 unfolding in_class
-joins_on total made front gap piece line s after e blank so_far =
+joins_on total front gap piece line s others e blank so_far =
     let takes : Trims Blank (front ++ gap ++ piece) (trimmed Blank (front ++ gap ++ piece)) = trimmed_takes Blank (front ++ gap ++ piece) in
     record {
-      lines = rw (append_assoc (trimmed Blank (front ++ gap ++ piece)) (32 ∷ []) (after_run Blank line)) (goes_join total made (front ++ gap ++ piece) line s after e blank so_far.lines);
+      lines = rw (append_assoc (trimmed Blank (front ++ gap ++ piece)) (32 ∷ []) (after_run Blank line)) (so_far.lines ∙ unfolds_on (front ++ gap ++ piece) line s others e blank);
       gap_in = refl;
       ends = takes.ends;
     }
 
-pub ends_on : (total made : List (List ℕ)) (front gap piece line s : List ℕ) (after : Option (List ℕ)) → split s ≡ line ∷ rest_lines after → starts_blank line ≡ false → ReadsOn total made front gap piece (split s) → ReadsOn total (made ++ (front ++ gap ++ piece) ∷ []) [] [] line (rest_lines after)
-ends_on total made front gap piece line s after e blank so_far =
-    record { lines = goes_new total made (front ++ gap ++ piece) line s after e blank so_far.lines; gap_in = refl; ends = tt }
+new_line : (current s : List ℕ) → starts_blank s ≡ false → unfolded_from current (split s) ≡ current ∷ unfolded (split s)
+unfolding unfolded_from
+new_line current s blank =
+    let p = split_is_cons s in
+    rw (p.2, split_blank s p.0 p.1 p.2 ∙ blank) refl
 
-pub done_on : (total made : List (List ℕ)) (front gap piece : List ℕ) → ReadsOn total made front gap piece [] → made ++ (front ++ gap ++ piece) ∷ [] ≡ total
-done_on total made front gap piece so_far = goes_done total made (front ++ gap ++ piece) so_far.lines
+-- a line that nothing continues is whole
+pub stands_alone : (current s : List ℕ) (next : Option ℕ) → continues s next ≡ false → unfolded_from current (rest_at s next) ≡ current ∷ unfolded (rest_at s next)
+unfolding unfolded_from
+stands_alone current s None e = refl
+stands_alone current s (Some n) e = new_line current (drop n s) e
+
+pub done_on : (total : List (List ℕ)) (front gap piece s : List ℕ) (next : Option ℕ) → continues s next ≡ false → ReadsOn total front gap piece (rest_at s next) → total ≡ (front ++ gap ++ piece) ∷ unfolded (rest_at s next)
+done_on total front gap piece s next e so_far = so_far.lines ∙ stands_alone (front ++ gap ++ piece) s next e
+
+pub still_after : (next : Option ℕ) (s : List ℕ) (first from : ℕ) → first ≤ from → IfSome next (λ n. IsLater from s n) → IfSome next (λ n. (first ≤ n) × (n ≤ length s))
+still_after None s first from le later = tt
+still_after (Some n) s first from le later = (omega (arith, later.0), later.1)
+
+-- ---- all lines
+
+pub record ReadsLines (total s : List ℕ) (made : List HeldValue) (next : Option ℕ) : Type 0 where
+  pub lines : unfolded (split s) ≡ map (value_of total) made ++ unfolded (rest_at s next)
+  pub within : IfSome next (λ n. n ≤ length s)
+
+among : (total : List ℕ) (end : ℕ) (value : HeldValue) → IsWithin (take end total) value → value_of (take end total) value ≡ value_of total value
+among total end (Received p) within =
+    let cut = length-take end total in
+    within_front total end p.from p.len (omega arith)
+among total end (Edited t) within = refl
+
+still_within : (next : Option ℕ) (s : List ℕ) (from : ℕ) → IfSome next (λ n. IsLater from s n) → IfSome next (λ n. n ≤ length s)
+still_within None s from later = tt
+still_within (Some n) s from later = later.1
+
+pub adds_line : (total : List ℕ) (end from : ℕ) (made : List HeldValue) (line : HeldValue) (next : Option ℕ) → ReadsLines total (take end total) made (Some from) → unfolded (split (drop from (take end total))) ≡ value_of (take end total) line ∷ unfolded (rest_at (take end total) next) → IsWithin (take end total) line → IfSome next (λ n. IsLater from (take end total) n) → ReadsLines total (take end total) (made ++ line ∷ []) next
+adds_line total end from made line next so_far e within later =
+    let s : List ℕ = take end total in
+    let one : unfolded (split (drop from (take end total))) ≡ value_of total line ∷ unfolded (rest_at (take end total) next) = rw (among total end line within) at e in
+    let pushed : map (value_of total) (made ++ line ∷ []) ≡ map (value_of total) made ++ value_of total line ∷ [] = map-append (value_of total) made (line ∷ []) in
+    record {
+      lines = so_far.lines ∙ ap (λ (l : List (List ℕ)). map (value_of total) made ++ l) one ∙ sym (append_assoc (map (value_of total) made) (value_of total line ∷ []) (unfolded (rest_at (take end total) next))) ∙ ap (λ (l : List (List ℕ)). l ++ unfolded (rest_at (take end total) next)) (sym pushed);
+      within = still_within next (take end total) from later;
+    }
+
+pub all_lines : (total s : List ℕ) (made : List HeldValue) → ReadsLines total s made None → map (value_of total) made ≡ unfolded (split s)
+all_lines total s made so_far = sym (so_far.lines ∙ append-nil (map (value_of total) made))

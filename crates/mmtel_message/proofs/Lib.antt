@@ -4,9 +4,14 @@ mod CommaLaws
 mod EditLaws
 mod EntryLaws
 pub mod ExpansionLaws
+mod FieldLaws
 mod FoldLaws
+mod HeaderLaws
+mod HeldLaws
 mod LineLaws
 mod NameLaws
+mod PartLaws
+mod PlaceLaws
 pub mod PromiseLaws
 mod ReadLaws
 pub mod ResponseLaws
@@ -16,3 +21,4 @@ mod StartLaws
 pub mod TagLaws
 mod ValueLaws
 pub mod ViaLaws
+pub mod WalkLaws

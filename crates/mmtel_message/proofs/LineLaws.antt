@@ -1,13 +1,13 @@
 -- The places where lines and heads end.
-use Rattle.std.proofs.Common.{◌≡◌, ◌==◌, Bool, true, false, ◌&&◌, ℕ, zero, suc, ◌+◌, ◌<◌, ◌≤◌, ◌-◌, List, [], ◌∷◌, ◌++◌, length, take, drop, get_or, Option, Some, None, refl, sym, ap, subst, ◌∙◌, arith, drop-cons, add-one, inl, inr, length-drop, append_assoc}
-use Rattle.std.proofs.lemmas.List.{drop_all, take_all}
+use Rattle.std.proofs.Common.{◌≡◌, ◌==◌, Bool, true, false, ◌&&◌, ℕ, zero, suc, ◌+◌, ◌<◌, ◌≤◌, ◌-◌, List, [], ◌∷◌, length, take, drop, get_or, Option, Some, None, refl, sym, ap, subst, ◌∙◌, arith, drop-cons, add-one, inl, inr, length-drop}
+use Rattle.std.proofs.lemmas.List.{drop_all, drop-drop, take_all, take_rest}
 use Rattle.std.specs.Option.{option_map}
 use Rattle.std.proofs.lemmas.Bool.{cases_Bool}
 use Rattle.std.proofs.lemmas.Bool.Decides.{nat_tests}
 use Rattle.mmtel_scan.proofs.Runs.{and_true}
 use Rattle.mmtel_message.specs.declared.lines.Break.{Break}
 use Rattle.mmtel_message.specs.declared.lines.Break.TheVariants.{Line, Head}
-use Rattle.mmtel_message.specs.Lines.{crlf, begins, width, first_break, put, split, or_found, last_line_end, rest_lines, starts_blank, joined, unfolded, unfolded_from}
+use Rattle.mmtel_message.specs.Lines.{crlf, begins, width, first_break, put, split, or_found, last_line_end}
 
 -- ---- the loop
 
@@ -78,7 +78,7 @@ put_is_cons b (l ∷ ls) =
       | inr n ↦ (b ∷ l, ls, rw n refl)
     ]
 
-split_is_cons : (s : List ℕ) → (l : List ℕ) × (ls : List (List ℕ)) × (split s ≡ l ∷ ls)
+pub split_is_cons : (s : List ℕ) → (l : List ℕ) × (ls : List (List ℕ)) × (split s ≡ l ∷ ls)
 unfolding split
 split_is_cons [] = ([], [], refl)
 split_is_cons (b ∷ s) = put_is_cons b (split s)
@@ -132,22 +132,25 @@ split_some (b ∷ t) n e =
 pub whole_rest : (s : List ℕ) (i : ℕ) → i ≤ length s → take (length s - i) (drop i s) ≡ drop i s
 whole_rest s i le = take_all (length s - i) (drop i s) (let cut : length (drop i s) ≡ length s - i = length-drop i s in omega arith)
 
--- ---- lines that continue
+-- ---- the line that begins at a place
 
-pub goes_join : (whole made : List (List ℕ)) (current line s : List ℕ) (after : Option (List ℕ)) → split s ≡ line ∷ rest_lines after → starts_blank line ≡ true → whole ≡ made ++ unfolded_from current (split s) → whole ≡ made ++ unfolded_from (joined current line) (rest_lines after)
-unfolding unfolded_from
-goes_join whole made current line s after e blank so_far = rw (e, blank) at so_far
+pub line_alone : (s : List ℕ) (from : ℕ) → first_break Line (drop from s) ≡ None → split (drop from s) ≡ take (length s - from) (drop from s) ∷ []
+line_alone s from e = split_none (drop from s) e ∙ ap (λ (l : List ℕ). l ∷ []) (sym (take_rest s from))
 
-pub goes_new : (whole made : List (List ℕ)) (current line s : List ℕ) (after : Option (List ℕ)) → split s ≡ line ∷ rest_lines after → starts_blank line ≡ false → whole ≡ made ++ unfolded_from current (split s) → whole ≡ (made ++ current ∷ []) ++ unfolded_from line (rest_lines after)
-unfolding unfolded_from
-goes_new whole made current line s after e blank so_far = (rw (e, blank) at so_far) ∙ sym (append_assoc made (current ∷ []) (unfolded_from line (rest_lines after)))
+pub line_first : (s : List ℕ) (from len : ℕ) → first_break Line (drop from s) ≡ Some len → split (drop from s) ≡ take len (drop from s) ∷ split (drop (from + len + 2) s)
+line_first s from len e =
+    let later : drop (len + 2) (drop from s) ≡ drop (from + len + 2) s = drop-drop (len + 2) from s ∙ ap (λ (n : ℕ). drop n s) (omega arith) in
+    rw later at (split_some (drop from s) len e)
 
-pub goes_done : (whole made : List (List ℕ)) (current : List ℕ) → whole ≡ made ++ unfolded_from current [] → made ++ current ∷ [] ≡ whole
-unfolding unfolded_from
-goes_done whole made current so_far = sym so_far
+no_return_first : (k : Break) (b : ℕ) (s : List ℕ) → (b == 13) ≡ false → begins k (b ∷ s) ≡ false
+no_return_first Line b s e = rw e refl
+no_return_first Head b s e = rw e refl
 
-pub goes_first : (line s : List ℕ) (after : Option (List ℕ)) → split s ≡ line ∷ rest_lines after → unfolded (split s) ≡ unfolded_from line (rest_lines after)
-goes_first line s after e = rw e refl
+-- a line end does not begin with another byte
+pub no_return : (k : Break) (s : List ℕ) (i : ℕ) → i < length s → (get_or s i 0 == 13) ≡ false → begins k (drop i s) ≡ false
+no_return k s i lt e =
+    let one : drop i s ≡ get_or s i 0 ∷ drop (i + 1) s = rw (add-one, drop-cons s i 0) refl in
+    rw one (no_return_first k (get_or s i 0) (drop (i + 1) s) e)
 
 -- ---- the last line end
 

@@ -1,6 +1,6 @@
 -- What is wrong with a message whose five fields can be read, line by line (RFC 3261 §8.1.1, §8.2 and §20; RFC 3323 Privacy, RFC 3325 P-Asserted-Identity, RFC 3515
 -- Refer-To, RFC 5502 P-Served-User, RFC 7044 History-Info).
-use Rattle.std.specs.Prelude.{Option, Some, None, is_none, is_some, ◌==◌, ◌&&◌, ◌||◌, not, if◌then◌else◌, ℕ, ◌+◌, Bool, true, false, List, [], ◌∷◌, ◌++◌, length, codes}
+use Rattle.std.specs.Prelude.{Option, Some, None, is_none, is_some, ◌==◌, ◌&&◌, ◌||◌, not, if◌then◌else◌, ℕ, ◌+◌, ◌-◌, Bool, true, false, List, [], ◌∷◌, ◌++◌, length, codes}
 use Rattle.std.specs.Prelude.{nat_lt, Result, Ok, Err}
 use Rattle.std.specs.List.{list_all}
 use Rattle.std.specs.Str.{bytes_eq}
@@ -63,6 +63,10 @@ is_case (Some v) = bytes_eq v (codes "orig") || bytes_eq v (codes "term")
 abbrev pub has_case : Option NameAddr → Bool
 has_case None = false
 has_case (Some n) = is_case (param_value (codes "sescase") n.params)
+
+-- what is left of the room for so many; None where they are more
+abbrev pub room_after : ℕ → ℕ → Option ℕ
+room_after room n = if nat_lt room n then None else Some (room - n)
 
 -- a word of Privacy is a token
 abbrev pub is_word : List ℕ → Bool

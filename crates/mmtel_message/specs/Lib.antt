@@ -1,13 +1,15 @@
--- What the public clauses cite; `Vias` ends with words of private functions alone.
+-- What the public clauses cite; `Vias` ends with words of private functions alone, and `FiveLines` has no others.
 pub mod Lines
 pub mod Names
 pub mod Headers
 pub mod Values
 pub mod Message
+pub mod Held
 pub mod Addresses
 pub mod Texts
 pub mod Starts
 pub mod Fields
+pub mod FiveLines
 pub mod Entries
 pub mod Faults
 pub mod Expansion
@@ -19,3 +21,5 @@ pub mod Reads
 pub mod Canonical
 pub mod Datagram
 pub mod Promises
+-- What private functions alone cite: the lines of a head by the places where they begin.
+pub mod Places

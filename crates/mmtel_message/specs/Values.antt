@@ -1,5 +1,5 @@
 -- The values of one text: a listed name's, which commas part (RFC 3261 §7.3.1), and Privacy's words, which ';' parts (RFC 3323 §4.2).
-use Rattle.std.specs.Prelude.{Option, Some, None, ◌==◌, if◌then◌else◌, ℕ, Bool, false, List, [], ◌∷◌, ◌++◌, ◌+◌, map}
+use Rattle.std.specs.Prelude.{Option, Some, None, ◌==◌, if◌then◌else◌, ℕ, Bool, false, List, [], ◌∷◌, ◌++◌, ◌+◌, map, drop}
 use Rattle.std.specs.List.{flat_map}
 use Rattle.std.specs.Option.{option_map}
 use Rattle.mmtel_message.specs.Headers.{trim}
@@ -51,6 +51,11 @@ rest_parts m (Some s) = parts m s
 -- the parts without the blanks around them
 abbrev pub values_in : Mode → List ℕ → List (List ℕ)
 values_in m s = map trim (parts m s)
+
+-- those from a place on; none where there is no place
+abbrev pub values_from : Mode → List ℕ → Option ℕ → List (List ℕ)
+values_from m s None = []
+values_from m s (Some n) = values_in m (drop n s)
 
 -- the values of a listed name's text
 abbrev pub values_of : List ℕ → List (List ℕ)

@@ -1,8 +1,9 @@
 //! The header lines of a message that the server builds, one behind another.
-ghost use Rattle.std.specs.Prelude.{◌≡◌, ◌++◌, IfOk, OnErr, OnOk, decimal};
+ghost use Rattle.std.specs.Prelude.{◌≡◌, ◌∷◌, ◌++◌, [], IfOk, OnErr, OnOk, decimal};
 ghost use Rattle.mmtel_message.specs.Message.{line, named};
 
-use crate::messages::{Line, is_line};
+use crate::held::Lines;
+use crate::messages::{Line, is_named};
 use mmtel_scan::{List, NoMemory, Text, add_number};
 use std::alloc::Global;
 
@@ -63,30 +64,48 @@ pub fn add_decimal(
     add_line(alloc, out, name, value)
 }
 
-/// The same lines.
+/// Adds these lines, one behind another. For want of memory a front of them.
 #[tactic(auto, unfolding(crate::specs::Message::line))]
-fn lines_copied(alloc: Global, lines: &[Line]) -> Result<List<Line>, NoMemory>
-    ensures { IfOk result (λ ls. ls ≡ lines.now) }
+pub fn append_lines(alloc: Global, out: &mut List<Line>, lines: &[Line]) -> Result<(), NoMemory>
+    ensures { OnOk result (out.new ≡ out.old ++ lines.now) }
 {
-    let mut copy = List::new();
     for line in lines {
-        add_bytes(alloc, &mut copy, line.0.bytes(), line.1.bytes())?;
+        add_bytes(alloc, out, line.0.bytes(), line.1.bytes())?;
     }
-    Ok(copy)
+    Ok(())
 }
 
-/// The lines of the name, as they stand.
+/// Adds the line of this spelling and value, where it has the name.
 #[tactic(auto, unfolding(crate::specs::Message::line))]
-pub fn lines_named(alloc: Global, name: &[u8], lines: &[Line]) -> Result<List<Line>, NoMemory>
-    ensures { IfOk result (λ ls. ls ≡ named name.now lines.now) }
+fn add_if_named(
+    alloc: Global,
+    out: &mut List<Line>,
+    name: &[u8],
+    spelled: &[u8],
+    value: &[u8],
+) -> Result<(), NoMemory>
+    ensures { OnOk result (out.new ≡ out.old ++ named name.now ((spelled.now, value.now) ∷ [])) }
 {
-    let mut copy = List::new();
-    for line in lines {
-        if is_line(line, name) {
-            add_bytes(alloc, &mut copy, line.0.bytes(), line.1.bytes())?;
-        }
+    if !is_named(spelled, name) {
+        return Ok(());
     }
-    Ok(copy)
+    add_bytes(alloc, out, spelled, value)
+}
+
+/// Adds those of the lines that have the name, as they stand and in their order. For want of memory a front of them.
+pub fn append_named(
+    alloc: Global,
+    out: &mut List<Line>,
+    name: &[u8],
+    lines: &Lines<'_>,
+) -> Result<(), NoMemory>
+    ensures { OnOk result (out.new ≡ out.old ++ named name.now lines.now.values) }
+{
+    for i in 0..lines.len() {
+        let (spelled, value) = lines.at(i);
+        add_if_named(alloc, out, name, spelled, value)?;
+    }
+    Ok(())
 }
 
 /// Adds the lines that are passed on, in their order.
@@ -98,7 +117,8 @@ pub fn add_passed(alloc: Global, out: &mut List<Line>, passed: &[Line]) -> Resul
     ensures added { OnOk result (out.new ≡ out.old ++ passed.now) }
     ensures refused { OnErr result (out.new ≡ out.old) }
 {
-    let copy = lines_copied(alloc, passed)?;
+    let mut copy = List::new();
+    append_lines(alloc, &mut copy, passed)?;
     out.extend(alloc, copy)?;
     Ok(())
 }
@@ -112,12 +132,13 @@ pub fn add_named(
     alloc: Global,
     out: &mut List<Line>,
     name: &[u8],
-    lines: &[Line],
+    lines: &Lines<'_>,
 ) -> Result<(), NoMemory>
-    ensures added { OnOk result (out.new ≡ out.old ++ named name.now lines.now) }
+    ensures added { OnOk result (out.new ≡ out.old ++ named name.now lines.now.values) }
     ensures refused { OnErr result (out.new ≡ out.old) }
 {
-    let copy = lines_named(alloc, name, lines)?;
+    let mut copy = List::new();
+    append_named(alloc, &mut copy, name, lines)?;
     out.extend(alloc, copy)?;
     Ok(())
 }

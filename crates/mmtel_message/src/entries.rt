@@ -1,10 +1,12 @@
 //! What a value of History-Info is (RFC 7044 §5).
-ghost use Rattle.std.specs.Prelude.{◌≡◌, IfOk, false};
+ghost use Rattle.std.specs.Prelude.{◌≡◌, false};
 ghost use Rattle.std.specs.Option.{option_copied};
 ghost use Rattle.mmtel_message.specs.Entries.{dotted_step, is_dotted, is_place, is_entry, are_entries};
+ghost use Rattle.mmtel_message.specs.Values.{values_of};
 
-use mmtel_lex::{LexFault, NoMemory, Text, param_value, read_name_addr};
-use std::alloc::Global;
+use crate::values::{Mode, next_part};
+use mmtel_lex::name_addr_ref;
+use mmtel_scan::{Class, trim};
 
 fn dotted_step(digit: bool, b: u8) -> Option<bool>
     ensures { result ≡ dotted_step digit b }
@@ -42,24 +44,26 @@ pub fn is_place(value: Option<&[u8]>) -> bool
     }
 }
 
-fn is_entry(alloc: Global, value: &[u8]) -> Result<bool, NoMemory>
-    ensures { IfOk result (λ b. b ≡ is_entry value.now) }
+fn is_entry(value: &[u8]) -> bool
+    ensures { result ≡ is_entry value.now }
 {
-    match read_name_addr(alloc, value) {
-        Ok(read) => Ok(is_place(param_value(read.params.items(), b"index"))),
-        Err(LexFault::Malformed) => Ok(false),
-        Err(LexFault::NoMemory) => Err(NoMemory),
+    match name_addr_ref(value) {
+        None => false,
+        Some(read) => is_place(read.param(b"index")),
     }
 }
 
-/// Whether each is a value of History-Info.
-pub fn are_entries(alloc: Global, values: &[Text]) -> Result<bool, NoMemory>
-    ensures { IfOk result (λ b. b ≡ are_entries values.now) }
+/// Whether each of a listed value is a value of History-Info.
+pub fn are_entries(value: &[u8]) -> bool
+    ensures { result ≡ are_entries (values_of value.now) }
 {
-    for value in values {
-        if !is_entry(alloc, value.bytes())? {
-            return Ok(false);
+    let mut rest = Some(value);
+    'parts: while let Some(more) = rest {
+        let (part, after) = next_part(Mode::Plain, more);
+        if !is_entry(trim(Class::Blank, part)) {
+            return false;
         }
+        rest = after;
     }
-    Ok(true)
+    true
 }

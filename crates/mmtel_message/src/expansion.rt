@@ -1,59 +1,91 @@
 //! The header lines of a canonical text (RFC 3261 §7.3.1).
-ghost use Rattle.std.specs.Prelude.{◌≡◌, [], ◌++◌, IfOk, OnOk, map};
-ghost use Rattle.mmtel_message.specs.Values.{base};
-ghost use Rattle.mmtel_message.specs.Expansion.{is_listed, merged_text, privacy_text, allow_text, at_first, lines_for, expanded_from, expanded};
+ghost use Rattle.std.specs.Prelude.{◌≡◌, ◌||◌, [], ◌∷◌, ◌++◌, IfOk, OnOk, codes, map};
+ghost use Rattle.std.specs.List.{list_any};
+ghost use Rattle.std.specs.Str.{str_eq_ignore_ascii_case};
+ghost use Rattle.mmtel_message.specs.Held.{held_line, held_lines, value_of};
+ghost use Rattle.mmtel_message.specs.Values.{base, values_of};
+ghost use Rattle.mmtel_message.specs.Expansion.{listed_names, merged_text, privacy_text, allow_text, at_first, lines_for, expanded_from, expanded};
 
-use crate::building::add_bytes;
-use crate::messages::{Line, has_line, is_line, line_texts};
-use crate::values::{Mode, joined_by, values_in};
+use crate::held::{Held, HeldValue, Lines, part_of, value_of};
+use crate::messages::{has_line, is_named, line_texts};
+use crate::values::{Mode, joined_by, next_value, values_in};
 use mmtel_lex::{List, NoMemory, Text};
 use mmtel_scan::{Class, trim};
 use std::alloc::Global;
 
-/// Whether the values of the line stand one a line.
-fn is_listed(line: &Line) -> bool
-    ensures { result ≡ is_listed line.now }
+/// Whether a name is one of two.
+fn is_either(name: &[u8], one: &[u8], other: &[u8]) -> bool
+    ensures { result ≡ (str_eq_ignore_ascii_case name.now one.now || str_eq_ignore_ascii_case name.now other.now) }
 {
-    if is_line(line, b"Via") {
+    if is_named(name, one) {
         return true;
     }
-    if is_line(line, b"Route") {
-        return true;
-    }
-    if is_line(line, b"Record-Route") {
-        return true;
-    }
-    if is_line(line, b"Contact") {
-        return true;
-    }
-    if is_line(line, b"P-Asserted-Identity") {
-        return true;
-    }
-    if is_line(line, b"History-Info") {
-        return true;
-    }
-    if is_line(line, b"Supported") {
-        return true;
-    }
-    is_line(line, b"Require")
+    is_named(name, other)
 }
 
-#[tactic(auto, unfolding(crate::specs::Message::line))]
+/// Whether the values of a line of this name stand one a line.
+#[tactic(auto, using(crate::proofs::PartLaws::other_length))]
+fn is_listed(name: &[u8]) -> bool
+    ensures { result ≡ list_any (λ listed. str_eq_ignore_ascii_case name.now listed) listed_names }
+{
+    match name.len() {
+        3 => is_named(name, b"Via"),
+        5 => is_named(name, b"Route"),
+        7 => is_either(name, b"Contact", b"Require"),
+        9 => is_named(name, b"Supported"),
+        12 => is_either(name, b"Record-Route", b"History-Info"),
+        19 => is_named(name, b"P-Asserted-Identity"),
+        _ => false,
+    }
+}
+
+/// Adds a line.
+fn add_held(
+    alloc: Global,
+    out: &mut List<Held>,
+    name: &[u8],
+    value: HeldValue,
+) -> Result<(), NoMemory>
+    ensures { OnOk result (out.new ≡ out.old ++ (name.now, value) ∷ []) }
+{
+    let name = Text::of(alloc, name)?;
+    out.push(alloc, (name, value))?;
+    Ok(())
+}
+
+/// Adds a line a value: places too, where the whole is one.
 fn add_values(
     alloc: Global,
-    out: &mut List<Line>,
+    out: &mut List<Held>,
+    bytes: &[u8],
     name: &[u8],
-    values: &[Text],
+    value: &HeldValue,
 ) -> Result<(), NoMemory>
-    ensures { OnOk result (out.new ≡ out.old ++ map (λ v. (name.now, v)) values.now) }
+    ensures { OnOk result (held_lines bytes.now out.new ≡ held_lines bytes.now out.old ++ map (λ v. (name.now, v)) (values_of (value_of bytes.now value.now))) }
 {
-    for value in values {
-        add_bytes(alloc, out, name, value.bytes())?;
+    let text = value_of(bytes, value);
+    let mut next = Some(0);
+    'values: while let Some(from) = next {
+        let (place, after) = next_value(Mode::Plain, text, from);
+        let one = part_of(alloc, bytes, value, place)?;
+        add_held(alloc, out, name, one)?;
+        next = after;
     }
     Ok(())
 }
 
+/// The same value.
+fn value_copied(alloc: Global, value: &HeldValue) -> Result<HeldValue, NoMemory>
+    ensures { IfOk result (λ v. v ≡ value.now) }
+{
+    match value {
+        HeldValue::Received(place) => Ok(HeldValue::Received(*place)),
+        HeldValue::Edited(text) => Ok(HeldValue::Edited(text.copied(alloc)?)),
+    }
+}
+
 /// The values of several texts as one list, with a separator between them.
+#[tactic(auto, using(crate::proofs::PartLaws::merged_none))]
 fn merged_text(
     alloc: Global,
     mode: Mode,
@@ -64,91 +96,149 @@ fn merged_text(
     requires { base mode ≡ mode }
     ensures { IfOk result (λ t. t ≡ merged_text mode parting.now between.now texts.now) }
 {
-    let whole = joined_by(alloc, parting, texts)?;
-    let values = values_in(alloc, mode, whole.bytes())?;
-    let joined = joined_by(alloc, between, values.items())?;
-    Text::of(alloc, trim(Class::Blank, joined.bytes()))
+    match texts {
+        [] => Ok(Text::new()),
+        _ => {
+            let whole = joined_by(alloc, parting, texts)?;
+            let values = values_in(alloc, mode, whole.bytes())?;
+            let joined = joined_by(alloc, between, values.items())?;
+            Text::of(alloc, trim(Class::Blank, joined.bytes()))
+        }
+    }
 }
 
-fn privacy_text(alloc: Global, lines: &[Line]) -> Result<Text, NoMemory>
-    ensures { IfOk result (λ t. t ≡ privacy_text lines.now) }
+fn privacy_text(alloc: Global, lines: &Lines<'_>) -> Result<Text, NoMemory>
+    ensures { IfOk result (λ t. t ≡ privacy_text lines.now.values) }
 {
     let texts = line_texts(alloc, lines, b"Privacy")?;
     merged_text(alloc, Mode::Words, b";", b";", texts.items())
 }
 
-fn allow_text(alloc: Global, lines: &[Line]) -> Result<Text, NoMemory>
-    ensures { IfOk result (λ t. t ≡ allow_text lines.now) }
+fn allow_text(alloc: Global, lines: &Lines<'_>) -> Result<Text, NoMemory>
+    ensures { IfOk result (λ t. t ≡ allow_text lines.now.values) }
 {
     let texts = line_texts(alloc, lines, b"Allow")?;
     merged_text(alloc, Mode::Plain, b",", b", ", texts.items())
 }
 
-#[tactic(auto, unfolding(crate::specs::Message::line))]
-fn add_at_first(
+/// A text that was made of the values of a name: the place of the first of them, where it says the same, or an edit.
+fn merged_value(
     alloc: Global,
-    out: &mut List<Line>,
-    name: &[u8],
+    bytes: &[u8],
     text: &[u8],
-    before: &[Line],
-    line: &Line,
-) -> Result<(), NoMemory>
-    ensures { OnOk result (out.new ≡ out.old ++ at_first name.now text.now before.now line.now) }
+    first: &HeldValue,
+) -> Result<HeldValue, NoMemory>
+    ensures { IfOk result (λ v. value_of bytes.now v ≡ text.now) }
 {
-    if has_line(name, before) {
-        return Ok(());
+    if value_of(bytes, first) == text {
+        return value_copied(alloc, first);
     }
-    add_bytes(alloc, out, line.0.bytes(), text)
+    Ok(HeldValue::Edited(Text::of(alloc, text)?))
 }
 
-#[tactic(auto, unfolding(crate::specs::Message::line))]
+/// Adds a line of a name whose lines are merged: the text of its values at the first one, nothing at further ones.
+fn add_merged(
+    alloc: Global,
+    out: &mut List<Held>,
+    bytes: &[u8],
+    text: &[u8],
+    line: &Held,
+) -> Result<(), NoMemory>
+    ensures { OnOk result (held_lines bytes.now out.new ≡ held_lines bytes.now out.old ++ (line.now.0, text.now) ∷ []) }
+{
+    let value = merged_value(alloc, bytes, text, &line.1)?;
+    add_held(alloc, out, line.0.bytes(), value)
+}
+
+fn add_privacy(
+    alloc: Global,
+    out: &mut List<Held>,
+    bytes: &[u8],
+    whole: &Lines<'_>,
+    before: &[Held],
+    line: &Held,
+) -> Result<(), NoMemory>
+    ensures { OnOk result (held_lines bytes.now out.new ≡
+        held_lines bytes.now out.old ++ at_first (codes "Privacy") (privacy_text whole.now.values) (held_lines bytes.now before.now) (held_line bytes.now line.now)) }
+{
+    if has_line(b"Privacy", &Lines::of(bytes, before, &[])) {
+        return Ok(());
+    }
+    let text = privacy_text(alloc, whole)?;
+    add_merged(alloc, out, bytes, text.bytes(), line)
+}
+
+fn add_allow(
+    alloc: Global,
+    out: &mut List<Held>,
+    bytes: &[u8],
+    whole: &Lines<'_>,
+    before: &[Held],
+    line: &Held,
+) -> Result<(), NoMemory>
+    ensures { OnOk result (held_lines bytes.now out.new ≡
+        held_lines bytes.now out.old ++ at_first (codes "Allow") (allow_text whole.now.values) (held_lines bytes.now before.now) (held_line bytes.now line.now)) }
+{
+    if has_line(b"Allow", &Lines::of(bytes, before, &[])) {
+        return Ok(());
+    }
+    let text = allow_text(alloc, whole)?;
+    add_merged(alloc, out, bytes, text.bytes(), line)
+}
+
+/// Adds the lines in place of one, which stands behind those before.
 fn add_lines_for(
     alloc: Global,
-    out: &mut List<Line>,
-    privacy: &[u8],
-    allow: &[u8],
-    before: &[Line],
-    line: &Line,
+    out: &mut List<Held>,
+    bytes: &[u8],
+    whole: &Lines<'_>,
+    before: &[Held],
+    line: &Held,
 ) -> Result<(), NoMemory>
-    ensures { OnOk result (out.new ≡ out.old ++ lines_for privacy.now allow.now before.now line.now) }
+    ensures { OnOk result (held_lines bytes.now out.new ≡ held_lines bytes.now out.old ++
+        lines_for (privacy_text whole.now.values) (allow_text whole.now.values) (held_lines bytes.now before.now) (held_line bytes.now line.now)) }
 {
     let name = line.0.bytes();
     if name.is_empty() {
         return Ok(());
     }
-    if is_line(line, b"Privacy") {
-        return add_at_first(alloc, out, b"Privacy", privacy, before, line);
+    if is_named(name, b"Privacy") {
+        return add_privacy(alloc, out, bytes, whole, before, line);
     }
-    if is_line(line, b"Allow") {
-        return add_at_first(alloc, out, b"Allow", allow, before, line);
+    if is_named(name, b"Allow") {
+        return add_allow(alloc, out, bytes, whole, before, line);
     }
-    if is_listed(line) {
-        let values = values_in(alloc, Mode::Plain, line.1.bytes())?;
-        return add_values(alloc, out, name, values.items());
+    if is_listed(name) {
+        return add_values(alloc, out, bytes, name, &line.1);
     }
-    add_bytes(alloc, out, name, line.1.bytes())
+    let value = value_copied(alloc, &line.1)?;
+    add_held(alloc, out, name, value)
 }
 
-fn expanded_with(
+/// The lines in place of these, which stand first in a message of those lines.
+fn expanded_in(
     alloc: Global,
-    privacy: &[u8],
-    allow: &[u8],
-    lines: &[Line],
-) -> Result<List<Line>, NoMemory>
-    ensures { IfOk result (λ ls. ls ≡ expanded_from privacy.now allow.now [] lines.now) }
+    bytes: &[u8],
+    whole: &Lines<'_>,
+    lines: &[Held],
+) -> Result<List<Held>, NoMemory>
+    ensures { IfOk result (λ ls. held_lines bytes.now ls ≡
+        expanded_from (privacy_text whole.now.values) (allow_text whole.now.values) [] (held_lines bytes.now lines.now)) }
 {
     let mut out = List::new();
     for i in 0..lines.len() {
-        add_lines_for(alloc, &mut out, privacy, allow, &lines[..i], &lines[i])?;
+        add_lines_for(alloc, &mut out, bytes, whole, &lines[..i], &lines[i])?;
     }
     Ok(out)
 }
 
-/// The lines of the canonical text of a message with these lines.
-pub fn expanded(alloc: Global, lines: &[Line]) -> Result<List<Line>, NoMemory>
-    ensures { IfOk result (λ ls. ls ≡ expanded lines.now) }
+/// The lines of the canonical text of a message that has these lines.
+///
+/// A part of a value that is a place is a place. So is the merged text of Privacy or Allow where it says what the first line of the name says, as it does where that is the
+/// only one and is canonical. A part of an edit is an edit, also where it stands among the bytes: a line that was folded keeps no place.
+pub fn expanded(alloc: Global, bytes: &[u8], lines: &[Held]) -> Result<List<Held>, NoMemory>
+    ensures { IfOk result (λ ls. held_lines bytes.now ls ≡ expanded (held_lines bytes.now lines.now)) }
 {
-    let privacy = privacy_text(alloc, lines)?;
-    let allow = allow_text(alloc, lines)?;
-    expanded_with(alloc, privacy.bytes(), allow.bytes(), lines)
+    let whole = Lines::of(bytes, lines, &[]);
+    expanded_in(alloc, bytes, &whole, lines)
 }

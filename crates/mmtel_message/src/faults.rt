@@ -1,22 +1,23 @@
-//! What is wrong with a message.
+//! What is wrong with a message. Nothing here takes memory, but for `is_readable`.
 ghost use Rattle.std.specs.Prelude.{◌≡◌, ◌||◌, ◌&&◌, IfOk, is_none, not, [], nat_lt, ◌+◌, length, codes};
 ghost use Rattle.std.specs.Option.{option_copied};
 ghost use Rattle.mmtel_lex.specs.Reading.{name_addr_of};
 ghost use Rattle.mmtel_scan.specs.Numbers.{number_of};
 ghost use Rattle.mmtel_message.specs.Entries.{are_entries};
 ghost use Rattle.mmtel_message.specs.Faults.{is_method, is_request, start_fault, is_readable, are_readable, is_one_readable, is_cookie, is_case, has_case, is_word};
-ghost use Rattle.mmtel_message.specs.Faults.{are_words, extension_rows, by_name, line_fault, fault_from, first_fault, or_absent};
+ghost use Rattle.mmtel_message.specs.Faults.{are_words, extension_rows, by_name, line_fault, fault_from, first_fault, or_absent, room_after};
 ghost use Rattle.mmtel_lex.specs.Params.{param_value};
 ghost use Rattle.mmtel_message.specs.Message.{has_line, values_named};
 ghost use Rattle.mmtel_message.specs.declared.values.Mode.TheVariants.{Plain, Words};
 ghost use Rattle.mmtel_message.specs.Values.{values_of, values_in};
 
 use crate::entries::are_entries;
-use crate::fields::Five;
-use crate::messages::{Line, Start, has_line, is_line, values_named};
-use crate::values::{Mode, values_in};
-use mmtel_lex::{LexFault, NoMemory, Text, UriFault, param_value, read_name_addr, read_uri};
-use mmtel_scan::{Class, is_all, number_up_to, skip_text};
+use crate::field_refs::FiveRef;
+use crate::held::Lines;
+use crate::messages::{Start, has_line, is_named};
+use crate::values::{Mode, next_part};
+use mmtel_lex::{NoMemory, UriFault, name_addr_ref, uri_ref};
+use mmtel_scan::{Class, is_all, number_up_to, skip_text, trim};
 use std::alloc::Global;
 
 /// Whether it is the start line of a request of the method.
@@ -39,48 +40,47 @@ pub fn is_request(start: &Start) -> bool
     }
 }
 
-fn start_fault(alloc: Global, start: &Start) -> Result<bool, NoMemory>
-    ensures { IfOk result (λ b. b ≡ start_fault start.now) }
+fn start_fault(start: &Start) -> bool
+    ensures { result ≡ start_fault start.now }
 {
     match start {
-        Start::Request { method: _, uri } => match read_uri(alloc, uri.bytes()) {
-            Ok(_) => Ok(false),
-            Err(UriFault::Scheme) => Ok(false),
-            Err(UriFault::Malformed) => Ok(true),
-            Err(UriFault::NoMemory) => Err(NoMemory),
+        Start::Request { method: _, uri } => match uri_ref(uri.bytes()) {
+            Ok(_) => false,
+            Err(UriFault::Scheme) => false,
+            Err(UriFault::Malformed) => true,
+            Err(UriFault::NoMemory) => unreachable!(),
         },
-        Start::Status { code: _, phrase: _ } => Ok(false),
+        Start::Status { code: _, phrase: _ } => false,
     }
 }
 
 /// Whether the value can be read as a name-addr (RFC 3261 §20.10).
-pub fn is_readable(alloc: Global, value: &[u8]) -> Result<bool, NoMemory>
+fn is_name_addr(value: &[u8]) -> bool
+    ensures { result ≡ is_readable value.now }
+{
+    name_addr_ref(value).is_some()
+}
+
+/// Whether the value can be read as a name-addr (RFC 3261 §20.10).
+pub fn is_readable(_alloc: Global, value: &[u8]) -> Result<bool, NoMemory>
     ensures { IfOk result (λ b. b ≡ is_readable value.now) }
 {
-    match read_name_addr(alloc, value) {
-        Ok(_) => Ok(true),
-        Err(LexFault::Malformed) => Ok(false),
-        Err(LexFault::NoMemory) => Err(NoMemory),
-    }
+    Ok(is_name_addr(value))
 }
 
-fn are_readable(alloc: Global, values: &[Text]) -> Result<bool, NoMemory>
-    ensures { IfOk result (λ b. b ≡ are_readable values.now) }
+/// Whether each of a listed value can be read as a name-addr.
+fn are_readable(value: &[u8]) -> bool
+    ensures { result ≡ are_readable (values_of value.now) }
 {
-    for value in values {
-        if !is_readable(alloc, value.bytes())? {
-            return Ok(false);
+    let mut rest = Some(value);
+    'parts: while let Some(more) = rest {
+        let (part, after) = next_part(Mode::Plain, more);
+        if !is_name_addr(trim(Class::Blank, part)) {
+            return false;
         }
+        rest = after;
     }
-    Ok(true)
-}
-
-fn listed_fault(alloc: Global, value: &[u8]) -> Result<bool, NoMemory>
-    ensures { IfOk result (λ b. b ≡ not (are_readable (values_of value.now))) }
-{
-    let values = values_in(alloc, Mode::Plain, value)?;
-    let readable = are_readable(alloc, values.items())?;
-    Ok(!readable)
+    true
 }
 
 fn number_fault(twice: bool, limit: u64, value: &[u8]) -> bool
@@ -89,30 +89,36 @@ fn number_fault(twice: bool, limit: u64, value: &[u8]) -> bool
     twice || number_up_to(limit, value).is_none()
 }
 
-fn contact_fault(alloc: Global, twice: bool, value: &[u8]) -> Result<bool, NoMemory>
-    ensures { IfOk result (λ b. b ≡ (twice || not (is_one_readable (values_of value.now)))) }
+/// Whether there is one value, which can be read.
+fn is_one_readable(value: &[u8]) -> bool
+    ensures { result ≡ is_one_readable (values_of value.now) }
 {
-    if twice {
-        return Ok(true);
+    let (part, after) = next_part(Mode::Plain, value);
+    match after {
+        None => is_name_addr(trim(Class::Blank, part)),
+        Some(_) => false,
     }
-    let values = values_in(alloc, Mode::Plain, value)?;
-    if values.items().len() != 1 {
-        return Ok(true);
-    }
-    let readable = are_readable(alloc, values.items())?;
-    Ok(!readable)
 }
 
-fn cseq_fault(start: &Start, five: &Five) -> bool
+fn contact_fault(start: &Start, before: &Lines<'_>, value: &[u8]) -> bool
+    ensures { result ≡ (is_method (codes "INVITE") start.now && (has_line (codes "Contact") before.now.values || not (is_one_readable (values_of value.now)))) }
+{
+    if !is_method(b"INVITE", start) {
+        return false;
+    }
+    has_line(b"Contact", before) || !is_one_readable(value)
+}
+
+fn cseq_fault(start: &Start, five: &FiveRef<'_>) -> bool
     ensures { result ≡ (is_request start.now && not (is_method five.now.cseq.method start.now)) }
 {
-    is_request(start) && !is_method(five.cseq.method.bytes(), start)
+    is_request(start) && !is_method(five.cseq().method(), start)
 }
 
-fn from_fault(start: &Start, five: &Five) -> bool
+fn from_fault(start: &Start, five: &FiveRef<'_>) -> bool
     ensures { result ≡ (is_request start.now && is_none (param_value (codes "tag") five.now.from.params)) }
 {
-    is_request(start) && param_value(five.from.params.items(), b"tag").is_none()
+    is_request(start) && five.from().param(b"tag").is_none()
 }
 
 fn is_cookie(value: Option<&[u8]>) -> bool
@@ -124,8 +130,8 @@ fn is_cookie(value: Option<&[u8]>) -> bool
     }
 }
 
-fn via_fault(start: &Start, five: &Five, before: &[Line]) -> bool
-    ensures { result ≡ (is_request start.now && not (has_line (codes "Via") before.now) && not (is_cookie (param_value (codes "branch") five.now.via.params))) }
+fn via_fault(start: &Start, five: &FiveRef<'_>, before: &Lines<'_>) -> bool
+    ensures { result ≡ (is_request start.now && not (has_line (codes "Via") before.now.values) && not (is_cookie (param_value (codes "branch") five.now.via.params))) }
 {
     if !is_request(start) {
         return false;
@@ -133,7 +139,7 @@ fn via_fault(start: &Start, five: &Five, before: &[Line]) -> bool
     if has_line(b"Via", before) {
         return false;
     }
-    !is_cookie(param_value(five.via.params.items(), b"branch"))
+    !is_cookie(five.via().param(b"branch"))
 }
 
 fn is_case(value: Option<&[u8]>) -> bool
@@ -145,32 +151,61 @@ fn is_case(value: Option<&[u8]>) -> bool
     }
 }
 
-fn has_case(alloc: Global, value: &[u8]) -> Result<bool, NoMemory>
-    ensures { IfOk result (λ b. b ≡ has_case (name_addr_of value.now)) }
+fn has_case(value: &[u8]) -> bool
+    ensures { result ≡ has_case (name_addr_of value.now) }
 {
-    match read_name_addr(alloc, value) {
-        Ok(read) => Ok(is_case(param_value(read.params.items(), b"sescase"))),
-        Err(LexFault::Malformed) => Ok(false),
-        Err(LexFault::NoMemory) => Err(NoMemory),
+    match name_addr_ref(value) {
+        None => false,
+        Some(read) => is_case(read.param(b"sescase")),
     }
 }
 
-fn is_over(earlier: usize, more: usize) -> bool
-    ensures { result ≡ nat_lt 32 (earlier + more) }
+/// What is left of the room for so many values; None where they are more.
+fn room_after(room: usize, value: &[u8]) -> Option<usize>
+    ensures { result ≡ room_after room (length (values_of value.now)) }
 {
-    earlier > 32 || more > 32 - earlier
+    let mut left = room;
+    let mut rest = Some(value);
+    'parts: while let Some(more) = rest {
+        let (_, after) = next_part(Mode::Plain, more);
+        if left == 0 {
+            return None;
+        }
+        left -= 1;
+        rest = after;
+    }
+    Some(left)
 }
 
-fn history_fault(alloc: Global, before: &[Line], value: &[u8]) -> Result<bool, NoMemory>
-    ensures { IfOk result (λ b. b ≡ (not (are_entries (values_of value.now)) ||
-        nat_lt 32 (length (values_named Plain (codes "History-Info") before.now) + length (values_of value.now)))) }
+/// What is left of the room behind the values of the lines of the name; None where they are more.
+fn room_behind(room: usize, name: &[u8], lines: &Lines<'_>) -> Option<usize>
+    ensures { result ≡ room_after room (length (values_named Plain name.now lines.now.values)) }
 {
-    let values = values_in(alloc, Mode::Plain, value)?;
-    if !are_entries(alloc, values.items())? {
-        return Ok(true);
+    let mut left = room;
+    for i in 0..lines.len() {
+        let (spelled, value) = lines.at(i);
+        if is_named(spelled, name) {
+            left = room_after(left, value)?;
+        }
     }
-    let earlier = values_named(alloc, Mode::Plain, before, b"History-Info")?;
-    Ok(is_over(earlier.items().len(), values.items().len()))
+    Some(left)
+}
+
+/// Whether there are more than 32 values with those before.
+fn is_over(before: &Lines<'_>, value: &[u8]) -> bool
+    ensures { result ≡ nat_lt 32 (length (values_named Plain (codes "History-Info") before.now.values) + length (values_of value.now)) }
+{
+    match room_behind(32, b"History-Info", before) {
+        None => true,
+        Some(room) => room_after(room, value).is_none(),
+    }
+}
+
+fn history_fault(before: &Lines<'_>, value: &[u8]) -> bool
+    ensures { result ≡ (not (are_entries (values_of value.now)) ||
+        nat_lt 32 (length (values_named Plain (codes "History-Info") before.now.values) + length (values_of value.now))) }
+{
+    !are_entries(value) || is_over(before, value)
 }
 
 fn is_word(value: &[u8]) -> bool
@@ -179,120 +214,105 @@ fn is_word(value: &[u8]) -> bool
     !value.is_empty() && is_all(Class::Token, value)
 }
 
-fn is_word_text(value: &Text) -> bool
-    ensures { result ≡ is_word value.now }
+/// Whether each word of Privacy is a token.
+fn are_words(value: &[u8]) -> bool
+    ensures { result ≡ are_words (values_in Words value.now) }
 {
-    is_word(value.bytes())
-}
-
-fn are_words(values: &[Text]) -> bool
-    ensures { result ≡ are_words values.now }
-{
-    values.iter().all(|value| is_word_text(value))
-}
-
-fn privacy_fault(alloc: Global, value: &[u8]) -> Result<bool, NoMemory>
-    ensures { IfOk result (λ b. b ≡ not (are_words (values_in Words value.now))) }
-{
-    let values = values_in(alloc, Mode::Words, value)?;
-    Ok(!are_words(values.items()))
+    let mut rest = Some(value);
+    'parts: while let Some(more) = rest {
+        let (part, after) = next_part(Mode::Words, more);
+        if !is_word(trim(Class::Blank, part)) {
+            return false;
+        }
+        rest = after;
+    }
+    true
 }
 
 /// What is wrong with a line by the rules of the extensions.
-fn extension_fault(alloc: Global, before: &[Line], line: &Line) -> Result<bool, NoMemory>
-    ensures { IfOk result (λ b. b ≡ by_name (extension_rows before.now line.now.1) line.now) }
+fn extension_fault(before: &Lines<'_>, name: &[u8], value: &[u8]) -> bool
+    ensures { result ≡ by_name (extension_rows before.now.values value.now) (name.now, value.now) }
 {
-    let value = line.1.bytes();
-    if is_line(line, b"P-Asserted-Identity") {
-        return listed_fault(alloc, value);
+    if is_named(name, b"P-Asserted-Identity") {
+        return !are_readable(value);
     }
-    if is_line(line, b"P-Served-User") {
-        let has = has_case(alloc, value)?;
-        return Ok(!has);
+    if is_named(name, b"P-Served-User") {
+        return !has_case(value);
     }
-    if is_line(line, b"History-Info") {
-        return history_fault(alloc, before, value);
+    if is_named(name, b"History-Info") {
+        return history_fault(before, value);
     }
-    if is_line(line, b"Refer-To") {
-        let readable = is_readable(alloc, value)?;
-        return Ok(!readable);
+    if is_named(name, b"Refer-To") {
+        return !is_name_addr(value);
     }
-    if is_line(line, b"Privacy") {
-        return privacy_fault(alloc, value);
+    if is_named(name, b"Privacy") {
+        return !are_words(value);
     }
-    Ok(false)
+    false
 }
 
 /// What is wrong with a line behind those before it.
 fn line_fault(
-    alloc: Global,
     start: &Start,
-    five: &Five,
+    five: &FiveRef<'_>,
     room: u64,
-    before: &[Line],
-    line: &Line,
-) -> Result<bool, NoMemory>
-    ensures { IfOk result (λ b. b ≡ line_fault start.now five.now room before.now line.now) }
+    before: &Lines<'_>,
+    name: &[u8],
+    value: &[u8],
+) -> bool
+    ensures { result ≡ line_fault start.now five.now room before.now.values (name.now, value.now) }
 {
-    let value = line.1.bytes();
-    if line.0.bytes().is_empty() {
-        return Ok(true);
+    if name.is_empty() {
+        return true;
     }
-    if is_line(line, b"CSeq") {
-        return Ok(cseq_fault(start, five));
+    if is_named(name, b"CSeq") {
+        return cseq_fault(start, five);
     }
-    if is_line(line, b"Max-Forwards") {
-        return Ok(is_request(start) && number_fault(has_line(b"Max-Forwards", before), 255, value));
+    if is_named(name, b"Max-Forwards") {
+        return is_request(start) && number_fault(has_line(b"Max-Forwards", before), 255, value);
     }
-    if is_line(line, b"Content-Length") {
-        return Ok(number_fault(has_line(b"Content-Length", before), room, value));
+    if is_named(name, b"Content-Length") {
+        return number_fault(has_line(b"Content-Length", before), room, value);
     }
-    if is_line(line, b"From") {
-        return Ok(from_fault(start, five));
+    if is_named(name, b"From") {
+        return from_fault(start, five);
     }
-    if is_line(line, b"Via") {
-        return Ok(via_fault(start, five, before));
+    if is_named(name, b"Via") {
+        return via_fault(start, five, before);
     }
-    if is_line(line, b"Contact") {
-        if !is_method(b"INVITE", start) {
-            return Ok(false);
-        }
-        return contact_fault(alloc, has_line(b"Contact", before), value);
+    if is_named(name, b"Contact") {
+        return contact_fault(start, before, value);
     }
-    if is_line(line, b"Route") {
-        return listed_fault(alloc, value);
+    if is_named(name, b"Route") {
+        return !are_readable(value);
     }
-    if is_line(line, b"Record-Route") {
-        return listed_fault(alloc, value);
+    if is_named(name, b"Record-Route") {
+        return !are_readable(value);
     }
-    extension_fault(alloc, before, line)
+    extension_fault(before, name, value)
 }
 
-fn lines_fault(
-    alloc: Global,
-    start: &Start,
-    five: &Five,
-    room: u64,
-    lines: &[Line],
-) -> Result<Option<usize>, NoMemory>
-    ensures { IfOk result (λ at. at ≡ fault_from start.now five.now room [] lines.now) }
+/// The place of the first line with a fault, from 1.
+fn lines_fault(start: &Start, five: &FiveRef<'_>, room: u64, lines: &Lines<'_>) -> Option<usize>
+    ensures { result ≡ fault_from start.now five.now room [] lines.now.values }
 {
     for i in 0..lines.len() {
-        if line_fault(alloc, start, five, room, &lines[..i], &lines[i])? {
-            return Ok(Some(i + 1));
+        let (name, value) = lines.at(i);
+        if line_fault(start, five, room, &lines.before(i), name, value) {
+            return Some(i + 1);
         }
     }
-    Ok(None)
+    None
 }
 
-fn or_absent(start: &Start, lines: &[Line], found: Option<usize>) -> Option<usize>
-    ensures { result ≡ or_absent start.now lines.now found }
+fn or_absent(start: &Start, lines: &Lines<'_>, found: Option<usize>) -> Option<usize>
+    ensures { result ≡ or_absent start.now lines.now.values found }
 {
     match found {
         Some(at) => Some(at),
         None => {
             if is_method(b"INVITE", start) && !has_line(b"Contact", lines) {
-                Some(lines.len() + 1)
+                Some(lines.end())
             } else {
                 None
             }
@@ -301,18 +321,11 @@ fn or_absent(start: &Start, lines: &[Line], found: Option<usize>) -> Option<usiz
 }
 
 /// The place of the first fault.
-pub fn first_fault(
-    alloc: Global,
-    start: &Start,
-    five: &Five,
-    room: u64,
-    lines: &[Line],
-) -> Result<Option<usize>, NoMemory>
-    ensures { IfOk result (λ at. at ≡ first_fault start.now five.now room lines.now) }
+pub fn first_fault(start: &Start, five: &FiveRef<'_>, room: u64, lines: &Lines<'_>) -> Option<usize>
+    ensures { result ≡ first_fault start.now five.now room lines.now.values }
 {
-    if start_fault(alloc, start)? {
-        return Ok(Some(0));
+    if start_fault(start) {
+        return Some(0);
     }
-    let found = lines_fault(alloc, start, five, room, lines)?;
-    Ok(or_absent(start, lines, found))
+    or_absent(start, lines, lines_fault(start, five, room, lines))
 }

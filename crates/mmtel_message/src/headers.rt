@@ -1,12 +1,16 @@
 //! Header lines (RFC 3261 §7.3.1 and §25.1).
-ghost use Rattle.std.specs.Prelude.{◌≡◌, IfOk, map};
+ghost use Rattle.std.specs.Prelude.{◌≡◌, ◌+◌, ◌≤◌, IfOk, IfSome, length, map};
 ghost use Rattle.std.specs.List.{list_all};
+ghost use Rattle.std.specs.Option.{option_map};
+ghost use Rattle.mmtel_message.specs.Held.{at_place, held_line, held_lines, value_of};
+ghost use Rattle.mmtel_message.specs.Names.{long_name};
 ghost use Rattle.mmtel_message.specs.Headers.{header_at, header_line, is_value_byte};
 
-use crate::messages::Line;
+use crate::held::{Held, HeldValue, Span, at_place, part_of, value_of};
 use crate::names::long_name;
+use crate::values::trimmed_place;
 use mmtel_lex::{List, NoMemory, Text};
-use mmtel_scan::{Class, skip_byte, split_run, trim};
+use mmtel_scan::{Class, skip_byte, split_run};
 use std::alloc::Global;
 
 fn is_value_byte(byte: u8) -> bool
@@ -22,48 +26,46 @@ pub fn is_value(value: &[u8]) -> bool
     value.iter().all(|byte| is_value_byte(*byte))
 }
 
-/// Reads a header line; None where it is none.
-#[tactic(auto, unfolding(crate::specs::Headers::header_at))]
-fn header(alloc: Global, line: &[u8]) -> Result<Option<Line>, NoMemory>
-    ensures { IfOk result (λ h. h ≡ header_at line.now) }
+/// A header line: its name, and where its value stands in it; None where it is none.
+fn header(line: &[u8]) -> Option<(&[u8], Span)>
+    ensures line { option_map (λ x. (long_name x.0.now, at_place line.now x.1)) result ≡ header_at line.now }
+    ensures within { IfSome result (λ x. x.1.from + x.1.len ≤ length line.now) }
 {
     let (name, rest) = split_run(Class::Token, line);
     let (_, rest) = split_run(Class::Blank, rest);
     if name.is_empty() {
-        return Ok(None);
+        return None;
     }
-    match skip_byte(b':', rest) {
-        None => Ok(None),
-        Some(value) => {
-            let value = trim(Class::Blank, value);
-            if is_value(value) {
-                let name = Text::of(alloc, long_name(name))?;
-                let value = Text::of(alloc, value)?;
-                Ok(Some((name, value)))
-            } else {
-                Ok(None)
-            }
-        }
+    let tail = skip_byte(b':', rest)?;
+    let value = trimmed_place(line, line.len() - tail.len(), line.len());
+    if is_value(at_place(line, value)) {
+        Some((name, value))
+    } else {
+        None
     }
 }
 
 /// Reads a header line, or gives one without a name.
-fn header_line(alloc: Global, line: &[u8]) -> Result<Line, NoMemory>
-    ensures { IfOk result (λ h. h ≡ header_line line.now) }
+fn header_line(alloc: Global, bytes: &[u8], line: &HeldValue) -> Result<Held, NoMemory>
+    ensures { IfOk result (λ h. held_line bytes.now h ≡ header_line (value_of bytes.now line.now)) }
 {
-    match header(alloc, line)? {
-        Some(header) => Ok(header),
-        None => Ok((Text::new(), Text::new())),
+    match header(value_of(bytes, line)) {
+        None => Ok((Text::new(), HeldValue::Edited(Text::new()))),
+        Some((name, place)) => {
+            let value = part_of(alloc, bytes, line, place)?;
+            let name = Text::of(alloc, long_name(name))?;
+            Ok((name, value))
+        }
     }
 }
 
-/// Reads header lines; a line that is none has no name.
-pub fn headers(alloc: Global, lines: &[Text]) -> Result<List<Line>, NoMemory>
-    ensures { IfOk result (λ hs. hs ≡ map header_line lines.now) }
+/// Reads header lines, which stand among these bytes or are texts of their own; a line that is none has no name.
+pub fn headers(alloc: Global, bytes: &[u8], lines: &[HeldValue]) -> Result<List<Held>, NoMemory>
+    ensures { IfOk result (λ hs. held_lines bytes.now hs ≡ map header_line (map (value_of bytes.now) lines.now)) }
 {
-    let mut headers = List::new();
+    let mut headers = List::with_room(alloc, lines.len())?;
     for line in lines {
-        let header = header_line(alloc, line.bytes())?;
+        let header = header_line(alloc, bytes, line)?;
         headers.push(alloc, header)?;
     }
     Ok(headers)

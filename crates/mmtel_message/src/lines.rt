@@ -1,14 +1,19 @@
 //! A message parted into lines.
-ghost use Rattle.std.specs.Prelude.{◌≡◌, ◌∷◌, ◌++◌, ◌+◌, ◌≤◌, ◌<◌, length, reverse, IfOk, IfSome, OnOk};
+ghost use Rattle.std.specs.Prelude.{◌≡◌, ◌∷◌, ◌++◌, ◌+◌, ◌≤◌, true, false, Some, length, map, take, drop, reverse, IfOk, IfSome, MatchOption, OnOk};
 ghost use Rattle.mmtel_scan.specs.Classes.{IsAll, Stops};
 ghost use Rattle.mmtel_scan.specs.Scanning.{trimmed};
 ghost use Rattle.mmtel_scan.specs.declared.classes.Class.TheVariants.{Blank};
-ghost use Rattle.std.specs.Option.{option_copied};
-ghost use Rattle.mmtel_message.specs.Lines.{begins, first_break, last_line_end, whole_end, width, split, rest_lines, unfolded, starts_blank};
+ghost use Rattle.mmtel_message.specs.Held.{at_place, value_of};
+ghost use Rattle.mmtel_message.specs.Places.{IsLater, IsWithin, continues, rest_at};
+ghost use Rattle.mmtel_message.specs.Lines.{begins, first_break, last_line_end, whole_end, width, split, unfolded, unfolded_from, starts_blank};
 
+use crate::held::{HeldValue, Span, at_place};
 use mmtel_lex::{List, NoMemory, Text};
 use mmtel_scan::{Class, split_run, trim_end};
 use std::alloc::Global;
+
+/// For so many lines there is room at once: few messages have more.
+const USUAL_LINES: usize = 32;
 
 /// What parts a message.
 #[derive(Clone, Copy)]
@@ -34,8 +39,8 @@ pub fn place(mark: Break, bytes: &[u8]) -> Option<usize>
     ensures place { result ≡ first_break mark bytes.now }
     ensures within { IfSome result (λ n. n + width mark ≤ length bytes.now) }
 {
-    for i in 0..bytes.len() {
-        if mark.is_first(&bytes[i..]) {
+    for (i, byte) in bytes.iter().enumerate() {
+        if *byte == b'\r' && mark.is_first(&bytes[i..]) {
             return Some(i);
         }
     }
@@ -67,14 +72,19 @@ pub fn whole_end(bytes: &[u8]) -> Option<usize>
     }
 }
 
-/// The first line, and what follows it, where a line end does.
-fn next_line(bytes: &[u8]) -> (&[u8], Option<&[u8]>)
-    ensures lines { split bytes.now ≡ result.0.now ∷ rest_lines (option_copied result.1) }
-    ensures shorter { IfSome result.1 (λ rest. length rest.now < length bytes.now) }
+/// The line that begins at a place, and where the next one begins, if a line end comes.
+fn next_line(head: &[u8], from: usize) -> (Span, Option<usize>)
+    requires { from ≤ length head.now }
+    ensures lines { split (drop from head.now) ≡ at_place head.now result.0 ∷ rest_at head.now result.1 }
+    ensures within { result.0.from + result.0.len ≤ length head.now }
+    ensures later { IfSome result.1 (λ n. IsLater from head.now n) }
 {
-    match place(Break::Line, bytes) {
-        None => (bytes, None),
-        Some(at) => (&bytes[..at], Some(&bytes[at + 2..])),
+    match place(Break::Line, &head[from..]) {
+        None => {
+            let len = head.len() - from;
+            (Span { from, len }, None)
+        }
+        Some(len) => (Span { from, len }, Some(from + len + 2)),
     }
 }
 
@@ -85,6 +95,17 @@ fn is_blank_led(line: &[u8]) -> bool
     match line {
         [] => false,
         [first, ..] => Class::Blank.has(*first),
+    }
+}
+
+/// Where the next line begins, if it continues the one before.
+fn continuing(head: &[u8], next: Option<usize>) -> Option<usize>
+    requires { IfSome next (λ n. n ≤ length head.now) }
+    ensures { MatchOption result (continues head.now next ≡ false) (λ n. (next ≡ Some n) × (continues head.now next ≡ true)) }
+{
+    match next {
+        Some(from) if is_blank_led(&head[from..]) => Some(from),
+        _ => None,
     }
 }
 
@@ -109,32 +130,67 @@ fn add_trimmed(alloc: Global, line: &mut Text, gap: &[u8], piece: &[u8]) -> Resu
     add(alloc, line, gap, kept)
 }
 
-/// The lines, each with those that continue it.
-pub fn lines(alloc: Global, head: &[u8]) -> Result<List<Text>, NoMemory>
-    ensures { IfOk result (λ ls. ls ≡ unfolded (split head.now)) }
+/// The text of a line with those that continue it, the first of which begins at a place, and where the line behind them begins.
+fn folded(
+    alloc: Global,
+    head: &[u8],
+    first: Span,
+    next: usize,
+) -> Result<(Text, Option<usize>), NoMemory>
+    requires { next ≤ length head.now }
+    ensures line { IfOk result (λ x. unfolded_from (at_place head.now first) (split (drop next head.now)) ≡ x.0 ∷ unfolded (rest_at head.now x.1)) }
+    ensures later { IfOk result (λ x. IfSome x.1 (λ n. (next ≤ n) × (n ≤ length head.now))) }
 {
-    let mut lines = List::new();
     // The line so far in three parts: a front without a blank at its end, the gap behind it, and the piece read last,
     // whose blanks at its end go where another line continues it. The front only grows, so no byte is added twice.
     let mut front = Text::new();
     let mut gap: &[u8] = b"";
-    let (mut piece, mut rest) = next_line(head);
-    'lines: while let Some(more) = rest {
-        let (line, after) = next_line(more);
-        if is_blank_led(line) {
-            add_trimmed(alloc, &mut front, gap, piece)?;
-            gap = b" ";
-            piece = split_run(Class::Blank, line).1;
-        } else {
-            add(alloc, &mut front, gap, piece)?;
-            lines.push(alloc, front)?;
-            front = Text::new();
-            gap = b"";
-            piece = line;
-        }
+    let mut piece = at_place(head, first);
+    let mut rest = Some(next);
+    'lines: while let Some(from) = continuing(head, rest) {
+        let (line, after) = next_line(head, from);
+        add_trimmed(alloc, &mut front, gap, piece)?;
+        gap = b" ";
+        piece = split_run(Class::Blank, at_place(head, line)).1;
         rest = after;
     }
     add(alloc, &mut front, gap, piece)?;
-    lines.push(alloc, front)?;
+    Ok((front, rest))
+}
+
+/// The line that begins at a place, with those that continue it, and where the line behind them begins. It is a place among the bytes where nothing continues it.
+fn whole_line(
+    alloc: Global,
+    head: &[u8],
+    from: usize,
+) -> Result<(HeldValue, Option<usize>), NoMemory>
+    requires { from ≤ length head.now }
+    ensures line { IfOk result (λ x. unfolded (split (drop from head.now)) ≡ value_of head.now x.0 ∷ unfolded (rest_at head.now x.1)) }
+    ensures within { IfOk result (λ x. IsWithin head.now x.0) }
+    ensures later { IfOk result (λ x. IfSome x.1 (λ n. IsLater from head.now n)) }
+{
+    let (line, after) = next_line(head, from);
+    match continuing(head, after) {
+        None => Ok((HeldValue::Received(line), after)),
+        Some(next) => {
+            let (text, after) = folded(alloc, head, line, next)?;
+            Ok((HeldValue::Edited(text), after))
+        }
+    }
+}
+
+/// The lines before a place of the bytes, each with those that continue it: where a line stands among the bytes, or the text that it makes with those that continue it.
+pub fn lines(alloc: Global, bytes: &[u8], end: usize) -> Result<List<HeldValue>, NoMemory>
+    requires { end ≤ length bytes.now }
+    ensures { IfOk result (λ ls. map (value_of bytes.now) ls ≡ unfolded (split (take end bytes.now))) }
+{
+    let head = &bytes[..end];
+    let mut lines = List::with_room(alloc, USUAL_LINES)?;
+    let mut rest = Some(0);
+    'lines: while let Some(from) = rest {
+        let (line, after) = whole_line(alloc, head, from)?;
+        lines.push(alloc, line)?;
+        rest = after;
+    }
     Ok(lines)
 }

@@ -1,10 +1,13 @@
 //! Messages: their parts, what is found by a name, and edits (RFC 3261 §7 and §7.3.1).
-ghost use Rattle.std.specs.Prelude.{◌≡◌, ◌∷◌, ◌+◌, ◌++◌, ◌≤◌, ◌<◌, length, IfOk, OnOk, OnErr, take, drop, position, []};
+ghost use Rattle.std.specs.Prelude.{◌≡◌, ◌∷◌, ◌+◌, ◌++◌, ◌≤◌, ◌<◌, ℕ, List, length, IfOk, OnOk, OnErr, take, drop, filter, not, position, []};
 ghost use Rattle.std.specs.Option.{option_copied};
+ghost use Rattle.std.specs.Str.{str_eq_ignore_ascii_case};
 ghost use Rattle.mmtel_message.specs.Values.{base};
 ghost use Rattle.mmtel_message.specs.declared.values.Mode.TheVariants.{Plain};
-ghost use Rattle.mmtel_message.specs.Message.{is_line, has_line, first_value, dropped, replaced, line_texts, line_values, values_named};
+ghost use Rattle.mmtel_message.specs.Held.{held_lines, lines_of, value_of};
+ghost use Rattle.mmtel_message.specs.Message.{is_line, has_line, first_value, dropped, replaced, line_texts, values_named};
 
+use crate::held::{Held, HeldValue, Lines, Span, value_of};
 use crate::values::{Mode, values_in};
 use mmtel_lex::{List, NoMemory, Text};
 use std::alloc::Global;
@@ -25,54 +28,67 @@ pub type Line = (Text, Text);
 /// A message (RFC 3261 §7): its start line, its header lines in order, and its body.
 ///
 /// A message that `read` gave has names in full and one value of a listed name a line; edits keep the names that they are given.
+///
+/// The values of a message that was received are places among the bytes that came, as long as nobody edits their lines.
 #[derive(Drop)]
 pub struct Msg {
     start: Start,
-    lines: List<Line>,
-    body: Text,
+    received: Text,
+    held: List<Held>,
+    added: List<Line>,
+    body: HeldValue,
 }
 
 impl Model for Msg {
     ghost use Rattle.mmtel_message.specs.Message.{Message};
+    ghost use Rattle.mmtel_message.specs.Held.{lines_of, value_of};
     ghost use Rattle.mmtel_message.specs.declared.messages.Start.{Start};
 
     ghost Value = { Message Start };
 
-    ghost view = { λ m. record { start = m.start; lines = m.lines; body = m.body } };
+    ghost view = { λ m. record { start = m.start; lines = lines_of m.received m.held m.added; body = value_of m.received m.body } };
+}
+
+/// Whether a name is this one, which is compared without case (RFC 3261 §7.3.1).
+pub fn is_named(spelled: &[u8], name: &[u8]) -> bool
+    ensures { result ≡ str_eq_ignore_ascii_case spelled.now name.now }
+{
+    spelled.eq_ignore_ascii_case(name)
 }
 
 /// Whether the line has the name.
 pub fn is_line(line: &Line, name: &[u8]) -> bool
     ensures { result ≡ is_line name.now line.now }
 {
-    line.0.bytes().eq_ignore_ascii_case(name)
+    is_named(line.0.bytes(), name)
 }
 
-fn place_of(lines: &[Line], name: &[u8]) -> Option<usize>
-    ensures { result ≡ position (is_line name.now) lines.now }
+fn place_of<V>(lines: &[(Text, V)], name: &[u8]) -> Option<usize>
+    ensures { result ≡ position (λ l. str_eq_ignore_ascii_case l.0 name.now) lines.now }
 {
-    lines.iter().position(|line| is_line(line, name))
+    lines.iter().position(|line| is_named(line.0.bytes(), name))
 }
 
 /// The value of the first line of the name.
-pub fn first_of<'a>(lines: &'a [Line], name: &[u8]) -> Option<&'a [u8]>
-    ensures { option_copied result ≡ first_value name.now lines.now }
+pub fn first_of<'a>(lines: &Lines<'a>, name: &[u8]) -> Option<&'a [u8]>
+    ensures { option_copied result ≡ first_value name.now lines.now.values }
 {
-    for line in lines {
-        if is_line(line, name) {
-            return Some(line.1.bytes());
+    for i in 0..lines.len() {
+        let (spelled, value) = lines.at(i);
+        if is_named(spelled, name) {
+            return Some(value);
         }
     }
     None
 }
 
-fn drop_named(lines: &mut List<Line>, from: usize, name: &[u8])
+fn drop_named<V: Drop>(lines: &mut List<(Text, V)>, from: usize, name: &[u8])
     requires { from ≤ length lines.old }
-    ensures { lines.new ≡ take from lines.old ++ dropped name.now (drop from lines.old) }
+    ensures { lines.new ≡ take from lines.old ++ filter (λ l. not (str_eq_ignore_ascii_case l.0 name.now)) (drop from lines.old) }
 {
     let mut i = from;
     'lines: while i < lines.items().len() {
-        if is_line(&lines.items()[i], name) {
+        if is_named(lines.items()[i].0.bytes(), name) {
             let (_, _) = lines.remove(i);
         } else {
             i += 1;
@@ -80,49 +96,36 @@ fn drop_named(lines: &mut List<Line>, from: usize, name: &[u8])
     }
 }
 
-fn add_line_values(
-    alloc: Global,
-    out: &mut List<Text>,
-    mode: Mode,
-    name: &[u8],
-    line: &Line,
-) -> Result<(), NoMemory>
-    requires { base mode ≡ mode }
-    ensures { OnOk result (out.new ≡ out.old ++ line_values mode name.now line.now) }
-{
-    if !is_line(line, name) {
-        return Ok(());
-    }
-    let values = values_in(alloc, mode, line.1.bytes())?;
-    out.extend(alloc, values)?;
-    Ok(())
-}
-
 /// The values of the lines of the name, in order: parted as the mode says.
 pub fn values_named(
     alloc: Global,
     mode: Mode,
-    lines: &[Line],
+    lines: &Lines<'_>,
     name: &[u8],
 ) -> Result<List<Text>, NoMemory>
     requires { base mode ≡ mode }
-    ensures { IfOk result (λ vs. vs ≡ values_named mode name.now lines.now) }
+    ensures { IfOk result (λ vs. vs ≡ values_named mode name.now lines.now.values) }
 {
     let mut out = List::new();
-    for line in lines {
-        add_line_values(alloc, &mut out, mode, name, line)?;
+    for i in 0..lines.len() {
+        let (spelled, value) = lines.at(i);
+        if is_named(spelled, name) {
+            let values = values_in(alloc, mode, value)?;
+            out.extend(alloc, values)?;
+        }
     }
     Ok(out)
 }
 
 /// The texts of the lines of the name, in order.
-pub fn line_texts(alloc: Global, lines: &[Line], name: &[u8]) -> Result<List<Text>, NoMemory>
-    ensures { IfOk result (λ vs. vs ≡ line_texts name.now lines.now) }
+pub fn line_texts(alloc: Global, lines: &Lines<'_>, name: &[u8]) -> Result<List<Text>, NoMemory>
+    ensures { IfOk result (λ vs. vs ≡ line_texts name.now lines.now.values) }
 {
     let mut out = List::new();
-    for line in lines {
-        if is_line(line, name) {
-            let value = Text::of(alloc, line.1.bytes())?;
+    for i in 0..lines.len() {
+        let (spelled, value) = lines.at(i);
+        if is_named(spelled, name) {
+            let value = Text::of(alloc, value)?;
             out.push(alloc, value)?;
         }
     }
@@ -130,28 +133,93 @@ pub fn line_texts(alloc: Global, lines: &[Line], name: &[u8]) -> Result<List<Tex
 }
 
 /// Whether there is a line of the name.
-pub fn has_line(name: &[u8], lines: &[Line]) -> bool
-    ensures { result ≡ has_line name.now lines.now }
+pub fn has_line(name: &[u8], lines: &Lines<'_>) -> bool
+    ensures { result ≡ has_line name.now lines.now.values }
 {
-    lines.iter().any(|line| is_line(line, name))
+    for i in 0..lines.len() {
+        if is_named(lines.at(i).0, name) {
+            return true;
+        }
+    }
+    false
 }
 
-fn set_line(alloc: Global, lines: &mut List<Line>, name: &[u8], value: Text) -> Result<(), NoMemory>
-    ensures ok { OnOk result (lines.new ≡ replaced name.now value lines.old) }
-    ensures err { OnErr result (lines.new ≡ lines.old) }
+/// Drops the lines of the name.
+fn drop_lines(held: &mut List<Held>, added: &mut List<Line>, name: &[u8])
+    ensures { (s : List ℕ) → lines_of s held.new added.new ≡ dropped name.now (lines_of s held.old added.old) }
+{
+    drop_named(held, 0, name);
+    drop_named(added, 0, name);
+}
+
+/// Gives the first of the added lines of the name this value and this spelling, and drops further ones, or adds a line.
+fn set_added(
+    alloc: Global,
+    added: &mut List<Line>,
+    name: &[u8],
+    value: Text,
+) -> Result<(), NoMemory>
+    ensures ok { OnOk result (added.new ≡ replaced name.now value added.old) }
+    ensures err { OnErr result (added.new ≡ added.old) }
 {
     let spelled = Text::of(alloc, name)?;
-    match place_of(lines.items(), name) {
+    match place_of(added.items(), name) {
         None => {
-            lines.push(alloc, (spelled, value))?;
+            added.push(alloc, (spelled, value))?;
             Ok(())
         }
         Some(at) => {
-            let (_, _) = lines.replace(at, (spelled, value));
-            drop_named(lines, at + 1, name);
+            let (_, _) = added.replace(at, (spelled, value));
+            drop_named(added, at + 1, name);
             Ok(())
         }
     }
+}
+
+/// Gives the first line of the name this value and this spelling, and drops further ones, or adds a line.
+fn set_line(
+    alloc: Global,
+    held: &mut List<Held>,
+    added: &mut List<Line>,
+    name: &[u8],
+    value: Text,
+) -> Result<(), NoMemory>
+    ensures ok { OnOk result ((s : List ℕ) → lines_of s held.new added.new ≡ replaced name.now value (lines_of s held.old added.old)) }
+    ensures err { OnErr result ((held.new ≡ held.old) × (added.new ≡ added.old)) }
+{
+    match place_of(held.items(), name) {
+        None => {
+            set_added(alloc, added, name, value)?;
+            Ok(())
+        }
+        Some(at) => {
+            let spelled = Text::of(alloc, name)?;
+            let (_, _) = held.replace(at, (spelled, HeldValue::Edited(value)));
+            drop_named(held, at + 1, name);
+            drop_named(added, 0, name);
+            Ok(())
+        }
+    }
+}
+
+/// Puts a line before all others.
+fn push_line(
+    alloc: Global,
+    held: &mut List<Held>,
+    added: &mut List<Line>,
+    name: &[u8],
+    value: Text,
+) -> Result<(), NoMemory>
+    ensures ok { OnOk result ((s : List ℕ) → lines_of s held.new added.new ≡ (name.now, value) ∷ lines_of s held.old added.old) }
+    ensures err { OnErr result ((held.new ≡ held.old) × (added.new ≡ added.old)) }
+{
+    let name = Text::of(alloc, name)?;
+    if held.items().is_empty() {
+        added.insert(alloc, 0, (name, value))?;
+    } else {
+        held.insert(alloc, 0, (name, HeldValue::Edited(value)))?;
+    }
+    Ok(())
 }
 
 impl Msg {
@@ -159,18 +227,33 @@ impl Msg {
     pub fn new(start: Start, body: Text) -> Msg
         ensures { result ≡ record { start = start; lines = []; body = body } }
     {
-        Msg {
-            start,
-            lines: List::new(),
-            body,
-        }
+        Msg::of(start, List::new(), body)
     }
 
     /// A message of these parts, taken as they are.
     pub fn of(start: Start, lines: List<Line>, body: Text) -> Msg
         ensures { result ≡ record { start = start; lines = lines; body = body } }
     {
-        Msg { start, lines, body }
+        Msg {
+            start,
+            received: Text::new(),
+            held: List::new(),
+            added: lines,
+            body: HeldValue::Edited(body),
+        }
+    }
+
+    /// A message that was received as these bytes: its lines, and its body, which are places among them or edits.
+    pub fn held(start: Start, received: Text, held: List<Held>, body: HeldValue) -> Msg
+        ensures { result ≡ record { start = start; lines = held_lines received held; body = value_of received body } }
+    {
+        Msg {
+            start,
+            received,
+            held,
+            added: List::new(),
+            body,
+        }
     }
 
     /// The start line.
@@ -184,21 +267,31 @@ impl Msg {
     pub fn body(&self) -> &[u8]
         ensures { result.now ≡ self.now.body }
     {
-        self.body.bytes()
+        value_of(self.received.bytes(), &self.body)
     }
 
     /// The header lines.
-    pub fn lines(&self) -> &[Line]
-        ensures { result.now ≡ self.now.lines }
+    pub fn lines(&self) -> Lines<'_>
+        ensures { result.values ≡ self.now.lines }
     {
-        self.lines.items()
+        Lines::of(self.received.bytes(), self.held.items(), self.added.items())
+    }
+
+    /// The bytes that were received, of a message that `read` or `read_held` gave; none of one that the server built.
+    pub fn received(&self) -> &[u8] {
+        self.received.bytes()
+    }
+
+    /// Where the value of a line stands in `received`; None where the line is an edit or is not there. What stands there is the value: see `Lines::span`.
+    pub fn span(&self, line: usize) -> Option<Span> {
+        self.lines().span(line)
     }
 
     /// The value of the first line of the name, which is compared without case; None where there is none.
     pub fn first(&self, name: &[u8]) -> Option<&[u8]>
         ensures { option_copied result ≡ first_value name.now self.now.lines }
     {
-        first_of(self.lines.items(), name)
+        first_of(&self.lines(), name)
     }
 
     /// The values of a listed name (RFC 3261 §7.3.1): those of all its lines, one per comma.
@@ -209,7 +302,7 @@ impl Msg {
     pub fn values(&self, alloc: Global, name: &[u8]) -> Result<List<Text>, NoMemory>
         ensures { IfOk result (λ vs. vs ≡ values_named Plain name.now self.now.lines) }
     {
-        values_named(alloc, Mode::Plain, self.lines.items(), name)
+        values_named(alloc, Mode::Plain, &self.lines(), name)
     }
 
     /// Adds a line at the end.
@@ -222,7 +315,7 @@ impl Msg {
         ensures err { OnErr result (self.new ≡ self.old) }
     {
         let name = Text::of(alloc, name)?;
-        self.lines.push(alloc, (name, value))?;
+        self.added.push(alloc, (name, value))?;
         Ok(())
     }
 
@@ -235,16 +328,14 @@ impl Msg {
         ensures ok { OnOk result (self.new ≡ record self.old { lines = (name.now, value) ∷ self.old.lines }) }
         ensures err { OnErr result (self.new ≡ self.old) }
     {
-        let name = Text::of(alloc, name)?;
-        self.lines.insert(alloc, 0, (name, value))?;
-        Ok(())
+        push_line(alloc, &mut self.held, &mut self.added, name, value)
     }
 
     /// Drops the lines of the name.
     pub fn drop_all(&mut self, name: &[u8])
         ensures { self.new ≡ record self.old { lines = dropped name.now self.old.lines } }
     {
-        drop_named(&mut self.lines, 0, name);
+        drop_lines(&mut self.held, &mut self.added, name);
     }
 
     /// Gives the first line of the name this value and this spelling, and drops further ones, or adds a line at the end.
@@ -256,6 +347,6 @@ impl Msg {
         ensures ok { OnOk result (self.new ≡ record self.old { lines = replaced name.now value self.old.lines }) }
         ensures err { OnErr result (self.new ≡ self.old) }
     {
-        set_line(alloc, &mut self.lines, name, value)
+        set_line(alloc, &mut self.held, &mut self.added, name, value)
     }
 }

@@ -4,7 +4,8 @@ ghost use Rattle.mmtel_message.specs.Canonical.{IsCanonical, IsWithinLimits};
 ghost use Rattle.mmtel_message.specs.Reads.{reads};
 ghost use Rattle.mmtel_message.specs.Texts.{start_text, line_text, lines_text, message_text};
 
-use crate::messages::{Line, Msg, Start};
+use crate::held::Lines;
+use crate::messages::{Msg, Start};
 use mmtel_lex::{NoMemory, Text};
 use mmtel_scan::add_number;
 use std::alloc::Global;
@@ -28,31 +29,66 @@ fn add_start(alloc: Global, out: &mut Text, start: &Start) -> Result<(), NoMemor
     }
 }
 
-fn add_line(alloc: Global, out: &mut Text, line: &Line) -> Result<(), NoMemory>
-    ensures { OnOk result (out.new ≡ out.old ++ line_text line.now) }
+fn add_line(alloc: Global, out: &mut Text, name: &[u8], value: &[u8]) -> Result<(), NoMemory>
+    ensures { OnOk result (out.new ≡ out.old ++ line_text (name.now, value.now)) }
 {
-    out.push(alloc, line.0.bytes())?;
+    out.push(alloc, name)?;
     out.push(alloc, b": ")?;
-    out.push(alloc, line.1.bytes())?;
+    out.push(alloc, value)?;
     out.push(alloc, b"\r\n")
 }
 
-fn add_lines(alloc: Global, out: &mut Text, lines: &[Line]) -> Result<(), NoMemory>
-    ensures { OnOk result (out.new ≡ out.old ++ lines_text lines.now) }
+fn add_lines(alloc: Global, out: &mut Text, lines: &Lines<'_>) -> Result<(), NoMemory>
+    ensures { OnOk result (out.new ≡ out.old ++ lines_text lines.now.values) }
 {
-    for line in lines {
-        add_line(alloc, out, line)?;
+    for i in 0..lines.len() {
+        let (name, value) = lines.at(i);
+        add_line(alloc, out, name, value)?;
     }
     Ok(())
+}
+
+/// How many bytes the start line takes, or a few more.
+fn start_room(start: &Start) -> usize {
+    match start {
+        Start::Request { method, uri } => method
+            .bytes()
+            .len()
+            .saturating_add(uri.bytes().len())
+            .saturating_add(b"  SIP/2.0".len()),
+        Start::Status { code: _, phrase } => phrase
+            .bytes()
+            .len()
+            .saturating_add(b"SIP/2.0 65535 ".len()),
+    }
+}
+
+/// How many bytes the lines take.
+fn lines_room(lines: &Lines<'_>) -> usize {
+    let mut room: usize = 0;
+    for i in 0..lines.len() {
+        let (name, value) = lines.at(i);
+        let line = name.len().saturating_add(value.len());
+        room = room.saturating_add(line).saturating_add(b": \r\n".len());
+    }
+    room
+}
+
+/// Room for the text of a message. What finds none there still is added.
+fn room_of(m: &Msg) -> usize {
+    start_room(m.start())
+        .saturating_add(lines_room(&m.lines()))
+        .saturating_add(m.body().len())
+        .saturating_add(b"\r\n\r\n".len())
 }
 
 fn printed(alloc: Global, m: &Msg) -> Result<Text, NoMemory>
     ensures { IfOk result (λ t. t ≡ message_text m.now) }
 {
-    let mut out = Text::new();
+    let mut out = Text::with_room(alloc, room_of(m))?;
     add_start(alloc, &mut out, m.start())?;
     out.push(alloc, b"\r\n")?;
-    add_lines(alloc, &mut out, m.lines())?;
+    add_lines(alloc, &mut out, &m.lines())?;
     out.push(alloc, b"\r\n")?;
     out.push(alloc, m.body())?;
     Ok(out)

@@ -1,6 +1,7 @@
 //! Reading.
-ghost use Rattle.std.specs.Prelude.{◌≡◌, Some, Err, IfOk, codes, is_some};
-ghost use Rattle.mmtel_message.specs.Fields.{five_at};
+ghost use Rattle.std.specs.Prelude.{◌≡◌, ◌≤◌, ◌<◌, ◌+◌, ℕ, List, Some, Err, IfOk, codes, drop, length, map, take};
+ghost use Rattle.mmtel_message.specs.Headers.{header_line};
+ghost use Rattle.mmtel_message.specs.Held.{held_lines, value_of};
 ghost use Rattle.mmtel_message.specs.Canonical.{IsCanonical};
 ghost use Rattle.mmtel_message.specs.Reads.{reads, Reads, large_of, large_reply, body_of, message_head, head_in_lines, head_in, after_head, after_faults};
 ghost use Rattle.mmtel_message.specs.Replies.{reply_to};
@@ -8,10 +9,11 @@ ghost use Rattle.mmtel_message.specs.declared.reading.ReadFault.TheVariants as f
 
 use crate::expansion::expanded;
 use crate::faults::first_fault;
-use crate::fields::{Five, read_five};
+use crate::field_refs::five_ref;
 use crate::headers::headers;
+use crate::held::{Held, HeldValue, Lines, Span, value_of};
 use crate::lines::{Break, lines, place, whole_end};
-use crate::messages::{Line, Msg, Start, first_of};
+use crate::messages::{Msg, Start, first_of};
 use crate::replies::reply_to;
 use crate::starts::start;
 use mmtel_lex::{LexFault, NoMemory, Text};
@@ -40,124 +42,167 @@ impl From<NoMemory> for ReadFault {
     }
 }
 
-/// The body: as many bytes behind the head as Content-Length says, or all.
-fn body_of<'a>(lines: &[Line], rest: &'a [u8]) -> &'a [u8]
-    ensures { result.now ≡ body_of lines.now rest.now }
+/// How long the body is: as many bytes behind the head as Content-Length says, or all.
+fn body_len(lines: &Lines<'_>, rest: usize) -> usize
+    ensures body { (s : List ℕ) → length s ≡ rest → take result s ≡ body_of lines.now.values s }
+    ensures within { result ≤ rest }
 {
     match first_of(lines, b"Content-Length") {
         None => rest,
-        Some(value) => match number_up_to(rest.len() as u64, value) {
+        Some(value) => match number_up_to(rest as u64, value) {
             None => rest,
-            Some(len) => &rest[..len as usize],
+            Some(len) => len as usize,
         },
     }
 }
 
-fn too_many(alloc: Global, start: &Start, lines: &[Line]) -> Result<Msg, ReadFault>
-    ensures { Reads result (Err (fault.TooMany (reply_to start.now 513 (codes "Message Too Large") lines.now))) }
+fn too_many(alloc: Global, start: &Start, bytes: &[u8], lines: &[Held]) -> Result<Msg, ReadFault>
+    ensures { Reads result (Err (fault.TooMany (reply_to start.now 513 (codes "Message Too Large") (held_lines bytes.now lines.now)))) }
 {
-    let reply = reply_to(alloc, start, 513, b"Message Too Large", lines)?;
+    let reply = reply_to(alloc, start, 513, b"Message Too Large", bytes, lines)?;
     Err(ReadFault::TooMany { reply })
 }
 
+fn bad(
+    alloc: Global,
+    start: &Start,
+    bytes: &[u8],
+    lines: &[Held],
+    at: usize,
+) -> Result<Msg, ReadFault>
+    ensures { Reads result (Err (fault.Bad at (reply_to start.now 400 (codes "Bad Request") (held_lines bytes.now lines.now)))) }
+{
+    let reply = reply_to(alloc, start, 400, b"Bad Request", bytes, lines)?;
+    Err(ReadFault::Bad { at, reply })
+}
+
+/// The message of these bytes, whose head ends at a place.
 fn after_faults(
     alloc: Global,
     start: Start,
-    lines: &[Line],
-    rest: &[u8],
+    bytes: Text,
+    end: usize,
+    lines: &[Held],
     at: Option<usize>,
 ) -> Result<Msg, ReadFault>
-    ensures { Reads result (after_faults start lines.now rest.now at) }
+    requires { end + 4 ≤ length bytes }
+    ensures { Reads result (after_faults start (held_lines bytes lines.now) (drop (end + 4) bytes) at) }
 {
     match at {
         Some(at) => {
-            let reply = reply_to(alloc, &start, 400, b"Bad Request", lines)?;
-            Err(ReadFault::Bad { at, reply })
+            let refused = bad(alloc, &start, bytes.bytes(), lines, at);
+            drop(bytes);
+            drop(start);
+            refused
         }
         None => {
-            let body = Text::of(alloc, body_of(lines, rest))?;
-            let lines = expanded(alloc, lines)?;
-            Ok(Msg::of(start, lines, body))
+            let from = end + 4;
+            let len = body_len(
+                &Lines::of(bytes.bytes(), lines, &[]),
+                bytes.bytes().len() - from,
+            );
+            let lines = expanded(alloc, bytes.bytes(), lines)?;
+            Ok(Msg::held(start, bytes, lines, HeldValue::Received(Span { from, len })))
         }
     }
 }
 
-fn of_five(
+fn after_head(
     alloc: Global,
     start: Start,
-    lines: &[Line],
-    rest: &[u8],
-    five: &Five,
+    bytes: Text,
+    end: usize,
+    lines: &[Held],
 ) -> Result<Msg, ReadFault>
-    ensures { Reads result (after_head (Some (record { start = start; lines = lines.now; five = five.now })) rest.now) }
+    requires { end + 4 ≤ length bytes }
+    ensures { Reads result (after_head (message_head (Some start) (held_lines bytes lines.now)) (drop (end + 4) bytes)) }
 {
-    if lines.len() > 128 {
-        return too_many(alloc, &start, lines);
-    }
-    let at = first_fault(alloc, &start, five, rest.len() as u64, lines)?;
-    after_faults(alloc, start, lines, rest, at)
+    let room = bytes.bytes().len() - (end + 4);
+    let at = {
+        let whole = Lines::of(bytes.bytes(), lines, &[]);
+        match five_ref(&whole) {
+            None => return Err(ReadFault::NotSip),
+            Some(five) => {
+                if lines.len() > 128 {
+                    return too_many(alloc, &start, bytes.bytes(), lines);
+                }
+                first_fault(&start, &five, room as u64, &whole)
+            }
+        }
+    };
+    after_faults(alloc, start, bytes, end, lines, at)
 }
 
-fn read_lines(alloc: Global, start: Start, lines: &[Line], rest: &[u8]) -> Result<Msg, ReadFault>
-    ensures { Reads result (after_head (message_head (Some start) lines.now) rest.now) }
+/// Reads a message whose head ends at a place of its bytes and has this start line and these header lines.
+fn read_headers(
+    alloc: Global,
+    start: Start,
+    bytes: Text,
+    end: usize,
+    lines: &[HeldValue],
+) -> Result<Msg, ReadFault>
+    requires { end + 4 ≤ length bytes }
+    ensures { Reads result (after_head (message_head (Some start) (map header_line (map (value_of bytes) lines.now))) (drop (end + 4) bytes)) }
 {
-    match read_five(alloc, lines) {
-        Err(LexFault::Malformed) => Err(ReadFault::NotSip),
-        Err(LexFault::NoMemory) => Err(ReadFault::NoMemory),
-        Ok(five) => of_five(alloc, start, lines, rest, &five),
-    }
+    let headers = headers(alloc, bytes.bytes(), lines)?;
+    let read = after_head(alloc, start, bytes, end, headers.items());
+    drop(headers);
+    read
 }
 
-fn read_head(alloc: Global, head: &[u8], rest: &[u8]) -> Result<Msg, ReadFault>
-    ensures { Reads result (after_head (head_in head.now) rest.now) }
+/// Reads a message whose head ends at a place of its bytes and has these lines.
+fn read_lines(alloc: Global, bytes: Text, end: usize, lines: &[HeldValue]) -> Result<Msg, ReadFault>
+    requires { end + 4 ≤ length bytes }
+    ensures { Reads result (after_head (head_in_lines (map (value_of bytes) lines.now)) (drop (end + 4) bytes)) }
 {
-    let lines = lines(alloc, head)?;
-    match lines.items() {
+    match lines {
         [] => Err(ReadFault::NotSip),
-        [first, others @ ..] => match start(alloc, first.bytes()) {
+        [first, others @ ..] => match start(alloc, value_of(bytes.bytes(), first)) {
             Err(LexFault::Malformed) => Err(ReadFault::NotSip),
             Err(LexFault::NoMemory) => Err(ReadFault::NoMemory),
-            Ok(start) => {
-                let headers = headers(alloc, others)?;
-                read_lines(alloc, start, headers.items(), rest)
-            }
+            Ok(start) => read_headers(alloc, start, bytes, end, others),
         },
     }
 }
 
-/// Whether the five fields can be read.
-fn has_five(alloc: Global, lines: &[Line]) -> Result<bool, NoMemory>
-    ensures { IfOk result (λ b. b ≡ is_some (five_at lines.now)) }
+/// Reads a message whose head ends at a place of its bytes.
+fn read_head(alloc: Global, bytes: Text, end: usize) -> Result<Msg, ReadFault>
+    requires { end + 4 ≤ length bytes }
+    ensures { Reads result (after_head (head_in (take end bytes)) (drop (end + 4) bytes)) }
 {
-    match read_five(alloc, lines) {
-        Ok(_) => Ok(true),
-        Err(LexFault::Malformed) => Ok(false),
-        Err(LexFault::NoMemory) => Err(NoMemory),
-    }
+    let lines = lines(alloc, bytes.bytes(), end)?;
+    let read = read_lines(alloc, bytes, end, lines.items());
+    drop(lines);
+    read
 }
 
 /// The reply to what is too large and has this start line and these header lines.
-fn large_of_start(alloc: Global, start: &Start, lines: &[Line]) -> Result<Option<Msg>, NoMemory>
-    ensures { IfOk result (λ m. m ≡ large_of (message_head (Some start.now) lines.now)) }
+fn large_of_start(
+    alloc: Global,
+    start: &Start,
+    bytes: &[u8],
+    lines: &[Held],
+) -> Result<Option<Msg>, NoMemory>
+    ensures { IfOk result (λ m. m ≡ large_of (message_head (Some start.now) (held_lines bytes.now lines.now))) }
 {
-    if has_five(alloc, lines)? {
-        reply_to(alloc, start, 513, b"Message Too Large", lines)
+    if five_ref(&Lines::of(bytes, lines, &[])).is_some() {
+        reply_to(alloc, start, 513, b"Message Too Large", bytes, lines)
     } else {
         Ok(None)
     }
 }
 
-fn large_of_lines(alloc: Global, lines: &[Text]) -> Result<Option<Msg>, NoMemory>
-    ensures { IfOk result (λ m. m ≡ large_of (head_in_lines lines.now)) }
+fn large_of_lines(alloc: Global, bytes: &[u8], lines: &[HeldValue]) -> Result<Option<Msg>, NoMemory>
+    ensures { IfOk result (λ m. m ≡ large_of (head_in_lines (map (value_of bytes.now) lines.now))) }
 {
     match lines {
         [] => Ok(None),
-        [first, others @ ..] => match start(alloc, first.bytes()) {
+        [first, others @ ..] => match start(alloc, value_of(bytes, first)) {
             Err(LexFault::Malformed) => Ok(None),
             Err(LexFault::NoMemory) => Err(NoMemory),
             Ok(start) => {
-                let headers = headers(alloc, others)?;
-                large_of_start(alloc, &start, headers.items())
+                let headers = headers(alloc, bytes, others)?;
+                large_of_start(alloc, &start, bytes, headers.items())
             }
         },
     }
@@ -170,44 +215,61 @@ fn large_reply(alloc: Global, bytes: &[u8]) -> Result<Option<Msg>, NoMemory>
     match whole_end(bytes) {
         None => Ok(None),
         Some(at) => {
-            let lines = lines(alloc, &bytes[..at])?;
-            large_of_lines(alloc, lines.items())
+            let lines = lines(alloc, bytes, at)?;
+            large_of_lines(alloc, bytes, lines.items())
         }
     }
 }
 
+/// Refuses bytes that are too many.
 fn too_large(alloc: Global, bytes: &[u8]) -> Result<Msg, ReadFault>
-    ensures { Reads result (Err (fault.TooLarge (large_reply bytes.now))) }
+    requires { 16384 < length bytes.now }
+    ensures { Reads result (Err (fault.TooLarge (large_reply (take 16384 bytes.now)))) }
 {
-    let reply = large_reply(alloc, bytes)?;
+    let reply = large_reply(alloc, &bytes[..16384])?;
     Err(ReadFault::TooLarge { reply })
 }
 
 /// Reads a message.
-fn read_bytes(alloc: Global, bytes: &[u8]) -> Result<Msg, ReadFault>
-    ensures { Reads result (reads bytes.now) }
+fn read_bytes(alloc: Global, bytes: Text) -> Result<Msg, ReadFault>
+    ensures { Reads result (reads bytes) }
 {
-    if bytes.len() > 16384 {
-        return too_large(alloc, &bytes[..16384]);
+    if bytes.bytes().len() > 16384 {
+        return too_large(alloc, bytes.bytes());
     }
-    match place(Break::Head, bytes) {
+    match place(Break::Head, bytes.bytes()) {
         None => Err(ReadFault::NotSip),
-        Some(at) => read_head(alloc, &bytes[..at], &bytes[at + 4..]),
+        Some(end) => read_head(alloc, bytes, end),
     }
 }
 
-/// Reads a message (RFC 3261 §7, §18.3 and §25.1).
+/// Reads a message (RFC 3261 §7, §18.3 and §25.1), which keeps the bytes: its values stand among them, as far as they stand there in one piece.
 ///
-/// Folds are joined, names are spelled in full, a listed name has one value a line, and the body is as long as Content-Length says.
+/// Folds are joined, names are spelled in full, a listed name has one value a line, and the body is as long as Content-Length says. On a refusal the bytes are given up.
 ///
 /// # Errors
 ///
 /// The first that holds of: `TooLarge` for over 16,384 bytes, `NotSip`, `TooMany` for over 128 header lines, `Bad` for the first fault in the order of lines. And want of memory.
+pub fn read_held(alloc: Global, bytes: Text) -> Result<Msg, ReadFault>
+    // The answer is that of the definition, with the reply that it gives.
+    ensures exact { Reads result (reads bytes) }
+    // What is read can be printed and is read again: see `Msg::text`.
+    ensures canonical { IfOk result (λ m. IsCanonical m) }
+{
+    read_bytes(alloc, bytes)
+}
+
+/// Reads a message, as `read_held` does, of a copy of the bytes.
+///
+/// # Errors
+///
+/// Those of `read_held`.
 pub fn read(alloc: Global, bytes: &[u8]) -> Result<Msg, ReadFault>
     // The answer is that of the definition, with the reply that it gives.
     ensures exact { Reads result (reads bytes.now) }
     // What is read can be printed and is read again: see `Msg::text`.
     ensures canonical { IfOk result (λ m. IsCanonical m) }
 {
-    read_bytes(alloc, bytes)
+    let bytes = Text::of(alloc, bytes)?;
+    read_held(alloc, bytes)
 }

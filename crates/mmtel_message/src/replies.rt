@@ -1,10 +1,12 @@
 //! The reply to a request that is refused as it is read (RFC 3261 §8.2.6).
 ghost use Rattle.std.specs.Prelude.{◌≡◌, IfOk};
+ghost use Rattle.mmtel_message.specs.Held.{held_lines};
 ghost use Rattle.mmtel_message.specs.Replies.{is_answered, reply_to, reply_with};
 
 use crate::expansion::expanded;
 use crate::faults::{is_method, is_request};
-use crate::messages::{Line, Msg, Start};
+use crate::held::{Held, Lines};
+use crate::messages::{Msg, Start};
 use crate::responses::{Reply, response};
 use mmtel_lex::{List, NoMemory, Text};
 use std::alloc::Global;
@@ -15,8 +17,13 @@ use std::alloc::Global;
 ///
 /// Want of memory alone.
 #[tactic(auto, unfolding(crate::specs::Replies::reply_with))]
-pub fn reply_with(alloc: Global, code: u16, phrase: &[u8], lines: &[Line]) -> Result<Msg, NoMemory>
-    ensures { IfOk result (λ m. m ≡ reply_with code phrase.now lines.now) }
+pub fn reply_with(
+    alloc: Global,
+    code: u16,
+    phrase: &[u8],
+    lines: &Lines<'_>,
+) -> Result<Msg, NoMemory>
+    ensures { IfOk result (λ m. m ≡ reply_with code phrase.now lines.now.values) }
 {
     let start = Start::Status {
         code,
@@ -52,14 +59,16 @@ pub fn reply_to(
     start: &Start,
     code: u16,
     phrase: &[u8],
-    lines: &[Line],
+    bytes: &[u8],
+    lines: &[Held],
 ) -> Result<Option<Msg>, NoMemory>
-    ensures { IfOk result (λ m. m ≡ reply_to start.now code phrase.now lines.now) }
+    ensures { IfOk result (λ m. m ≡ reply_to start.now code phrase.now (held_lines bytes.now lines.now)) }
 {
     if !is_answered(start) {
         return Ok(None);
     }
-    let lines = expanded(alloc, lines)?;
-    let reply = reply_with(alloc, code, phrase, lines.items())?;
-    Ok(Some(reply))
+    let lines = expanded(alloc, bytes, lines)?;
+    let reply = reply_with(alloc, code, phrase, &Lines::of(bytes, lines.items(), &[]));
+    drop(lines);
+    Ok(Some(reply?))
 }

@@ -1,18 +1,23 @@
 //! Responses to requests (RFC 3261 §8.2.6, §12.1.1 and §18.2.1).
-ghost use Rattle.std.specs.Prelude.{◌≡◌, ◌∷◌, ◌++◌, Some, IfOk, OnOk, codes, map};
+ghost use Rattle.std.specs.Prelude.{◌≡◌, ◌∷◌, ◌++◌, [], Some, IfOk, OnOk, codes, map};
 ghost use Rattle.mmtel_lex.specs.Reading.{name_addr_of};
+ghost use Rattle.mmtel_message.specs.Message.{named};
 ghost use Rattle.mmtel_message.specs.Responses.{added_lines, contact_lines, makes_dialog, names_contact, own_lines, response, route_lines};
 ghost use Rattle.mmtel_message.specs.Responses.{call_lines, completed_lines, has_tag, heard_lines, party_lines, tag_due, tagged, to_line, to_value, via_lines};
 
-use crate::building::{add_bytes, add_decimal, add_line, add_named, add_passed, lines_named};
+use crate::building::{add_bytes, add_decimal, add_line, append_lines, append_named};
 use crate::faults::is_method;
-use crate::messages::{Line, Msg, Start};
+use crate::held::Lines;
+use crate::messages::{Line, Msg, Start, is_named};
 use crate::vias::completed;
-use mmtel_lex::{LexFault, param_value, read_name_addr};
+use mmtel_lex::name_addr_ref;
 use mmtel_scan::{List, NoMemory, Text};
 use mmtel_types::Addr;
 use std::alloc::Global;
 use std::marker::Model;
+
+/// How many lines a response has room for at first.
+const ROOM: usize = 12;
 
 /// What a response has that its request does not say.
 #[derive(Drop)]
@@ -67,7 +72,7 @@ fn add_completed(
         [first, further @ ..] => {
             let value = completed(alloc, source, first.1.bytes())?;
             add_line(alloc, out, first.0.bytes(), value)?;
-            add_passed(alloc, out, further)
+            append_lines(alloc, out, further)
         }
     }
 }
@@ -78,27 +83,29 @@ fn add_vias(
     alloc: Global,
     out: &mut List<Line>,
     source: Option<Addr>,
-    lines: &[Line],
+    lines: &Lines<'_>,
 ) -> Result<(), NoMemory>
-    ensures { OnOk result (out.new ≡ out.old ++ via_lines source lines.now) }
+    ensures { OnOk result (out.new ≡ out.old ++ via_lines source lines.now.values) }
 {
     match source {
-        None => add_named(alloc, out, b"Via", lines),
+        None => append_named(alloc, out, b"Via", lines),
         Some(source) => {
-            let vias = lines_named(alloc, b"Via", lines)?;
-            add_completed(alloc, out, source, vias.items())
+            let mut vias = List::new();
+            append_named(alloc, &mut vias, b"Via", lines)?;
+            let added = add_completed(alloc, out, source, vias.items());
+            drop(vias);
+            added
         }
     }
 }
 
 /// Whether a To value has a tag.
-fn has_tag(alloc: Global, value: &[u8]) -> Result<bool, NoMemory>
-    ensures { IfOk result (λ b. b ≡ has_tag (name_addr_of value.now)) }
+fn has_tag(value: &[u8]) -> bool
+    ensures { result ≡ has_tag (name_addr_of value.now) }
 {
-    match read_name_addr(alloc, value) {
-        Ok(name) => Ok(param_value(name.params.items(), b"tag").is_some()),
-        Err(LexFault::Malformed) => Ok(false),
-        Err(LexFault::NoMemory) => Err(NoMemory),
+    match name_addr_ref(value) {
+        None => false,
+        Some(name) => name.param(b"tag").is_some(),
     }
 }
 
@@ -123,7 +130,7 @@ fn to_value(alloc: Global, tag: &[u8], value: &[u8]) -> Result<Text, NoMemory>
     match tag {
         [] => Text::of(alloc, value),
         _ => {
-            if has_tag(alloc, value)? {
+            if has_tag(value) {
                 return Text::of(alloc, value);
             }
             let value = Text::of(alloc, value)?;
@@ -132,14 +139,36 @@ fn to_value(alloc: Global, tag: &[u8], value: &[u8]) -> Result<Text, NoMemory>
     }
 }
 
-/// Adds To lines.
+/// Adds the line of this spelling and value, where it is a To line.
 #[tactic(auto, unfolding(crate::specs::Message::line))]
-fn add_to(alloc: Global, out: &mut List<Line>, tag: &[u8], lines: &[Line]) -> Result<(), NoMemory>
-    ensures { OnOk result (out.new ≡ out.old ++ map (to_line tag.now) lines.now) }
+fn add_to_line(
+    alloc: Global,
+    out: &mut List<Line>,
+    tag: &[u8],
+    spelled: &[u8],
+    value: &[u8],
+) -> Result<(), NoMemory>
+    ensures { OnOk result (out.new ≡ out.old ++ map (to_line tag.now) (named (codes "To") ((spelled.now, value.now) ∷ []))) }
 {
-    for line in lines {
-        let value = to_value(alloc, tag, line.1.bytes())?;
-        add_line(alloc, out, line.0.bytes(), value)?;
+    if !is_named(spelled, b"To") {
+        return Ok(());
+    }
+    let value = to_value(alloc, tag, value)?;
+    add_line(alloc, out, spelled, value)
+}
+
+/// Adds To lines.
+fn add_to(
+    alloc: Global,
+    out: &mut List<Line>,
+    tag: &[u8],
+    lines: &Lines<'_>,
+) -> Result<(), NoMemory>
+    ensures { OnOk result (out.new ≡ out.old ++ map (to_line tag.now) (named (codes "To") lines.now.values)) }
+{
+    for i in 0..lines.len() {
+        let (spelled, value) = lines.at(i);
+        add_to_line(alloc, out, tag, spelled, value)?;
     }
     Ok(())
 }
@@ -150,22 +179,21 @@ fn add_parties(
     alloc: Global,
     out: &mut List<Line>,
     tag: &[u8],
-    lines: &[Line],
+    lines: &Lines<'_>,
 ) -> Result<(), NoMemory>
-    ensures { OnOk result (out.new ≡ out.old ++ party_lines tag.now lines.now) }
+    ensures { OnOk result (out.new ≡ out.old ++ party_lines tag.now lines.now.values) }
 {
-    let to = lines_named(alloc, b"To", lines)?;
-    add_named(alloc, out, b"From", lines)?;
-    add_to(alloc, out, tag, to.items())
+    append_named(alloc, out, b"From", lines)?;
+    add_to(alloc, out, tag, lines)
 }
 
 /// Adds Call-ID and CSeq.
 #[tactic(auto, unfolding(crate::specs::Responses::call_lines))]
-fn add_call(alloc: Global, out: &mut List<Line>, lines: &[Line]) -> Result<(), NoMemory>
-    ensures { OnOk result (out.new ≡ out.old ++ call_lines lines.now) }
+fn add_call(alloc: Global, out: &mut List<Line>, lines: &Lines<'_>) -> Result<(), NoMemory>
+    ensures { OnOk result (out.new ≡ out.old ++ call_lines lines.now.values) }
 {
-    add_named(alloc, out, b"Call-ID", lines)?;
-    add_named(alloc, out, b"CSeq", lines)
+    append_named(alloc, out, b"Call-ID", lines)?;
+    append_named(alloc, out, b"CSeq", lines)
 }
 
 /// Adds what is as received.
@@ -175,9 +203,9 @@ fn add_heard(
     out: &mut List<Line>,
     source: Option<Addr>,
     tag: &[u8],
-    lines: &[Line],
+    lines: &Lines<'_>,
 ) -> Result<(), NoMemory>
-    ensures { OnOk result (out.new ≡ out.old ++ heard_lines source tag.now lines.now) }
+    ensures { OnOk result (out.new ≡ out.old ++ heard_lines source tag.now lines.now.values) }
 {
     add_vias(alloc, out, source, lines)?;
     add_parties(alloc, out, tag, lines)?;
@@ -205,12 +233,12 @@ fn add_routes(
     out: &mut List<Line>,
     code: u16,
     start: &Start,
-    lines: &[Line],
+    lines: &Lines<'_>,
 ) -> Result<(), NoMemory>
-    ensures { OnOk result (out.new ≡ out.old ++ route_lines code start.now lines.now) }
+    ensures { OnOk result (out.new ≡ out.old ++ route_lines code start.now lines.now.values) }
 {
     if makes_dialog(code, start) {
-        return add_named(alloc, out, b"Record-Route", lines);
+        return append_named(alloc, out, b"Record-Route", lines);
     }
     Ok(())
 }
@@ -243,8 +271,8 @@ fn add_own(
 ) -> Result<(), NoMemory>
     ensures { OnOk result (out.new ≡ out.old ++ own_lines passed.now named.now body.now) }
 {
-    add_passed(alloc, out, passed)?;
-    add_passed(alloc, out, named)?;
+    append_lines(alloc, out, passed)?;
+    append_lines(alloc, out, named)?;
     add_decimal(alloc, out, b"Content-Length", body.len() as u64)
 }
 
@@ -255,13 +283,13 @@ fn add_added(
     out: &mut List<Line>,
     code: u16,
     start: &Start,
-    lines: &[Line],
+    lines: &Lines<'_>,
     contact: &[u8],
     passed: &[Line],
     named: &[Line],
     body: &[u8],
 ) -> Result<(), NoMemory>
-    ensures { OnOk result (out.new ≡ out.old ++ added_lines code start.now lines.now contact.now passed.now named.now body.now) }
+    ensures { OnOk result (out.new ≡ out.old ++ added_lines code start.now lines.now.values contact.now passed.now named.now body.now) }
 {
     add_routes(alloc, out, code, start, lines)?;
     add_contact(alloc, out, code, start, contact)?;
@@ -289,12 +317,12 @@ fn tag_due(code: u16, tag: &[u8]) -> &[u8]
 pub fn response(
     alloc: Global,
     start: &Start,
-    lines: &[Line],
+    lines: &Lines<'_>,
     reply: &Reply<'_>,
 ) -> Result<Msg, NoMemory>
-    ensures message { IfOk result (λ m. m ≡ response start.now lines.now reply.now) }
+    ensures message { IfOk result (λ m. m ≡ response start.now lines.now.values reply.now) }
 {
-    let mut out = List::new();
+    let mut out = List::with_room(alloc, ROOM)?;
     add_heard(
         alloc,
         &mut out,

@@ -1,11 +1,14 @@
 //! The values of one text: a listed name's, which commas part (RFC 3261 §7.3.1), and Privacy's words, which `;` parts (RFC 3323 §4.2).
-ghost use Rattle.std.specs.Prelude.{◌≡◌, ◌∷◌, ◌++◌, ◌<◌, length, IfOk, IfSome, OnOk};
+ghost use Rattle.std.specs.Prelude.{◌≡◌, ◌∷◌, ◌++◌, ◌+◌, ◌-◌, ◌<◌, ◌≤◌, length, take, drop, IfOk, IfSome, OnOk};
 ghost use Rattle.std.specs.List.{flat_map};
 ghost use Rattle.std.specs.Option.{option_copied};
-ghost use Rattle.mmtel_message.specs.Values.{mode_after, is_parting, base, parting, parts, rest_parts, values_in, joined_by};
+ghost use Rattle.mmtel_message.specs.Headers.{trim};
+ghost use Rattle.mmtel_message.specs.Held.{at_place};
+ghost use Rattle.mmtel_message.specs.Values.{mode_after, is_parting, base, parting, parts, rest_parts, values_in, values_from, joined_by};
 
+use crate::held::Span;
 use mmtel_lex::{List, NoMemory, Text};
-use mmtel_scan::{Class, trim};
+use mmtel_scan::{Class, split_run, trim, trim_end};
 use std::alloc::Global;
 
 /// Where a byte of a text with several values stands, which decides whether it parts two of them.
@@ -104,6 +107,35 @@ pub fn next_part(mode: Mode, bytes: &[u8]) -> (&[u8], Option<&[u8]>)
     match parting(mode, bytes) {
         None => (bytes, None),
         Some(at) => (&bytes[..at], Some(&bytes[at + 1..])),
+    }
+}
+
+/// Where the part of a text from one place to another stands without the blanks around it.
+pub fn trimmed_place(text: &[u8], from: usize, to: usize) -> Span
+    requires order { from ≤ to }
+    requires within { to ≤ length text.now }
+    ensures bytes { at_place text.now result ≡ trim (take (to - from) (drop from text.now)) }
+    ensures within { result.from + result.len ≤ length text.now }
+{
+    let (blanks, rest) = split_run(Class::Blank, &text[from..to]);
+    Span {
+        from: from + blanks.len(),
+        len: trim_end(Class::Blank, rest).len(),
+    }
+}
+
+/// Where the first value from a place on stands in a text, and where the next one begins, if there is more.
+pub fn next_value(mode: Mode, text: &[u8], from: usize) -> (Span, Option<usize>)
+    requires base { base mode ≡ mode }
+    requires within { from ≤ length text.now }
+    ensures values { values_in mode (drop from text.now) ≡ at_place text.now result.0 ∷ values_from mode text.now result.1 }
+    ensures inside { result.0.from + result.0.len ≤ length text.now }
+    ensures later { IfSome result.1 (λ n. from < n) }
+    ensures next_within { IfSome result.1 (λ n. n ≤ length text.now) }
+{
+    match parting(mode, &text[from..]) {
+        None => (trimmed_place(text, from, text.len()), None),
+        Some(at) => (trimmed_place(text, from, from + at), Some(from + at + 1)),
     }
 }
 

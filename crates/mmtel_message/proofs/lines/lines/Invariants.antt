@@ -1,11 +1,10 @@
-use Rattle.std.proofs.Common.{◌+◌, length}
-use Rattle.std.specs.Option.{option_map_or, option_copied}
-use Rattle.mmtel_message.specs.Lines.{split, rest_lines, unfolded}
-use Rattle.mmtel_message.proofs.FoldLaws.{ReadsOn}
+use Rattle.std.proofs.Common.{◌+◌, ◌-◌, length}
+use Rattle.std.specs.Option.{option_map_or}
+use Rattle.mmtel_message.proofs.FoldLaws.{ReadsLines}
 use Rattle.mmtel_message.proofs.lines.lines.Given as goal
 
 abbrev pub invariant-lines : goal.invariant-lines
-invariant-lines l = ReadsOn (unfolded (split l.fn.head)) l.lines l.front l.gap l.piece (rest_lines (option_copied l.rest))
+invariant-lines l = ReadsLines l.fn.bytes l.head l.lines l.rest
 
 abbrev pub decreases-lines : goal.decreases-lines
-decreases-lines l = option_map_or (λ r. length r.now + 1) l.rest 0
+decreases-lines l = option_map_or (λ n. length l.head + 1 - n) l.rest 0

@@ -1,15 +1,15 @@
 use Rattle.std.proofs.Common.{◌≡◌, Some, None, sym}
 use Rattle.std.specs.Prelude.{position}
-use Rattle.mmtel_message.specs.Message.{is_line}
-use Rattle.mmtel_message.proofs.EditLaws.{set_none, set_there, there}
+use Rattle.std.specs.Str.{str_eq_ignore_ascii_case}
+use Rattle.mmtel_message.proofs.HeldLaws.{set_behind, set_received}
 use Rattle.mmtel_message.proofs.messages.set_line.Goals as goal
 
-pub returns-in_ok-push-in-None-clause-ok : goal.returns-in_ok-push-in-None-clause-ok
-returns-in_ok-push-in-None-clause-ok c =
-    let e : position (λ l. is_line c.args.name.now l) c.args.lines.now ≡ None = (let there_is = rw c.items.ensures at c.in-None.ensures in sym there_is) in
-    rw (c.in_ok-push-in-None.ensures.ok, c.in_ok-spelled.ensures) (sym (set_none c.args.name.now c.args.value c.args.lines.now e))
+pub returns-in_ok-spelled-in-Some-clause-ok : goal.returns-in_ok-spelled-in-Some-clause-ok
+returns-in_ok-spelled-in-Some-clause-ok c s =
+    let e : position (λ l. str_eq_ignore_ascii_case l.0 c.args.name.now) c.args.held.now ≡ Some c.in-Some.at = (let there_is = rw c.items.ensures at c.in-Some.ensures in sym there_is) in
+    rw (c.drop_named.ensures, c.drop_named-in-Some.ensures, c.replace.ensures.items, c.in_ok-spelled-in-Some.ensures) (set_received s c.args.name.now c.args.value c.args.held.now c.args.added.now c.in-Some.at e)
 
-pub returns-in-Some-clause-ok : goal.returns-in-Some-clause-ok
-returns-in-Some-clause-ok c =
-    let e : position (λ l. is_line c.args.name.now l) c.args.lines.now ≡ Some c.in-Some.at = (let there_is = rw c.items.ensures at c.in-Some.ensures in sym there_is) in
-    rw (c.drop_named.ensures, c.replace.ensures.items, c.in_ok-spelled.ensures) (set_there c.args.name.now c.args.value c.args.lines.now c.in-Some.at (there c.args.name.now c.args.lines.now c.in-Some.at e) e)
+pub returns-in_ok-set_added-in-None-clause-ok : goal.returns-in_ok-set_added-in-None-clause-ok
+returns-in_ok-set_added-in-None-clause-ok c s =
+    let e : position (λ l. str_eq_ignore_ascii_case l.0 c.args.name.now) c.args.held.now ≡ None = (let there_is = rw c.items.ensures at c.in-None.ensures in sym there_is) in
+    rw (c.in_ok-set_added-in-None.ensures.ok) (set_behind s c.args.name.now c.args.value c.args.held.now c.args.added.now e)

@@ -1,0 +1,111 @@
+-- Lines as they are held: fronts of them, and edits, first among those that were received and then among those that were added.
+use Rattle.std.proofs.Common.{◌≡◌, ℕ, zero, suc, slice_set, inl, inr, ◌+◌, ◌-◌, ◌≤◌, ◌<◌, Bool, true, false, not, List, [], ◌∷◌, ◌++◌, length, take, drop, map, filter, Option, Some, None, refl, sym, ap, subst, get_or, slice_get, drop-cons, take-suc, add-one, append-nil, append_assoc, ◌∙◌, arith}
+use Rattle.std.proofs.lemmas.Option.{slice_get_within, unwrap_or-slice_get}
+use Rattle.std.proofs.lemmas.Bool.{cases_Bool}
+use Rattle.std.proofs.lemmas.List.{drop-map, length-map, map-append, take-append-le, take-map}
+use Rattle.std.proofs.lemmas.List.Elements.{filter-append}
+use Rattle.std.proofs.Math.Seq.{take-append-add}
+use Rattle.std.specs.Option.{option_map, unwrap_or}
+use Rattle.std.specs.Prelude.{position}
+use Rattle.std.specs.Str.{str_eq_ignore_ascii_case}
+use Rattle.mmtel_scan.proofs.Positions.{position_no, position_yes}
+use Rattle.mmtel_message.proofs.EditLaws.{set_there, there}
+use Rattle.mmtel_message.proofs.LineLaws.{mapped, unmapped}
+use Rattle.mmtel_message.specs.Held.{held_line, held_lines, lines_of}
+use Rattle.mmtel_message.specs.Message.{Line, dropped, is_line, replaced}
+use Rattle.mmtel_message.specs.declared.held.HeldValue.{HeldValue}
+use Rattle.mmtel_message.specs.declared.held.HeldValue.TheVariants.{Edited}
+
+-- a front of the lines that were received is a front of all
+pub front_within : (s : List ℕ) (hs : List (List ℕ × HeldValue)) (added : List Line) (n : ℕ) → n ≤ length hs → lines_of s (take n hs) [] ≡ take n (lines_of s hs added)
+front_within s hs added n le =
+    let long : n ≤ length (held_lines s hs) = subst (λ (k : ℕ). n ≤ k) (sym (length-map hs (λ h. held_line s h))) le in
+    append-nil (held_lines s (take n hs)) ∙ sym (take-append-le n (held_lines s hs) added long ∙ take-map (λ h. held_line s h) n hs)
+
+-- a front with all of them
+pub front_beyond : (s : List ℕ) (hs : List (List ℕ × HeldValue)) (added : List Line) (n : ℕ) → length hs ≤ n → lines_of s hs (take (n - length hs) added) ≡ take n (lines_of s hs added)
+front_beyond s hs added n le =
+    let many : length (held_lines s hs) + (n - length hs) ≡ n = rw (length-map hs (λ h. held_line s h)) (omega arith) in
+    sym (subst (λ (k : ℕ). take k (lines_of s hs added) ≡ held_lines s hs ++ take (n - length hs) added) many (take-append-add (held_lines s hs) added (n - length hs)))
+
+here : (ls : List Line) (i : ℕ) (x : Line) → slice_get ls i ≡ Some x → x ≡ get_or ls i x
+here ls i x e =
+    let found : unwrap_or (slice_get ls i) x ≡ get_or ls i x = unwrap_or-slice_get ls i x in
+    rw e at found
+
+-- the line at a place comes first of those from there on
+pub first_from : (ls : List Line) (i : ℕ) (x : Line) → slice_get ls i ≡ Some x → drop i ls ≡ x ∷ drop (i + 1) ls
+first_from ls i x e = rw (add-one, drop-cons ls i x (slice_get_within ls i x e), sym (here ls i x e)) refl
+
+-- and last of those up to there
+pub last_to : (ls : List Line) (i : ℕ) (x : Line) → slice_get ls i ≡ Some x → take (i + 1) ls ≡ take i ls ++ x ∷ []
+last_to ls i x e = rw (add-one, take-suc ls i x (slice_get_within ls i x e), sym (here ls i x e)) refl
+
+-- ---- edits
+
+dropped_held : (s name : List ℕ) (hs : List (List ℕ × HeldValue)) → held_lines s (filter (λ h. not (str_eq_ignore_ascii_case h.0 name)) hs) ≡ dropped name (held_lines s hs)
+dropped_held s name [] = refl
+dropped_held s name (h ∷ hs) =
+    elim (cases_Bool (str_eq_ignore_ascii_case h.0 name)) [
+      | inl y ↦ rw y (dropped_held s name hs)
+      | inr n ↦ rw n (ap (λ (ls : List Line). held_line s h ∷ ls) (dropped_held s name hs))
+    ]
+
+-- without the lines of a name: those received and those added are each without
+pub dropped_lines : (s name : List ℕ) (hs : List (List ℕ × HeldValue)) (added : List Line) → lines_of s (filter (λ h. not (str_eq_ignore_ascii_case h.0 name)) hs) (dropped name added) ≡ dropped name (lines_of s hs added)
+dropped_lines s name hs added =
+    ap (λ (ls : List Line). ls ++ dropped name added) (dropped_held s name hs) ∙ sym (filter-append (λ l. not (is_line name l)) (held_lines s hs) added)
+
+-- the first line of a name, among those received
+place_held : (s name : List ℕ) (hs : List (List ℕ × HeldValue)) → position (λ l. is_line name l) (held_lines s hs) ≡ position (λ h. str_eq_ignore_ascii_case h.0 name) hs
+place_held s name [] = refl
+place_held s name (h ∷ hs) =
+    elim (cases_Bool (str_eq_ignore_ascii_case h.0 name)) [
+      | inl y ↦ position_yes (λ l. is_line name l) (held_line s h) (held_lines s hs) y ∙ sym (position_yes (λ (x : List ℕ × HeldValue). str_eq_ignore_ascii_case x.0 name) h hs y)
+      | inr n ↦
+          position_no (λ l. is_line name l) (held_line s h) (held_lines s hs) n ∙ (ap (λ o. option_map (λ m. m + 1) o) (place_held s name hs)
+          ∙ sym (position_no (λ (x : List ℕ × HeldValue). str_eq_ignore_ascii_case x.0 name) h hs n))
+    ]
+
+replaced_within : (name value : List ℕ) (ls added : List Line) (n : ℕ) → position (λ l. is_line name l) ls ≡ Some n → replaced name value (ls ++ added) ≡ replaced name value ls ++ dropped name added
+replaced_within name value [] added n e = absurd cc
+replaced_within name value (l ∷ ls) added n e =
+    elim (cases_Bool (is_line name l)) [
+      | inl y ↦ rw y (ap (λ (ks : List Line). (name, value) ∷ ks) (filter-append (λ k. not (is_line name k)) ls added))
+      | inr other ↦
+          let p = mapped (position (λ m. is_line name m) ls) n (rw (position_no (λ m. is_line name m) l ls other) at e) in
+          rw other (ap (λ (ks : List Line). l ∷ ks) (replaced_within name value ls added p.0 p.1))
+    ]
+
+replaced_behind : (name value : List ℕ) (ls added : List Line) → position (λ l. is_line name l) ls ≡ None → replaced name value (ls ++ added) ≡ ls ++ replaced name value added
+replaced_behind name value [] added e = refl
+replaced_behind name value (l ∷ ls) added e =
+    elim (cases_Bool (is_line name l)) [
+      | inl y ↦ let f = rw (position_yes (λ m. is_line name m) l ls y) at e in absurd cc
+      | inr other ↦
+          let f = unmapped (position (λ m. is_line name m) ls) (rw (position_no (λ m. is_line name m) l ls other) at e) in
+          rw other (ap (λ (ks : List Line). l ∷ ks) (replaced_behind name value ls added f))
+    ]
+
+set_held : (s : List ℕ) (hs : List (List ℕ × HeldValue)) (n : ℕ) (h : List ℕ × HeldValue) → held_lines s (slice_set hs n h) ≡ slice_set (held_lines s hs) n (held_line s h)
+set_held s [] n h = refl
+set_held s (x ∷ hs) zero h = refl
+set_held s (x ∷ hs) (suc n) h = ap (λ (ls : List Line). held_line s x ∷ ls) (set_held s hs n h)
+
+-- a line of the name among those received is replaced, and further ones go
+pub set_received : (s name value : List ℕ) (hs : List (List ℕ × HeldValue)) (added : List Line) (n : ℕ) → position (λ h. str_eq_ignore_ascii_case h.0 name) hs ≡ Some n → lines_of s (take (n + 1) (slice_set hs n (name, Edited value)) ++ filter (λ h. not (str_eq_ignore_ascii_case h.0 name)) (drop (n + 1) (slice_set hs n (name, Edited value)))) (dropped name added) ≡ replaced name value (lines_of s hs added)
+set_received s name value hs added n e =
+    let at_line : position (λ l. is_line name l) (held_lines s hs) ≡ Some n = place_held s name hs ∙ e in
+    let ks : List (List ℕ × HeldValue) = slice_set hs n (name, Edited value) in
+    let front : held_lines s (take (n + 1) ks) ≡ take (n + 1) (slice_set (held_lines s hs) n (name, value)) =
+    sym (take-map (λ h. held_line s h) (n + 1) ks) ∙ ap (λ (ls : List Line). take (n + 1) ls) (set_held s hs n (name, Edited value)) in
+    let back : held_lines s (filter (λ h. not (str_eq_ignore_ascii_case h.0 name)) (drop (n + 1) ks)) ≡ dropped name (drop (n + 1) (slice_set (held_lines s hs) n (name, value))) =
+    dropped_held s name (drop (n + 1) ks) ∙ ap (λ (ls : List Line). dropped name ls) (sym (drop-map (λ h. held_line s h) (n + 1) ks) ∙ ap (λ (ls : List Line). drop (n + 1) ls) (set_held s hs n (name, Edited value))) in
+    let whole : held_lines s (take (n + 1) ks ++ filter (λ h. not (str_eq_ignore_ascii_case h.0 name)) (drop (n + 1) ks)) ≡ replaced name value (held_lines s hs) =
+    map-append (λ h. held_line s h) (take (n + 1) ks) (filter (λ h. not (str_eq_ignore_ascii_case h.0 name)) (drop (n + 1) ks))
+    ∙ (rw (front, back) refl ∙ set_there name value (held_lines s hs) n (there name (held_lines s hs) n at_line) at_line) in
+    ap (λ (ls : List Line). ls ++ dropped name added) whole ∙ sym (replaced_within name value (held_lines s hs) added n at_line)
+
+-- where none of those received has the name, those added are looked at
+pub set_behind : (s name value : List ℕ) (hs : List (List ℕ × HeldValue)) (added : List Line) → position (λ h. str_eq_ignore_ascii_case h.0 name) hs ≡ None → lines_of s hs (replaced name value added) ≡ replaced name value (lines_of s hs added)
+set_behind s name value hs added e = sym (replaced_behind name value (held_lines s hs) added (place_held s name hs ∙ e))

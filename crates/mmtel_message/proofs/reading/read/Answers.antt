@@ -1,5 +1,0 @@
-use Rattle.mmtel_message.proofs.ReadLaws.{canonical_read}
-use Rattle.mmtel_message.proofs.reading.read.Goals as goal
-
-pub returns-clause-canonical : goal.returns-clause-canonical
-returns-clause-canonical c = canonical_read c.args.bytes.now c.read_bytes.result c.read_bytes.ensures

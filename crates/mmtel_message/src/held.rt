@@ -1,0 +1,196 @@
+//! How a message is held: the bytes that were received, and of each line the place of its value among them, or an edit.
+ghost use Rattle.std.specs.Prelude.{◌≡◌, ◌<◌, ◌≤◌, ◌+◌, ◌==◌, [], ◌∷◌, ◌++◌, Some, IfOk, IfSome, length, map, take, drop, slice_get};
+ghost use Rattle.std.specs.Option.{option_map};
+ghost use Rattle.mmtel_message.specs.Held.{at_place, lines_of, place_of, span_at, value_of};
+
+use crate::messages::Line;
+use mmtel_lex::{NoMemory, Text};
+use std::alloc::Global;
+use std::marker::Model;
+
+/// The place of a value among the bytes received.
+#[derive(Clone, Copy, Debug, PartialEq, Eq)]
+pub struct Span {
+    /// Where it begins.
+    pub from: usize,
+    /// How many bytes it has.
+    pub len: usize,
+}
+
+/// The value of a line: where it stands among the bytes received, or an edit.
+#[derive(Drop)]
+pub enum HeldValue {
+    Received(Span),
+    Edited(Text),
+}
+
+/// A line that was received: its name and its value.
+pub type Held = (Text, HeldValue);
+
+/// The bytes at a place.
+pub fn at_place(bytes: &[u8], place: Span) -> &[u8]
+    ensures { result.now ≡ at_place bytes.now place }
+{
+    let from = place.from.min(bytes.len());
+    let rest = &bytes[from..];
+    &rest[..place.len.min(rest.len())]
+}
+
+/// The bytes of a value.
+pub fn value_of<'a>(received: &'a [u8], value: &'a HeldValue) -> &'a [u8]
+    ensures { result.now ≡ value_of received.now value.now }
+{
+    match value {
+        HeldValue::Received(place) => at_place(received, *place),
+        HeldValue::Edited(text) => text.bytes(),
+    }
+}
+
+/// A part of a value, which stands at a place of the value's bytes: a place among the bytes received where the value is one.
+pub fn part_of(
+    alloc: Global,
+    received: &[u8],
+    value: &HeldValue,
+    part: Span,
+) -> Result<HeldValue, NoMemory>
+    requires { part.from + part.len ≤ length (value_of received.now value.now) }
+    ensures { IfOk result (λ v. value_of received.now v ≡ at_place (value_of received.now value.now) part) }
+{
+    match value {
+        HeldValue::Received(place) => Ok(HeldValue::Received(Span {
+            from: place.from + part.from,
+            len: part.len,
+        })),
+        HeldValue::Edited(text) => Ok(HeldValue::Edited(Text::of(
+            alloc,
+            at_place(text.bytes(), part),
+        )?)),
+    }
+}
+
+fn place_of(value: &HeldValue) -> Option<Span>
+    ensures { result ≡ place_of value.now }
+{
+    match value {
+        HeldValue::Received(place) => Some(*place),
+        HeldValue::Edited(_) => None,
+    }
+}
+
+/// The header lines of a message, in order.
+#[derive(Drop)]
+pub struct Lines<'a> {
+    received: &'a [u8],
+    held: &'a [Held],
+    added: &'a [Line],
+}
+
+impl<'a> Model for Lines<'a> {
+    ghost use Rattle.std.specs.Prelude.{map};
+    ghost use Rattle.mmtel_message.specs.Held.{Lines, lines_of, place_of};
+
+    ghost Value = { Lines };
+
+    ghost view = { λ l. record {
+      values = lines_of l.received.now l.held.now l.added.now;
+      received = l.received.now;
+      places = map (λ h. place_of h.1) l.held.now;
+    } };
+}
+
+impl<'a> Lines<'a> {
+    /// These lines: received ones, whose values are places among these bytes or edits, and added ones.
+    pub fn of(received: &'a [u8], held: &'a [Held], added: &'a [Line]) -> Lines<'a>
+        ensures values { result.values ≡ lines_of received.now held.now added.now }
+        ensures received { result.received ≡ received.now }
+        ensures places { result.places ≡ map (λ h. place_of h.1) held.now }
+    {
+        Lines {
+            received,
+            held,
+            added,
+        }
+    }
+
+    /// How many there are.
+    pub fn len(&self) -> usize
+        ensures { result ≡ length self.now.values }
+    {
+        self.held.len() + self.added.len()
+    }
+
+    /// The number of the empty line behind them, where lines are counted from 1.
+    pub fn end(&self) -> usize
+        ensures { result ≡ length self.now.values + 1 }
+    {
+        self.held.len() + self.added.len() + 1
+    }
+
+    /// Whether there is none.
+    pub fn is_empty(&self) -> bool
+        ensures { result ≡ (length self.now.values == 0) }
+    {
+        self.len() == 0
+    }
+
+    fn item(&self, place: usize) -> (&'a [u8], &'a [u8])
+        requires { place < length self.now.values }
+        ensures { slice_get self.now.values place ≡ Some (result.0.now, result.1.now) }
+    {
+        if place < self.held.len() {
+            let line = &self.held[place];
+            return (line.0.bytes(), value_of(self.received, &line.1));
+        }
+        let line = &self.added[place - self.held.len()];
+        (line.0.bytes(), line.1.bytes())
+    }
+
+    /// The name and the value of one.
+    pub fn at(&self, place: usize) -> (&'a [u8], &'a [u8])
+        requires { place < length self.now.values }
+        ensures item { slice_get self.now.values place ≡ Some (result.0.now, result.1.now) }
+        // So it comes first of those from there on, and last of those up to there.
+        ensures first { drop place self.now.values ≡ (result.0.now, result.1.now) ∷ drop (place + 1) self.now.values }
+        ensures last { take (place + 1) self.now.values ≡ take place self.now.values ++ (result.0.now, result.1.now) ∷ [] }
+    {
+        self.item(place)
+    }
+
+    /// Those before one.
+    pub fn before(&self, place: usize) -> Lines<'a>
+        requires { place ≤ length self.now.values }
+        ensures { result.values ≡ take place self.now.values }
+    {
+        if place < self.held.len() {
+            return Lines {
+                received: self.received,
+                held: &self.held[..place],
+                added: &[],
+            };
+        }
+        Lines {
+            received: self.received,
+            held: self.held,
+            added: &self.added[..place - self.held.len()],
+        }
+    }
+
+    /// The bytes that were received; none of a message that the server built.
+    pub fn received(&self) -> &'a [u8]
+        ensures { result.now ≡ self.now.received }
+    {
+        self.received
+    }
+
+    /// Where the value of a line stands among the bytes received; None where the line is an edit or is not there.
+    pub fn span(&self, place: usize) -> Option<Span>
+        ensures place { result ≡ span_at self.now.places place }
+        // The value is the bytes that stand there.
+        ensures value { IfSome result (λ p. option_map (λ l. l.1) (slice_get self.now.values place) ≡ Some (at_place self.now.received p)) }
+    {
+        if place < self.held.len() {
+            return place_of(&self.held[place].1);
+        }
+        None
+    }
+}

@@ -52,7 +52,7 @@ pub fn own_answer_at(
     response(
         alloc,
         request.message.start(),
-        request.message.lines(),
+        &request.message.lines(),
         &reply,
     )
 }
@@ -105,7 +105,7 @@ pub fn relayed_answer(
     response(
         alloc,
         request.message.start(),
-        request.message.lines(),
+        &request.message.lines(),
         &reply,
     )
 }

@@ -9,7 +9,7 @@ use crate::requests::relaying;
 use mmtel_history::{with_cause, without_cause};
 use mmtel_leg::{Dialogue, numbered, request_uri};
 use mmtel_lex::{NameAddr, Uri, print_name_addr, print_uri};
-use mmtel_message::{Line, Msg, add_bytes, add_passed, first_of, is_request};
+use mmtel_message::{Line, Msg, add_bytes, add_passed, is_request};
 use mmtel_scan::{List, NoMemory, Text, texts_copied};
 use mmtel_trust::{attempt_from, display_and_uri, name_addr_in};
 use mmtel_types::{Addr, Peer, Side};
@@ -33,7 +33,7 @@ fn to_value(message: &Hearing) -> Option<&[u8]>
     ensures { option_copied result ≡ message.now.heard.to }
 {
     if is_request(message.message.start()) {
-        return first_of(message.message.lines(), b"To");
+        return message.message.first(b"To");
     }
     None
 }

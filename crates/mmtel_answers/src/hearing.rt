@@ -6,7 +6,7 @@ ghost use Rattle.mmtel_answers.specs.Said.{number_of, phrase_in, status_of, tag_
 ghost use Rattle.mmtel_types.specs.declared.sides.Side.TheVariants.{Callee};
 
 use mmtel_leg::{Remote, number_in};
-use mmtel_message::{Msg, Start, first_of};
+use mmtel_message::{Msg, Start};
 use mmtel_scan::{NoMemory, number_up_to};
 use mmtel_types::{Addr, Peer, Side};
 use std::alloc::Global;
@@ -57,7 +57,7 @@ pub fn phrase_in(start: &Start) -> &[u8]
 pub fn hops_left(message: &Hearing) -> u8
     ensures { result ≡ hops_left message.now.heard.hops }
 {
-    match first_of(message.message.lines(), b"Max-Forwards") {
+    match message.message.first(b"Max-Forwards") {
         None => 69,
         Some(value) => match number_up_to(255, value) {
             None => 69,
@@ -71,7 +71,7 @@ pub fn hops_left(message: &Hearing) -> u8
 pub fn number_of(message: &Hearing) -> Option<u32>
     ensures number { result ≡ number_of message.now }
 {
-    number_in(message.message.lines())
+    number_in(&message.message)
 }
 
 /// What the callee says of itself in a response (RFC 3261 §12.1.2).

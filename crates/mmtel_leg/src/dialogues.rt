@@ -182,11 +182,10 @@ impl Dialogue {
     ) -> Result<Dialogue, NoMemory>
         ensures taken { IfOk result (λ d. d ≡ taken peer invite.now.lines tag) }
     {
-        let lines = invite.lines();
-        let call_id = field(alloc, b"Call-ID", lines)?;
-        let to = field(alloc, b"To", lines)?;
+        let call_id = field(alloc, b"Call-ID", invite)?;
+        let to = field(alloc, b"To", invite)?;
         let local = tagged(alloc, to, tag.bytes())?;
-        let remote = field(alloc, b"From", lines)?;
+        let remote = field(alloc, b"From", invite)?;
         Ok(Dialogue {
             side: Side::Caller,
             peer,
@@ -198,7 +197,7 @@ impl Dialogue {
             target: Text::new(),
             routes: List::new(),
             own: 0,
-            last: number_in(lines),
+            last: number_in(invite),
             invited: None,
         })
     }
@@ -224,13 +223,12 @@ impl Dialogue {
     pub fn of_callee(alloc: Global, peer: Peer, invite: &Msg) -> Result<Dialogue, NoMemory>
         ensures started { IfOk result (λ d. d ≡ started peer invite.now) }
     {
-        let lines = invite.lines();
-        let call_id = field(alloc, b"Call-ID", lines)?;
-        let local = field(alloc, b"From", lines)?;
-        let remote = field(alloc, b"To", lines)?;
-        let local_tag = tag_in(alloc, b"From", lines)?;
+        let call_id = field(alloc, b"Call-ID", invite)?;
+        let local = field(alloc, b"From", invite)?;
+        let remote = field(alloc, b"To", invite)?;
+        let local_tag = tag_in(alloc, b"From", invite)?;
         let target = Text::of(alloc, request_uri(invite.start()))?;
-        let number = number_in(lines);
+        let number = number_in(invite);
         Ok(Dialogue {
             side: Side::Callee,
             peer,
@@ -300,7 +298,7 @@ impl Dialogue {
         ensures heard { OnOk result (self.new ≡ after_hearing self.old request.now) }
         ensures refused { OnErr result (self.new ≡ self.old) }
     {
-        let number = number_in(request.lines());
+        let number = number_in(request);
         let invite = is_method(b"INVITE", request.start());
         answer(number, self.last, invite, busy)?;
         self.last = last_after(number, self.last);

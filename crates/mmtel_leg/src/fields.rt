@@ -5,9 +5,9 @@ ghost use Rattle.mmtel_trust.specs.Digest.{tag_of};
 ghost use Rattle.mmtel_leg.specs.Remotes.{field, tag_in};
 ghost use Rattle.mmtel_leg.specs.Dialogues.{number_at, number_in, request_uri};
 
-use mmtel_lex::{LexFault, read_name_addr};
-use mmtel_message::{Line, Start, first_of, param_value};
-use mmtel_scan::{Class, NoMemory, Text, number_up_to, split_run};
+use mmtel_lex::name_addr_ref;
+use mmtel_message::{Msg, Start, cseq_ref};
+use mmtel_scan::{NoMemory, Text};
 use std::alloc::Global;
 
 /// These bytes, or none.
@@ -19,10 +19,10 @@ fn copied(alloc: Global, value: Option<&[u8]>) -> Result<Text, NoMemory>
 
 /// The value of the first line of the name, or no bytes.
 #[tactic(auto, unfolding(crate::specs::Remotes::field))]
-pub fn field(alloc: Global, name: &[u8], lines: &[Line]) -> Result<Text, NoMemory>
-    ensures { IfOk result (λ t. t ≡ field name.now lines.now) }
+pub fn field(alloc: Global, name: &[u8], message: &Msg) -> Result<Text, NoMemory>
+    ensures { IfOk result (λ t. t ≡ field name.now message.now.lines) }
 {
-    copied(alloc, first_of(lines, name))
+    copied(alloc, message.first(name))
 }
 
 /// The tag of a From or To value (RFC 3261 §19.3), or no bytes.
@@ -31,53 +31,38 @@ fn tag_of(alloc: Global, value: Option<&[u8]>) -> Result<Text, NoMemory>
 {
     match value {
         None => Ok(Text::new()),
-        Some(value) => match read_name_addr(alloc, value) {
-            Ok(name) => copied(alloc, param_value(name.params.items(), b"tag")),
-            Err(LexFault::Malformed) => Ok(Text::new()),
-            Err(LexFault::NoMemory) => Err(NoMemory),
+        Some(value) => match name_addr_ref(value) {
+            None => Ok(Text::new()),
+            Some(name) => copied(alloc, name.params.value(b"tag")),
         },
     }
 }
 
 /// The tag of the first line of the name, or no bytes.
 #[tactic(auto, unfolding(crate::specs::Remotes::tag_in))]
-pub fn tag_in(alloc: Global, name: &[u8], lines: &[Line]) -> Result<Text, NoMemory>
-    ensures { IfOk result (λ t. t ≡ tag_in name.now lines.now) }
+pub fn tag_in(alloc: Global, name: &[u8], message: &Msg) -> Result<Text, NoMemory>
+    ensures { IfOk result (λ t. t ≡ tag_in name.now message.now.lines) }
 {
-    tag_of(alloc, first_of(lines, name))
+    tag_of(alloc, message.first(name))
 }
 
-/// The number of a CSeq value (RFC 3261 §20.16), read without memory.
-#[tactic(auto, unfolding(crate::specs::Dialogues::number_at, mmtel_message::specs::Fields::cseq_at, mmtel_lex::specs::Reading::token_at))]
+/// The number of a CSeq value (RFC 3261 §20.16).
+#[tactic(auto, unfolding(crate::specs::Dialogues::number_at))]
 fn number_at(bytes: &[u8]) -> Option<u32>
     ensures { result ≡ number_at bytes.now }
 {
-    let (digits, rest) = split_run(Class::Digit, bytes);
-    match number_up_to(2147483647, digits) {
+    match cseq_ref(bytes) {
         None => None,
-        Some(number) => {
-            let (blanks, rest) = split_run(Class::Blank, rest);
-            if blanks.is_empty() {
-                return None;
-            }
-            let (method, rest) = split_run(Class::Token, rest);
-            if method.is_empty() {
-                return None;
-            }
-            match rest {
-                [] => Some(number as u32),
-                _ => None,
-            }
-        }
+        Some(cseq) => Some(cseq.number()),
     }
 }
 
 /// The number in CSeq (RFC 3261 §20.16), where that can be read.
 #[tactic(auto, unfolding(crate::specs::Dialogues::number_in))]
-pub fn number_in(lines: &[Line]) -> Option<u32>
-    ensures number { result ≡ number_in lines.now }
+pub fn number_in(message: &Msg) -> Option<u32>
+    ensures number { result ≡ number_in message.now.lines }
 {
-    match first_of(lines, b"CSeq") {
+    match message.first(b"CSeq") {
         None => None,
         Some(value) => number_at(value),
     }

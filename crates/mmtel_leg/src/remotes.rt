@@ -4,7 +4,7 @@ ghost use Rattle.mmtel_leg.specs.Remotes.{contact_uri, field_of, first_uri, in_o
 ghost use Rattle.mmtel_lex.specs.Reading.{name_addr_of};
 
 use crate::fields::tag_in;
-use mmtel_lex::{LexFault, NameAddr, read_name_addr};
+use mmtel_lex::name_addr_ref;
 use mmtel_message::Msg;
 use mmtel_scan::{List, NoMemory, Text};
 use mmtel_types::Side;
@@ -35,17 +35,9 @@ fn field_of(side: Side) -> &'static [u8]
 fn uri_named(alloc: Global, value: &[u8]) -> Result<Text, NoMemory>
     ensures { IfOk result (λ t. t ≡ uri_named (name_addr_of value.now)) }
 {
-    match read_name_addr(alloc, value) {
-        Ok(name) => {
-            let NameAddr {
-                display: _,
-                uri,
-                params: _,
-            } = name;
-            Ok(uri)
-        }
-        Err(LexFault::Malformed) => Ok(Text::new()),
-        Err(LexFault::NoMemory) => Err(NoMemory),
+    match name_addr_ref(value) {
+        None => Ok(Text::new()),
+        Some(name) => Text::of(alloc, name.uri),
     }
 }
 
@@ -107,7 +99,7 @@ impl Remote {
     pub fn read(alloc: Global, message: &Msg, side: Side) -> Result<Remote, NoMemory>
         ensures remote { IfOk result (λ remote. remote ≡ remote_of side message.now.lines) }
     {
-        let tag = tag_in(alloc, field_of(side), message.lines())?;
+        let tag = tag_in(alloc, field_of(side), message)?;
         let target = contact_uri(alloc, message)?;
         let routes = route_set(alloc, side, message)?;
         Ok(Remote {

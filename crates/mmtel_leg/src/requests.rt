@@ -2,13 +2,13 @@
 ghost use Rattle.std.specs.Prelude.{◌≡◌, ◌++◌, IfOk, OnErr, OnOk, codes, decimal, map};
 ghost use Rattle.std.specs.Option.{unwrap_or};
 ghost use Rattle.mmtel_message.specs.Addresses.{contact_text, via_text};
-ghost use Rattle.mmtel_message.specs.Message.{line};
+ghost use Rattle.mmtel_message.specs.Message.{has_line, line};
 ghost use Rattle.mmtel_leg.specs.Dialogues.{after_request};
 ghost use Rattle.mmtel_leg.specs.Requests.{ack_of, contact_lines, content_lines, cseq_text, dialog_lines, is_contacting, numbered, request_of, route_line, routing_lines, to_text};
 
 use crate::dialogues::Dialogue;
 use mmtel_message::{
-    Line, Msg, Start, add_bytes, add_decimal, add_line, add_passed, contact_text, has_line, tagged,
+    Line, Msg, Start, add_bytes, add_decimal, add_line, add_passed, contact_text, is_line, tagged,
     via_text,
 };
 use mmtel_scan::{List, NoMemory, Text, add_number};
@@ -154,6 +154,13 @@ fn is_contacting(method: &[u8]) -> bool
     ensures { result ≡ is_contacting method.now }
 {
     method == b"INVITE".as_slice() || method == b"NOTIFY".as_slice()
+}
+
+/// Whether one of the lines has the name.
+fn has_line(name: &[u8], lines: &[Line]) -> bool
+    ensures { result ≡ has_line name.now lines.now }
+{
+    lines.iter().any(|line| is_line(line, name))
 }
 
 /// Adds Contact, where the server writes it.

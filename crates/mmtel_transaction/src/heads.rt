@@ -1,9 +1,9 @@
 //! What the transactions read of a message.
-ghost use Rattle.std.specs.Prelude.{◌≡◌, IfOk, None, Some};
-ghost use Rattle.mmtel_transaction.specs.Heads.{code_of, head_of, head_with, is_ack, is_cancel, is_invite, is_same_call, method_of, param_text};
+ghost use Rattle.std.specs.Prelude.{◌≡◌, [], IfOk, None, Some};
+ghost use Rattle.std.specs.Option.{option_copied, unwrap_or};
+ghost use Rattle.mmtel_transaction.specs.Heads.{code_of, head_of, head_with, is_ack, is_cancel, is_invite, is_same_call, method_of};
 
-use mmtel_lex::{LexFault, Param};
-use mmtel_message::{Five, Msg, Start, is_request, param_value, read_five};
+use mmtel_message::{FiveRef, Msg, Start, five_ref, is_request};
 use mmtel_scan::{NoMemory, Text};
 use std::alloc::Global;
 
@@ -41,11 +41,11 @@ impl Drop for Head {
     }
 }
 
-/// The value of a parameter, no bytes where there is none.
-fn param_text(alloc: Global, params: &[Param], name: &[u8]) -> Result<Text, NoMemory>
-    ensures { IfOk result (λ text. text ≡ param_text name.now params.now) }
+/// A copy of the value of a parameter, no bytes where there is none.
+fn or_empty(alloc: Global, value: Option<&[u8]>) -> Result<Text, NoMemory>
+    ensures { IfOk result (λ text. text ≡ unwrap_or (option_copied value.entry) []) }
 {
-    match param_value(params, name) {
+    match value {
         Some(value) => Text::of(alloc, value),
         None => Ok(Text::new()),
     }
@@ -89,40 +89,38 @@ fn head_without(alloc: Global, start: &Start) -> Result<Head, NoMemory>
 }
 
 /// What is read of a message with these five fields.
-fn head_with(alloc: Global, start: &Start, five: &Five) -> Result<Head, NoMemory>
+fn head_with(alloc: Global, start: &Start, five: &FiveRef<'_>) -> Result<Head, NoMemory>
     ensures { IfOk result (λ head. head ≡ head_with start.now (Some five.now)) }
 {
     Ok(Head {
         is_request: is_request(start),
         status: code_of(start),
-        method: method_of(alloc, start, five.cseq.method.bytes())?,
-        branch: param_text(alloc, five.via.params.items(), b"branch")?,
-        sent_by: Text::of(alloc, five.via.sent_by.bytes())?,
-        from_tag: param_text(alloc, five.from.params.items(), b"tag")?,
-        to_tag: param_text(alloc, five.to.params.items(), b"tag")?,
-        call_id: Text::of(alloc, five.call_id.bytes())?,
-        number: five.cseq.number,
+        method: method_of(alloc, start, five.cseq().method())?,
+        branch: or_empty(alloc, five.via().param(b"branch"))?,
+        sent_by: Text::of(alloc, five.via().sent_by())?,
+        from_tag: or_empty(alloc, five.from().param(b"tag"))?,
+        to_tag: or_empty(alloc, five.to().param(b"tag"))?,
+        call_id: Text::of(alloc, five.call_id())?,
+        number: five.cseq().number(),
     })
 }
 
-/// Lets the five fields go: one call, in place of one for each field at each exit.
-fn let_go(five: Five) {
-    let Five {
-        via: _,
-        from: _,
-        to: _,
-        call_id: _,
-        cseq: _,
-    } = five;
-}
-
-/// What is read of a message with these five fields, which are let go.
-fn head_from(alloc: Global, start: &Start, five: Five) -> Result<Head, NoMemory>
-    ensures { IfOk result (λ head. head ≡ head_with start.now (Some five)) }
+/// The status and the To tag of an answer, and nothing else of its head.
+///
+/// # Errors
+///
+/// Want of memory alone.
+#[tactic(auto, unfolding(crate::specs::Heads::head_of))]
+pub fn status_and_tag(alloc: Global, m: &Msg) -> Result<(u16, Text), NoMemory>
+    ensures { IfOk result (λ said. said ≡ ((head_of m.now).status, (head_of m.now).to_tag)) }
 {
-    let head = head_with(alloc, start, &five);
-    let_go(five);
-    head
+    match five_ref(&m.lines()) {
+        None => Ok((code_of(m.start()), Text::new())),
+        Some(five) => {
+            let tag = or_empty(alloc, five.to().param(b"tag"))?;
+            Ok((code_of(m.start()), tag))
+        }
+    }
 }
 
 impl Head {
@@ -135,29 +133,10 @@ impl Head {
     pub fn of(alloc: Global, m: &Msg) -> Result<Head, NoMemory>
         ensures { IfOk result (λ head. head ≡ head_of m.now) }
     {
-        match read_five(alloc, m.lines()) {
-            Ok(five) => head_from(alloc, m.start(), five),
-            Err(LexFault::Malformed) => head_without(alloc, m.start()),
-            Err(LexFault::NoMemory) => Err(NoMemory),
+        match five_ref(&m.lines()) {
+            None => head_without(alloc, m.start()),
+            Some(five) => head_with(alloc, m.start(), &five),
         }
-    }
-
-    /// The status and the To tag of an answer.
-    pub fn status_and_tag(self) -> (u16, Text)
-        ensures { result ≡ (self.status, self.to_tag) }
-    {
-        let Head {
-            is_request: _,
-            status,
-            method: _,
-            branch: _,
-            sent_by: _,
-            from_tag: _,
-            to_tag,
-            call_id: _,
-            number: _,
-        } = self;
-        (status, to_tag)
     }
 
     /// Whether the method is INVITE.

@@ -10,7 +10,7 @@ ghost use Rattle.mmtel_transaction.specs.Table.{HearsAs};
 ghost use Rattle.mmtel_transaction.specs.declared.parts.Part.TheVariants.{Acked, AckOf2xx, Answer, Fresh, Repeat, Same, Stray};
 
 use crate::entries::{Change, asked_entry, heard_entry, reply_change};
-use crate::heads::Head;
+use crate::heads::{Head, status_and_tag};
 use crate::parts::Part;
 use crate::table::{
     Entries, cancelled_key, give_key, next_at, peer_at, same_key, say_due, take_part, twin_of,
@@ -101,9 +101,9 @@ impl Transactions {
         ensures done { OnOk result ((h : List Done) → Stands self.old h → Stands self.new (DidReply key.0 m.now now ∷ h)) }
         ensures err { OnErr result ((h : List Done) → Stands self.old h → Stands self.new h) }
     {
-        let head = Head::of(alloc, m)?;
+        let said = status_and_tag(alloc, m)?;
         let text = m.text(alloc)?;
-        let change = reply_change(self.step, self.offers, head, text, now.ms());
+        let change = reply_change(self.step, self.offers, said, text, now.ms());
         self.entries.settle(key.0, change, steps);
         self.offers = self.offers.saturating_add(1);
         Ok(())

@@ -8,6 +8,7 @@ pub mod HashLaws
 pub mod HeardLaws
 pub mod Indexing
 pub mod Kept
+mod LineWalks
 pub mod Lookups
 pub mod Masked
 pub mod MaskLaws

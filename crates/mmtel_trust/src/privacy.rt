@@ -11,7 +11,7 @@ ghost use Rattle.mmtel_trust.specs.Written.{kept_word};
 
 use crate::texts::is;
 use mmtel_lex::{NoMemory, Text};
-use mmtel_message::{Line, Msg, is_line};
+use mmtel_message::{Lines, Msg, has_line, is_named};
 use mmtel_scan::{Class, part, trim};
 use mmtel_types::PrivacySet;
 use std::alloc::Global;
@@ -42,31 +42,56 @@ fn value_has(value: &[u8], word: &[u8]) -> bool
     false
 }
 
-fn line_has(line: &Line, word: &[u8]) -> bool
-    ensures { result ≡ list_any (λ v. str_eq_ignore_ascii_case v word.now) (line_values Words (codes "Privacy") line.now) }
+fn line_has(name: &[u8], value: &[u8], word: &[u8]) -> bool
+    ensures { result ≡ list_any (λ v. str_eq_ignore_ascii_case v word.now) (line_values Words (codes "Privacy") (name.now, value.now)) }
 {
-    if !is_line(line, b"Privacy") {
+    if !is_named(name, b"Privacy") {
         return false;
     }
-    value_has(line.1.bytes(), word)
+    value_has(value, word)
 }
 
-fn any_has(lines: &[Line], word: &[u8]) -> bool
-    ensures { result ≡ list_any (λ l. list_any (λ v. str_eq_ignore_ascii_case v word.now) (line_values Words (codes "Privacy") l)) lines.now }
+fn any_has(lines: &Lines<'_>, word: &[u8]) -> bool
+    ensures { result ≡
+        list_any (λ l. list_any (λ v. str_eq_ignore_ascii_case v word.now) (line_values Words (codes "Privacy") l)) lines.now.values }
 {
-    lines.iter().any(|line| line_has(line, word))
+    for i in 0..lines.len() {
+        let (name, value) = lines.at(i);
+        if line_has(name, value, word) {
+            return true;
+        }
+    }
+    false
 }
 
 /// Whether the word is among those of all Privacy lines.
-fn has_word(lines: &[Line], word: &[u8]) -> bool
-    ensures { result ≡ has_word word.now lines.now }
+fn has_word(lines: &Lines<'_>, word: &[u8]) -> bool
+    ensures { result ≡ has_word word.now lines.now.values }
 {
     any_has(lines, word)
 }
 
-fn wants_of(lines: &[Line]) -> PrivacySet
-    ensures { result ≡ wants lines.now }
+/// Which words there are where there is no Privacy line.
+fn wants_nothing() -> PrivacySet
+    ensures { result ≡ wants [] }
 {
+    PrivacySet {
+        header: false,
+        session: false,
+        user: false,
+        none: false,
+        critical: false,
+        id: false,
+        history: false,
+    }
+}
+
+fn wants_of(lines: &Lines<'_>) -> PrivacySet
+    ensures { result ≡ wants lines.now.values }
+{
+    if !has_line(b"Privacy", lines) {
+        return wants_nothing();
+    }
     PrivacySet {
         header: has_word(lines, b"header"),
         session: has_word(lines, b"session"),
@@ -82,7 +107,7 @@ fn wants_of(lines: &[Line]) -> PrivacySet
 pub fn wants(m: &Msg) -> PrivacySet
     ensures words { result ≡ wants m.now.lines }
 {
-    wants_of(m.lines())
+    wants_of(&m.lines())
 }
 
 fn add_word(alloc: Global, out: &mut Text, word: &[u8]) -> Result<(), NoMemory>
@@ -107,26 +132,27 @@ fn add_value(alloc: Global, out: &mut Text, value: &[u8]) -> Result<(), NoMemory
     Ok(())
 }
 
-fn add_line(alloc: Global, out: &mut Text, line: &Line) -> Result<(), NoMemory>
-    ensures { OnOk result (out.new ≡ out.old ++ flat_map kept_word (line_values Words (codes "Privacy") line.now)) }
+fn add_line(alloc: Global, out: &mut Text, name: &[u8], value: &[u8]) -> Result<(), NoMemory>
+    ensures { OnOk result (out.new ≡ out.old ++ flat_map kept_word (line_values Words (codes "Privacy") (name.now, value.now))) }
 {
-    if !is_line(line, b"Privacy") {
+    if !is_named(name, b"Privacy") {
         return Ok(());
     }
-    add_value(alloc, out, line.1.bytes())
+    add_value(alloc, out, value)
 }
 
-fn add_words(alloc: Global, out: &mut Text, lines: &[Line]) -> Result<(), NoMemory>
-    ensures { OnOk result (out.new ≡ out.old ++ flat_map kept_word (words lines.now)) }
+fn add_words(alloc: Global, out: &mut Text, lines: &Lines<'_>) -> Result<(), NoMemory>
+    ensures { OnOk result (out.new ≡ out.old ++ flat_map kept_word (words lines.now.values)) }
 {
-    for line in lines {
-        add_line(alloc, out, line)?;
+    for i in 0..lines.len() {
+        let (name, value) = lines.at(i);
+        add_line(alloc, out, name, value)?;
     }
     Ok(())
 }
 
-fn add_id(alloc: Global, out: &mut Text, lines: &[Line]) -> Result<(), NoMemory>
-    ensures { OnOk result (out.new ≡ out.old ++ (if has_word (codes "id") lines.now then [] else codes ";id")) }
+fn add_id(alloc: Global, out: &mut Text, lines: &Lines<'_>) -> Result<(), NoMemory>
+    ensures { OnOk result (out.new ≡ out.old ++ (if has_word (codes "id") lines.now.values then [] else codes ";id")) }
 {
     if has_word(lines, b"id") {
         return Ok(());
@@ -136,8 +162,8 @@ fn add_id(alloc: Global, out: &mut Text, lines: &[Line]) -> Result<(), NoMemory>
 
 /// The words that are left, and `id`, each behind its `;`.
 #[tactic(auto, using(crate::proofs::WordLaws::behind_text))]
-fn separated(alloc: Global, lines: &[Line]) -> Result<Text, NoMemory>
-    ensures { IfOk result (λ t. drop 1 t ≡ restricted_text lines.now) }
+fn separated(alloc: Global, lines: &Lines<'_>) -> Result<Text, NoMemory>
+    ensures { IfOk result (λ t. drop 1 t ≡ restricted_text lines.now.values) }
 {
     let mut out = Text::new();
     add_words(alloc, &mut out, lines)?;
@@ -155,9 +181,11 @@ fn without_first(alloc: Global, bytes: &[u8]) -> Result<Text, NoMemory>
 }
 
 /// What Privacy says of a restricted call towards a trusted peer: the words without `none`, and with `id`.
-pub fn restricted_text(alloc: Global, lines: &[Line]) -> Result<Text, NoMemory>
-    ensures { IfOk result (λ t. t ≡ restricted_text lines.now) }
+pub fn restricted_text(alloc: Global, lines: &Lines<'_>) -> Result<Text, NoMemory>
+    ensures { IfOk result (λ t. t ≡ restricted_text lines.now.values) }
 {
     let out = separated(alloc, lines)?;
-    without_first(alloc, out.bytes())
+    let text = without_first(alloc, out.bytes());
+    drop(out);
+    text
 }

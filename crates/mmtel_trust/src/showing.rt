@@ -1,6 +1,5 @@
 //! What is passed on of a message that is relayed, and the From of a message that is made of it.
-ghost use Rattle.std.specs.Prelude.{◌≡◌, ◌++◌, IfOk, OnOk, codes, List, [], false, map};
-ghost use Rattle.std.specs.Option.{option_copied};
+ghost use Rattle.std.specs.Prelude.{◌≡◌, ◌∷◌, ◌++◌, IfOk, OnOk, codes, List, [], false, map};
 ghost use Rattle.mmtel_identity.specs.TrustDomain.{shows_identity, unless_restricted};
 ghost use Rattle.mmtel_message.specs.Message.{first_value, named};
 ghost use Rattle.mmtel_history.specs.HistoryInfo.{masked_list};
@@ -14,7 +13,7 @@ use crate::reading::{display_and_uri, name_addr_in};
 use mmtel_history::{ANONYMOUS, Entry, History, write_entry};
 use mmtel_identity::{shows_identity, unless_restricted};
 use mmtel_lex::{List, NameAddr, NoMemory, Text, print_name_addr};
-use mmtel_message::{Line, Msg, Start, add_bytes, add_line, add_named, first_of};
+use mmtel_message::{Line, Lines, Msg, Start, add_bytes, add_line, add_named, first_of};
 use std::alloc::Global;
 
 /// From whom a message came, and what of its sender may be shown.
@@ -42,9 +41,9 @@ fn add_asserted(
     out: &mut List<Line>,
     f: Facing,
     to_trusted: bool,
-    lines: &[Line],
+    lines: &Lines<'_>,
 ) -> Result<(), NoMemory>
-    ensures { OnOk result (out.new ≡ out.old ++ asserted_lines f to_trusted lines.now) }
+    ensures { OnOk result (out.new ≡ out.old ++ asserted_lines f to_trusted lines.now.values) }
 {
     if is_asserted(f, to_trusted) {
         return add_named(alloc, out, b"P-Asserted-Identity", lines);
@@ -58,9 +57,9 @@ fn add_privacy(
     out: &mut List<Line>,
     f: Facing,
     to_trusted: bool,
-    lines: &[Line],
+    lines: &Lines<'_>,
 ) -> Result<(), NoMemory>
-    ensures { OnOk result (out.new ≡ out.old ++ privacy_lines f to_trusted lines.now) }
+    ensures { OnOk result (out.new ≡ out.old ++ privacy_lines f to_trusted lines.now.values) }
 {
     if !to_trusted {
         return Ok(());
@@ -93,26 +92,42 @@ fn passes(f: Facing, to_trusted: bool, kind: HeaderKind, value: &[u8]) -> bool
 }
 
 #[tactic(auto, unfolding(crate::specs::Passed::is_shown))]
-fn is_shown(f: Facing, to_trusted: bool, line: &Line) -> bool
-    ensures { result ≡ is_shown f to_trusted line.now }
+fn is_shown(f: Facing, to_trusted: bool, name: &[u8], value: &[u8]) -> bool
+    ensures { result ≡ is_shown f to_trusted (name.now, value.now) }
 {
-    passes(f, to_trusted, kind_of(line.0.bytes()), line.1.bytes())
+    passes(f, to_trusted, kind_of(name), value)
 }
 
+/// Adds the line of this name and value, where it is among the others that are passed.
 #[tactic(auto, unfolding(mmtel_message::specs::Message::line))]
+fn add_other(
+    alloc: Global,
+    out: &mut List<Line>,
+    f: Facing,
+    to_trusted: bool,
+    name: &[u8],
+    value: &[u8],
+) -> Result<(), NoMemory>
+    ensures { OnOk result (out.new ≡ out.old ++ other_lines f to_trusted ((name.now, value.now) ∷ [])) }
+{
+    if !is_shown(f, to_trusted, name, value) {
+        return Ok(());
+    }
+    add_bytes(alloc, out, name, value)
+}
+
 fn add_others(
     alloc: Global,
     out: &mut List<Line>,
     f: Facing,
     to_trusted: bool,
-    lines: &[Line],
+    lines: &Lines<'_>,
 ) -> Result<(), NoMemory>
-    ensures { OnOk result (out.new ≡ out.old ++ other_lines f to_trusted lines.now) }
+    ensures { OnOk result (out.new ≡ out.old ++ other_lines f to_trusted lines.now.values) }
 {
-    for line in lines {
-        if is_shown(f, to_trusted, line) {
-            add_bytes(alloc, out, line.0.bytes(), line.1.bytes())?;
-        }
+    for i in 0..lines.len() {
+        let (name, value) = lines.at(i);
+        add_other(alloc, out, f, to_trusted, name, value)?;
     }
     Ok(())
 }
@@ -203,11 +218,12 @@ fn shown_of(
 ) -> Result<List<Line>, NoMemory>
     ensures { IfOk result (λ ls. ls ≡ shown_lines f to_trusted h.now m.now.start m.now.lines) }
 {
+    let lines = m.lines();
     let mut out = List::new();
-    add_asserted(alloc, &mut out, f, to_trusted, m.lines())?;
-    add_privacy(alloc, &mut out, f, to_trusted, m.lines())?;
+    add_asserted(alloc, &mut out, f, to_trusted, &lines)?;
+    add_privacy(alloc, &mut out, f, to_trusted, &lines)?;
     add_row(alloc, &mut out, f, to_trusted, h, m.start())?;
-    add_others(alloc, &mut out, f, to_trusted, m.lines())?;
+    add_others(alloc, &mut out, f, to_trusted, &lines)?;
     Ok(out)
 }
 
@@ -259,8 +275,12 @@ fn named_text(alloc: Global, name: Option<NameAddr>) -> Result<Text, NoMemory>
     }
 }
 
-fn from_name(alloc: Global, restricted: bool, lines: &[Line]) -> Result<Option<NameAddr>, NoMemory>
-    ensures { IfOk result (λ n. n ≡ unless_restricted restricted (read_by (first_value (codes "From") lines.now))) }
+fn from_name(
+    alloc: Global,
+    restricted: bool,
+    lines: &Lines<'_>,
+) -> Result<Option<NameAddr>, NoMemory>
+    ensures { IfOk result (λ n. n ≡ unless_restricted restricted (read_by (first_value (codes "From") lines.now.values))) }
 {
     name_addr_in(
         alloc,
@@ -277,7 +297,7 @@ fn from_name(alloc: Global, restricted: bool, lines: &[Line]) -> Result<Option<N
 pub fn attempt_from(alloc: Global, m: &Msg, restricted: bool, tag: &[u8]) -> Result<Text, NoMemory>
     ensures text { IfOk result (λ t. t ≡ attempt_from restricted tag.now m.now.lines) }
 {
-    let name = from_name(alloc, restricted, m.lines())?;
+    let name = from_name(alloc, restricted, &m.lines())?;
     let mut out = named_text(alloc, name)?;
     out.push(alloc, b";tag=")?;
     out.push(alloc, tag)?;

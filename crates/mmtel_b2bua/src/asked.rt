@@ -1,9 +1,8 @@
 //! What is asked of the calls: whose dialog a request names, whose INVITE opened a server transaction, and who a side is.
 ghost use Rattle.std.specs.Prelude.{◌≡◌, Some, position};
 ghost use Rattle.std.specs.Option.{option_map};
-ghost use Rattle.mmtel_b2bua.specs.Lending.{entry_of};
 ghost use Rattle.mmtel_b2bua.specs.Names.{first_side, has_side, is_key, named_left, named_offered, named_stood, party, party_left, party_of, party_offered};
-ghost use Rattle.mmtel_b2bua.specs.Names.{party_stood, side_asking, side_by, side_named, side_that_asked, sided};
+ghost use Rattle.mmtel_b2bua.specs.Names.{party_stood, side_asking, side_named, side_that_asked, sided};
 
 use crate::busy::account_of;
 use crate::call_table::CallTable;

@@ -109,7 +109,7 @@ fn kept_sheet(sheet: &Option<SharedSheet>) -> Option<&Sheet>
 fn routes_of(alloc: Global, setting: &Setting<'_>, invite: &Hearing) -> Result<List<Text>, NoMemory>
     ensures { IfOk result (λ routes. routes ≡ kept_routes setting.now.sip invite.now.heard.routes) }
 {
-    let values = line_texts(alloc, invite.message.lines(), b"Route")?;
+    let values = line_texts(alloc, &invite.message.lines(), b"Route")?;
     kept_routes(alloc, setting.sip, values)
 }
 
@@ -185,7 +185,7 @@ fn received_list(alloc: Global, invite: &Hearing) -> Result<History, NoMemory>
     ensures list { IfOk result (λ h. h ≡ received_list invite.now) }
     ensures few { IfOk result (λ h. length h ≤ 32) }
 {
-    let values = line_texts(alloc, invite.message.lines(), b"History-Info")?;
+    let values = line_texts(alloc, &invite.message.lines(), b"History-Info")?;
     let read = read_values(alloc, &values);
     drop(values);
     match read {

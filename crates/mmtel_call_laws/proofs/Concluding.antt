@@ -6,7 +6,7 @@ use Rattle.std.specs.Prelude.{Option, Some, None, count_by, cond, option_to_list
 use Rattle.mmtel_charging.specs.Meters.{Noted}
 use Rattle.mmtel_charging.specs.declared.rows.Row.{Row}
 use Rattle.mmtel_precedence.specs.Calls as precedence
-use Rattle.mmtel_precedence.specs.Calls.{Ended, Final, Reach, Standing, Target}
+use Rattle.mmtel_precedence.specs.Calls.{Final, Standing}
 use Rattle.mmtel_precedence.specs.Extension.{LaterEndingsExtend}
 use Rattle.mmtel_precedence.specs.Laws.{diversions_made}
 use Rattle.mmtel_precedence.specs.Moves as moves

@@ -24,7 +24,7 @@ use Rattle.mmtel_call_decisions.specs.Site.{Site}
 use Rattle.mmtel_call.specs.Closing.{Step, onward, over_offered}
 use Rattle.mmtel_call.specs.Diverting.{goes_on}
 use Rattle.mmtel_call.specs.Requests.{is_bye, says, unheard, unlisted}
-use Rattle.mmtel_call.specs.Ringing.{ack_time, next_success, answered, armed_in, cancelled_attempt, failed, given_up, heard_by, left, on_cancel, on_due, on_request, on_request_if, on_response, proceeding, silenced, timed_out, tried}
+use Rattle.mmtel_call.specs.Ringing.{ack_time, next_success, answered, armed_in, cancelled_attempt, failed, given_up, heard_by, left, on_due, on_request, on_request_if, on_response, proceeding, timed_out, tried}
 use Rattle.mmtel_call.specs.Sending.{relayed_to_caller, replied_to, told_caller}
 use Rattle.mmtel_call.specs.Table.{answer_to, silence_of, step}
 use Rattle.mmtel_call.specs.declared.calls.Call.{Call}
@@ -40,7 +40,7 @@ use Rattle.mmtel_sheet_values.specs.declared.values.Sheet.{Sheet}
 use Rattle.mmtel_transaction.specs.declared.words.Emit.{Emit}
 use Rattle.mmtel_transaction.specs.declared.words.Emit.TheVariants as emit
 use Rattle.std.proofs.Common.{◌+◌, sym}
-use Rattle.mmtel_call_laws.proofs.Signs.{Quiet, other-quiet, quiet-cancelled, quiet-emit, quiet-final-acked, quiet-if, quiet-provisional, quiet-reply, quiet-unheard, quiet-unlisted, shows-reply, signs-more}
+use Rattle.mmtel_call_laws.proofs.Signs.{Quiet, other-quiet, quiet-cancelled, quiet-emit, quiet-final-acked, quiet-if, quiet-provisional, quiet-reply, quiet-unheard, quiet-unlisted, signs-more}
 use Rattle.std.proofs.lemmas.List.{append-nil}
 use Rattle.mmtel_call_laws.specs.Endings.{end_by_answer, end_by_deadline, end_by_request, end_by_silence, end_of_attempt}
 use Rattle.mmtel_call_laws.proofs.Untouched.{Alike, Untouched, alike, cancelled-rows, if-rows, key-untouched, other-untouched, silent-untouched, unheard-rows, unlisted-rows}

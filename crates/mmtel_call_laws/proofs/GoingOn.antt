@@ -1,5 +1,5 @@
 -- What a call keeps from step to step.
-use Rattle.std.proofs.Common.{◌≡◌, ℕ, Bool, true, false, List, [], ◌++◌, refl, ap, sym, subst, ◌∙◌}
+use Rattle.std.proofs.Common.{◌≡◌, ℕ, true, false, List, ◌++◌, refl, ap, sym, subst, ◌∙◌}
 use Rattle.mmtel_charging.specs.Meters.{Noted}
 use Rattle.mmtel_charging.specs.declared.rows.Row.{Row}
 use Rattle.mmtel_desk.specs.declared.desks.Desk.{Desk}
@@ -26,7 +26,7 @@ use Rattle.mmtel_call.specs.declared.calls.Trial.{Trial}
 use Rattle.mmtel_call.specs.declared.signals.Signal.{Signal}
 use Rattle.mmtel_call_laws.specs.Charged.{last_part, origin_part, past_parts}
 use Rattle.mmtel_call_laws.specs.GoingOn as going
-use Rattle.mmtel_call_laws.specs.GoingOn.{CallsGoOn, HasLeft, Parts, StaysOver, StaysSame, ended_at, parts_begun, parts_in, parts_now, stands_in}
+use Rattle.mmtel_call_laws.specs.GoingOn.{CallsGoOn, HasLeft, Parts, StaysOver, StaysSame, parts_begun, parts_in, parts_now, stands_in}
 use Rattle.mmtel_call_laws.specs.Known.{known_after, known_as, last_record, outcome_after, stood_after}
 use Rattle.mmtel_call_laws.specs.Story.{Heard, Start, call_after, is_over, opening_in, over_at, rows_after}
 use Rattle.mmtel_call_laws.proofs.Agreeing.{Ends, Place, Rings, Talks}

@@ -6,7 +6,7 @@ use Rattle.mmtel_charging.specs.Meters.{Noted, row_of}
 use Rattle.mmtel_charging.specs.declared.rows.Kind.TheVariants.{Origin, Terminating, Diversion, Participant}
 use Rattle.mmtel_charging.specs.declared.rows.Kind.{Kind}
 use Rattle.mmtel_precedence.specs.Calls as precedence
-use Rattle.mmtel_precedence.specs.Calls.{Target, standing_after}
+use Rattle.mmtel_precedence.specs.Calls.{Target}
 use Rattle.mmtel_precedence.specs.Targets.{reach_of, served_at}
 use Rattle.mmtel_precedence.specs.Turns.{sheet_of}
 use Rattle.mmtel_types.specs.declared.numbers.Account.{Account}

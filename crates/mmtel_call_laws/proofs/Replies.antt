@@ -1,5 +1,5 @@
 -- Calls reply in the server transactions of their own requests.
-use Rattle.std.proofs.Common.{◌≡◌, true, ℕ, Bool, List}
+use Rattle.std.proofs.Common.{◌≡◌, true, ℕ, Bool}
 use Rattle.mmtel_call.specs.Closing.{Step}
 use Rattle.mmtel_call.specs.Lending.{lent_at, lent_in, put_back_in}
 use Rattle.mmtel_call.specs.declared.calls.Call.{Call}

@@ -8,10 +8,10 @@ use Rattle.mmtel_charging.specs.declared.rows.Row.{Row}
 use Rattle.mmtel_desk.specs.Desks.{drew}
 use Rattle.mmtel_desk.specs.declared.desks.Desk.{Desk}
 use Rattle.mmtel_precedence.specs.Calls as precedence
-use Rattle.mmtel_precedence.specs.Calls.{Ended, Final, NotOffered, Offer, Reach, Standing}
+use Rattle.mmtel_precedence.specs.Calls.{Ended, Final, Reach, Standing}
 use Rattle.mmtel_precedence.specs.Extension.{LaterEndingsExtend, with_later}
 use Rattle.mmtel_precedence.specs.Moves as moves
-use Rattle.mmtel_precedence.specs.Moves.{Kept, at_first, at_phase, first_phase, moves_enough}
+use Rattle.mmtel_precedence.specs.Moves.{Kept, at_first, first_phase}
 use Rattle.mmtel_precedence.specs.Opening.{refusal_at_opening, refusal_by}
 use Rattle.mmtel_precedence.specs.Turns.{EndingsAreMoves, TurnsAreMoves}
 use Rattle.mmtel_rules.specs.Circumstances.{Circumstances}

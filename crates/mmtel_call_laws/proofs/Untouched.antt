@@ -5,7 +5,7 @@ use Rattle.mmtel_answers.specs.Said.{Said, status_of}
 use Rattle.mmtel_charging.specs.declared.rows.Row.{Row}
 use Rattle.mmtel_desk.specs.Invitations.{is_cancellable, knows}
 use Rattle.mmtel_desk.specs.Loose as loose_ones
-use Rattle.mmtel_desk.specs.Loose.{ended_before, is_of, on_response, on_success, on_success_in, late_cancelled, told_late, with_invitation}
+use Rattle.mmtel_desk.specs.Loose.{ended_before, is_of, on_response, on_success_in, told_late, with_invitation}
 use Rattle.mmtel_desk.specs.Sending.{cancel_sent, cancelled}
 use Rattle.mmtel_desk.specs.declared.desks.Desk.{Desk}
 use Rattle.mmtel_desk.specs.declared.invitations.Invitation.{Invitation}

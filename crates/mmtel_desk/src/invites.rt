@@ -4,8 +4,7 @@ ghost use Rattle.std.specs.Option.{option_copied};
 ghost use Rattle.mmtel_desk.specs.Invites.{answers_invite, behind, branch_in, first_via, invite_answered, invite_silent};
 
 use mmtel_answers::Hearing;
-use mmtel_lex::LexFault;
-use mmtel_message::{Via, first_of, param_value, read_cseq, read_via};
+use mmtel_message::{ViaRef, cseq_ref, via_ref};
 use mmtel_scan::{NoMemory, Text, skip_text};
 use std::alloc::Global;
 
@@ -21,54 +20,45 @@ fn behind_cookie(branch: Option<&[u8]>) -> Option<&[u8]>
 
 /// The first Via of a message, where it can be read.
 #[tactic(auto, using(crate::proofs::FirstVia::via_read))]
-fn first_via(alloc: Global, m: &Hearing) -> Result<Option<Via>, NoMemory>
-    ensures { IfOk result (λ via. via ≡ first_via m.now.heard.vias) }
+fn first_via(m: &Hearing) -> Option<ViaRef<'_>>
+    ensures { result ≡ first_via m.now.heard.vias }
 {
-    match first_of(m.message.lines(), b"Via") {
-        None => Ok(None),
-        Some(value) => match read_via(alloc, value) {
-            Ok(via) => Ok(Some(via)),
-            Err(LexFault::Malformed) => Ok(None),
-            Err(LexFault::NoMemory) => Err(NoMemory),
-        },
+    match m.message.first(b"Via") {
+        None => None,
+        Some(value) => via_ref(value),
     }
 }
 
 /// The branch, behind its cookie, of the first Via of a response.
-fn branch_of(alloc: Global, m: &Hearing) -> Result<Option<Text>, NoMemory>
-    ensures { IfOk result (λ branch. branch ≡ branch_in m.now.heard.vias) }
+fn branch_of(m: &Hearing) -> Option<&[u8]>
+    ensures { option_copied result ≡ branch_in m.now.heard.vias }
 {
-    match first_via(alloc, m)? {
-        None => Ok(None),
-        Some(via) => match behind_cookie(param_value(via.params.items(), b"branch")) {
-            None => {
-                drop(via);
-                Ok(None)
-            }
-            Some(branch) => {
-                let branch = Text::of(alloc, branch);
-                drop(via);
-                Ok(Some(branch?))
-            }
-        },
+    match first_via(m) {
+        None => None,
+        Some(via) => behind_cookie(via.param(b"branch")),
     }
 }
 
 /// Whether a response answers an INVITE.
-fn is_of_invite(alloc: Global, m: &Hearing) -> Result<bool, NoMemory>
-    ensures { IfOk result (λ yes. yes ≡ answers_invite m.now.heard.cseq) }
+fn is_of_invite(m: &Hearing) -> bool
+    ensures { result ≡ answers_invite m.now.heard.cseq }
 {
-    match first_of(m.message.lines(), b"CSeq") {
-        None => Ok(false),
-        Some(value) => match read_cseq(alloc, value) {
-            Ok(cseq) => {
-                let yes = cseq.method.bytes() == b"INVITE".as_slice();
-                drop(cseq);
-                Ok(yes)
-            }
-            Err(LexFault::Malformed) => Ok(false),
-            Err(LexFault::NoMemory) => Err(NoMemory),
+    match m.message.first(b"CSeq") {
+        None => false,
+        Some(value) => match cseq_ref(value) {
+            None => false,
+            Some(cseq) => cseq.method() == b"INVITE".as_slice(),
         },
+    }
+}
+
+/// These bytes, where there are any.
+fn copied(alloc: Global, bytes: Option<&[u8]>) -> Result<Option<Text>, NoMemory>
+    ensures { IfOk result (λ text. text ≡ option_copied bytes.entry) }
+{
+    match bytes {
+        None => Ok(None),
+        Some(bytes) => Ok(Some(Text::of(alloc, bytes)?)),
     }
 }
 
@@ -81,8 +71,8 @@ fn is_of_invite(alloc: Global, m: &Hearing) -> Result<bool, NoMemory>
 pub fn invite_answered(alloc: Global, m: &Hearing) -> Result<Option<Text>, NoMemory>
     ensures { IfOk result (λ branch. branch ≡ invite_answered m.now) }
 {
-    if is_of_invite(alloc, m)? {
-        return branch_of(alloc, m);
+    if is_of_invite(m) {
+        return copied(alloc, branch_of(m));
     }
     Ok(None)
 }

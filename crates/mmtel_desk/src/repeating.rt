@@ -6,7 +6,7 @@ ghost use Rattle.mmtel_desk.specs.Sending.{cancel_sent, cancelled, final_acked};
 use crate::desks::Desk;
 use crate::invitations::{Invitation, is_cancellable};
 use mmtel_answers::{Hearing, cancel, final_ack};
-use mmtel_message::{Line, first_of};
+use mmtel_message::Msg;
 use mmtel_scan::{NoMemory, Text};
 use mmtel_transaction::{Emit, TKey};
 use mmtel_types::Addr;
@@ -14,10 +14,10 @@ use std::alloc::Global;
 
 /// The value of To, or no bytes.
 #[tactic(auto, unfolding(mmtel_leg::specs::Remotes::field))]
-fn to_value(alloc: Global, lines: &[Line]) -> Result<Text, NoMemory>
-    ensures { IfOk result (λ t. t ≡ field (codes "To") lines.now) }
+fn to_value(alloc: Global, message: &Msg) -> Result<Text, NoMemory>
+    ensures { IfOk result (λ t. t ≡ field (codes "To") message.now.lines) }
 {
-    match first_of(lines, b"To") {
+    match message.first(b"To") {
         None => Ok(Text::new()),
         Some(value) => Text::of(alloc, value),
     }
@@ -90,7 +90,7 @@ impl Desk {
         ensures done { OnOk result (self.new ≡ final_acked sip key invitation.now heard.now.heard self.old) }
         ensures refused { OnErr result (self.new ≡ self.old) }
     {
-        let to = to_value(alloc, heard.message.lines())?;
+        let to = to_value(alloc, &heard.message)?;
         let msg = final_ack(
             alloc,
             &invitation.dialogue,

@@ -11,7 +11,7 @@ use mmtel_answers::{
     relayed_answer, relayed_request,
 };
 use mmtel_leg::{Dialogue, LegOf, Standing};
-use mmtel_message::{Line, Msg};
+use mmtel_message::Line;
 use mmtel_scan::{List, NoMemory, Text};
 use mmtel_transaction::{Emit, TKey};
 use mmtel_types::Addr;

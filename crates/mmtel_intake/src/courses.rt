@@ -220,7 +220,7 @@ fn course_to(
     if is_last_hop(request) {
         return Ok(Course::Refuse(plainly(483)));
     }
-    let is_untagged = is_untagged(alloc, &request.message)?;
+    let is_untagged = is_untagged(&request.message);
     if !is_untagged && standing.named.is_none() {
         return Ok(Course::Refuse(plainly(481)));
     }

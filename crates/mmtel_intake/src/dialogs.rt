@@ -1,14 +1,12 @@
 //! The name of the dialog that a message names.
-ghost use Rattle.std.specs.Prelude.{◌≡◌, IfOk, codes};
+ghost use Rattle.std.specs.Prelude.{◌≡◌, IfOk};
 ghost use Rattle.std.specs.Option.{option_copied, option_map};
-ghost use Rattle.mmtel_lex.specs.Params.{param_value};
 ghost use Rattle.mmtel_trust.specs.Digest.{tag_of};
 ghost use Rattle.mmtel_run.specs.Calls.{dialog_name, name_by};
 ghost use Rattle.mmtel_intake.specs.Dialogs.{name_in};
 
 use mmtel_answers::Hearing;
-use mmtel_lex::{LexFault, Param, param_value, read_name_addr};
-use mmtel_message::first_of;
+use mmtel_lex::name_addr_ref;
 use mmtel_scan::{NoMemory, Text};
 use std::alloc::Global;
 
@@ -39,10 +37,9 @@ fn tag_of(alloc: Global, value: Option<&[u8]>) -> Result<Option<Text>, NoMemory>
 {
     match value {
         None => Ok(None),
-        Some(value) => match read_name_addr(alloc, value) {
-            Ok(name) => copied(alloc, param_value(name.params.items(), b"tag")),
-            Err(LexFault::Malformed) => Ok(None),
-            Err(LexFault::NoMemory) => Err(NoMemory),
+        Some(value) => match name_addr_ref(value) {
+            None => Ok(None),
+            Some(name) => copied(alloc, name.params.value(b"tag")),
         },
     }
 }
@@ -66,9 +63,8 @@ fn name_by(call_id: Option<Text>, local: Option<Text>, remote: Option<Text>) -> 
 pub fn dialog_name(alloc: Global, message: &Hearing) -> Result<Option<DialogName>, NoMemory>
     ensures name { IfOk result (λ name. option_map name_in name ≡ dialog_name message.now.heard) }
 {
-    let lines = message.message.lines();
-    let call_id = copied(alloc, first_of(lines, b"Call-ID"))?;
-    let local = tag_of(alloc, first_of(lines, b"To"))?;
-    let remote = tag_of(alloc, first_of(lines, b"From"))?;
+    let call_id = copied(alloc, message.message.first(b"Call-ID"))?;
+    let local = tag_of(alloc, message.message.first(b"To"))?;
+    let remote = tag_of(alloc, message.message.first(b"From"))?;
     Ok(name_by(call_id, local, remote))
 }

@@ -9,7 +9,7 @@ ghost use Rattle.mmtel_intake.specs.Targets.{target_in};
 use mmtel_answers::Hearing;
 use mmtel_leg::request_uri;
 use mmtel_lex::{Uri, UriFault, read_uri};
-use mmtel_message::{Line, Start, add_bytes, first_of, is_method, line_texts};
+use mmtel_message::{Line, Start, add_bytes, is_method, line_texts};
 use mmtel_scan::{List, NoMemory, number_up_to};
 use std::alloc::Global;
 
@@ -64,7 +64,7 @@ pub fn is_known_method(start: &Start) -> bool
 pub fn is_last_hop(request: &Hearing) -> bool
     ensures { result ≡ is_last_hop request.now.heard.hops }
 {
-    match first_of(request.message.lines(), b"Max-Forwards") {
+    match request.message.first(b"Max-Forwards") {
         None => false,
         Some(value) => match number_up_to(255, value) {
             None => false,
@@ -85,7 +85,7 @@ fn is_unsupported(option: &[u8]) -> bool
 pub fn unsupported_lines(alloc: Global, request: &Hearing) -> Result<List<Line>, NoMemory>
     ensures { IfOk result (λ lines. lines ≡ map unsupported_line (unsupported request.now.heard)) }
 {
-    let options = line_texts(alloc, request.message.lines(), b"Require")?;
+    let options = line_texts(alloc, &request.message.lines(), b"Require")?;
     let mut lines = List::new();
     for option in options.items() {
         if is_unsupported(option.bytes()) {

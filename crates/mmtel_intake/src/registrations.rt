@@ -9,7 +9,7 @@ ghost use Rattle.mmtel_intake.specs.Courses.{course_in};
 use crate::answers::{Course, plainly};
 use mmtel_answers::Hearing;
 use mmtel_directory::Directory;
-use mmtel_message::{first_of, is_request};
+use mmtel_message::is_request;
 use mmtel_scan::{NoMemory, number_up_to};
 use mmtel_trust::{Accounts, uri_in};
 use mmtel_types::Account;
@@ -58,7 +58,7 @@ fn to_account(
     ensures { IfOk result (λ account. account ≡ to_account accounts.now (public_part request.now.heard)) }
 {
     if is_request(request.message.start()) {
-        account_by(alloc, accounts, first_of(request.message.lines(), b"To"))
+        account_by(alloc, accounts, request.message.first(b"To"))
     } else {
         Ok(None)
     }
@@ -68,7 +68,7 @@ fn to_account(
 fn seconds(request: &Hearing) -> u64
     ensures { result ≡ seconds_of request.now.heard.expires }
 {
-    match first_of(request.message.lines(), b"Expires") {
+    match request.message.first(b"Expires") {
         None => HOUR,
         Some(value) => match number_up_to(MOST_SECONDS, value) {
             None => HOUR,

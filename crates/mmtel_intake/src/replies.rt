@@ -8,35 +8,30 @@ ghost use Rattle.mmtel_intake.specs.Courses.{answer_in};
 
 use crate::answers::Answer;
 use mmtel_answers::{Hearing, OwnResponse, own_answer, status_of};
-use mmtel_lex::{LexFault, param_value, read_name_addr};
-use mmtel_message::{Msg, Reply, Start, first_of, response};
+use mmtel_lex::name_addr_ref;
+use mmtel_message::{Msg, Reply, Start, response};
 use mmtel_scan::NoMemory;
 use mmtel_types::Addr;
 use std::alloc::Global;
 
 /// Whether a To value has no tag.
-fn has_no_tag(alloc: Global, value: Option<&[u8]>) -> Result<bool, NoMemory>
-    ensures { IfOk result (λ b. b ≡ is_none (tag_of (option_copied value.entry))) }
+fn has_no_tag(value: Option<&[u8]>) -> bool
+    ensures { result ≡ is_none (tag_of (option_copied value.entry)) }
 {
     match value {
-        None => Ok(true),
-        Some(value) => match read_name_addr(alloc, value) {
-            Ok(name) => Ok(param_value(name.params.items(), b"tag").is_none()),
-            Err(LexFault::Malformed) => Ok(true),
-            Err(LexFault::NoMemory) => Err(NoMemory),
+        None => true,
+        Some(value) => match name_addr_ref(value) {
+            None => true,
+            Some(name) => name.params.value(b"tag").is_none(),
         },
     }
 }
 
-/// Whether To has no tag, so that a response draws one (RFC 3261 §8.2.6.2).
-///
-/// # Errors
-///
-/// Want of memory alone.
-pub fn is_untagged(alloc: Global, message: &Msg) -> Result<bool, NoMemory>
-    ensures untagged { IfOk result (λ b. b ≡ is_none (to_tag_in message.now.lines)) }
+/// Whether To has no tag, so that a response draws one (RFC 3261 §8.2.6.2). It takes no memory.
+pub fn is_untagged(message: &Msg) -> bool
+    ensures untagged { result ≡ is_none (to_tag_in message.now.lines) }
 {
-    has_no_tag(alloc, first_of(message.lines(), b"To"))
+    has_no_tag(message.first(b"To"))
 }
 
 /// The response to a request, with this tag where its To has none (RFC 3261 §8.2.6).
@@ -96,5 +91,5 @@ pub fn completed_reply(
         named: &[],
         body: &[],
     };
-    response(alloc, reply.start(), reply.lines(), &said)
+    response(alloc, reply.start(), &reply.lines(), &said)
 }

@@ -25,7 +25,7 @@ use Rattle.mmtel_call.specs.Opening.{caller_of, new_call, opened, unless_refused
 use Rattle.mmtel_call.specs.Reinvites.{agreed, asked_across, bye_to_both, bye_while_asking, cancelled_across, cancelled_if_due, cancelling, ends_dialog, having_invited, invited, loose_across, on_response_across, proceeding, proceeding_across, refused_back, relayed_back, silenced_across}
 use Rattle.mmtel_call.specs.Requests.{having_heard, is_bye, is_invite, says, unheard, unlisted}
 use Rattle.mmtel_call.specs.Ringing as ringing
-use Rattle.mmtel_call.specs.Ringing.{answered, armed, armed_in, callee_after, cancelled_attempt, early_said, failed, given_up, heard_by, left, loose, met_by, on_cancel, on_due, on_heard, on_request, on_request_if, on_response, says_offered, silenced, taken_by, timed_out, tried, with_loose}
+use Rattle.mmtel_call.specs.Ringing.{answered, armed, armed_in, cancelled_attempt, early_said, failed, given_up, heard_by, left, loose, met_by, on_cancel, on_due, on_heard, on_request, on_request_if, on_response, says_offered, silenced, taken_by, timed_out, tried, with_loose}
 use Rattle.mmtel_call.specs.Sending.{relayed_to_caller, replied_to, told_caller, told_diversion}
 use Rattle.mmtel_call.specs.Stages.{busy_in, has_left, is_due_at, left_by, on_ack_at, on_bye, on_cancel_at, on_due_at, on_heard_at, on_invite, on_request_at, on_request_at_if, on_response_at, on_silence_at, rung_out}
 use Rattle.mmtel_call.specs.Table.{ack_in, answer_to, cancel_in, due_in, is_current, request_in, response_in, silence_in, silence_of, step}

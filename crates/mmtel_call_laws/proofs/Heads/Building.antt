@@ -22,7 +22,7 @@ use Rattle.mmtel_message.specs.Vias.{asks_port, completed, completed_by, is_from
 use Rattle.mmtel_message.specs.declared.fields.Via.{Via}
 use Rattle.mmtel_message.specs.declared.messages.Start.{Start}
 use Rattle.mmtel_leg.specs.Requests as requests
-use Rattle.mmtel_leg.specs.Requests.{Given, content_lines, cseq_text, dialog_lines, is_contacting, numbered, request_lines, route_line, routing_lines, to_text}
+use Rattle.mmtel_leg.specs.Requests.{Given, content_lines, cseq_text, dialog_lines, is_contacting, numbered, route_line, routing_lines, to_text}
 use Rattle.mmtel_leg.specs.declared.dialogues.Dialogue.{Dialogue}
 use Rattle.mmtel_types.specs.declared.addrs.Addr.{Addr}
 use Rattle.mmtel_types.specs.declared.sides.Side.{Side}

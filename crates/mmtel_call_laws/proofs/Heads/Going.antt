@@ -1,6 +1,6 @@
 -- How a call goes on keeps it clean: it comes to one target after another until it is offered to one, or refused.
-use Rattle.std.proofs.Common.{List, ◌+◌, Bool, true, false, not, ℕ, zero, suc, Option, Some, None, refl}
-use Rattle.std.specs.Prelude.{IfSome, if◌then◌else◌}
+use Rattle.std.proofs.Common.{List, ◌+◌, Bool, not, ℕ, zero, suc, Option, Some, None, refl}
+use Rattle.std.specs.Prelude.{IfSome}
 use Rattle.std.specs.Option.{option_map}
 use Rattle.mmtel_answers.specs.Attempts.{called}
 use Rattle.mmtel_answers.specs.Said.{Said, status_of as status_in}

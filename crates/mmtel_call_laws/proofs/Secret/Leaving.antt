@@ -9,7 +9,7 @@ use Rattle.mmtel_answers.specs.Attempts.{called}
 use Rattle.mmtel_answers.specs.Said.{Said, status_of}
 use Rattle.mmtel_desk.specs.Invitations.{early_said, knows}
 use Rattle.mmtel_desk.specs.Loose as loose_ones
-use Rattle.mmtel_desk.specs.Loose.{Rest, ended_before, fork_at, is_ended, is_of, late_cancelled, made_from, on_response, on_success, on_success_in, told_late, with_fork, with_invitation}
+use Rattle.mmtel_desk.specs.Loose.{Rest, ended_before, fork_at, is_ended, is_of, late_cancelled, made_from, on_response, on_success, on_success_in, told_late, with_invitation}
 use Rattle.mmtel_desk.specs.Sending.{acked, bye, cancel_sent, final_acked}
 use Rattle.mmtel_desk.specs.declared.desks.Desk.{Desk}
 use Rattle.mmtel_desk.specs.declared.invitations.Invitation.{Invitation}

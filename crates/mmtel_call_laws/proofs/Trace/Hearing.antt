@@ -24,7 +24,7 @@ use Rattle.mmtel_call.specs.Closing.{Step, onward}
 use Rattle.mmtel_call.specs.Diverting.{goes_on}
 use Rattle.mmtel_call.specs.Leaving.{without_key, without_silent}
 use Rattle.mmtel_call.specs.Requests.{is_bye, says, unheard, unlisted}
-use Rattle.mmtel_call.specs.Ringing.{ack_time, answered, armed, armed_in, awaiting_ack, callee_after, cancelled_attempt, early_said, failed, given_up, heard_by, left, met_by, next_success, on_due, on_request, on_request_if, on_response, proceeding, timed_out, tried}
+use Rattle.mmtel_call.specs.Ringing.{ack_time, answered, armed, armed_in, callee_after, cancelled_attempt, early_said, failed, given_up, heard_by, left, met_by, next_success, on_due, on_request, on_request_if, on_response, proceeding, timed_out, tried}
 use Rattle.mmtel_call.specs.Sending.{relayed_to_caller, replied_to, told_caller}
 use Rattle.mmtel_call.specs.Table.{answer_to, silence_of, step}
 use Rattle.mmtel_call.specs.Tried.{TriedView}

@@ -21,7 +21,7 @@ use Rattle.mmtel_call.specs.declared.signals.Signal.{Signal}
 use Rattle.mmtel_call_laws.specs.Known.{outcome_after, result_in}
 use Rattle.mmtel_call_laws.specs.Laws.{ComesToItsOutcome, ShowsItsOutcome}
 use Rattle.mmtel_call_laws.specs.Shown as shown
-use Rattle.mmtel_call_laws.specs.Shown.{AreOwn, Sign, emits_while_offered, final_sign, is_offered, sign_of, sign_of_result, signs_of, signs_of_targets}
+use Rattle.mmtel_call_laws.specs.Shown.{Sign, emits_while_offered, is_offered, sign_of, sign_of_result, signs_of, signs_of_targets}
 use Rattle.mmtel_call_laws.specs.Story.{Heard, Start, added, call_after, first_step, next_step, opening_in}
 use Rattle.mmtel_call_laws.specs.Trace.Laws.{AttemptsAreSeen, IsLastOf, IsSeen, TargetsAreSeen, last_in, no_reply_after, or_before, uri_in, uris_in}
 use Rattle.mmtel_call_laws.specs.Trace.Seen.{Armed, Deadline, Going, Invited, Mark, Watch, after_hearing, branch_of, ends_by, last_after_all, mark_of, mark_of_deadline, marks_first, marks_next, marks_of, nothing_yet, on_mark, on_marks, watch_after, watched_from, watched_next, with_armed}

@@ -22,7 +22,6 @@ mod telling;
 mod texts;
 
 pub use faults::RoomFault;
-pub use joining::Entrant;
 pub use mmtel_seats::{Awaited, Effects, Invite, Party, Seat};
 pub use referrals::{Referral, Replaces, referral_of};
 pub use rooms::Room;

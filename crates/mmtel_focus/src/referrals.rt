@@ -165,7 +165,7 @@ fn referral_to(alloc: Global, uri: Option<Uri>) -> Result<Referral, NoMemory>
 pub fn referral_of(alloc: Global, request: &Hearing) -> Result<Referral, NoMemory>
     ensures referral { IfOk result (λ r. r ≡ referral_in request.now.heard.refer_to) }
 {
-    let values = line_texts(alloc, request.message.lines(), b"Refer-To")?;
+    let values = line_texts(alloc, &request.message.lines(), b"Refer-To")?;
     match values.items() {
         [] => Ok(Referral::Missing),
         [value, ..] => {

@@ -167,42 +167,44 @@ impl Rooms {
         &mut self,
         alloc: Global,
         room: RoomNo,
-        entrant: Entrant,
+        leg: Released,
+        account: Option<Account>,
         how: Joining<'_>,
         peers: &PeerTable,
         accounts: &Accounts,
         tokens: &mut Tokens,
         now: Moment,
     ) -> Result<Emits, (Released, RoomFault)>
-        requires unmetered { (released_leg entrant.leg).meter ≡ None }
+        requires unmetered { (released_leg leg).meter ≡ None }
         requires audio { is_offer how ≡ true }
         ensures done { OnOk result ((deeds : List Deed) → Stands peers.now accounts.now self.old deeds →
-            Stands peers.now accounts.now self.new (entering room.0 now tokens.old entrant.leg entrant.account how.entry ∷ deeds)) }
+            Stands peers.now accounts.now self.new (entering room.0 now tokens.old leg account how.entry ∷ deeds)) }
         ensures emits { IfOk result (λ out. (deeds : List Deed) → Stands peers.now accounts.now self.old deeds →
-            out ≡ (brought_after (site_of self.old peers.now accounts.now) deeds (entering room.0 now tokens.old entrant.leg entrant.account how.entry)).desk.out) }
+            out ≡ (brought_after (site_of self.old peers.now accounts.now) deeds (entering room.0 now tokens.old leg account how.entry)).desk.out) }
         ensures tokens { OnOk result ((deeds : List Deed) → Stands peers.now accounts.now self.old deeds →
             tokens.new ≡ (brought_after (site_of self.old peers.now accounts.now) deeds
-            (entering room.0 now tokens.old entrant.leg entrant.account how.entry)).desk.tokens) }
+            (entering room.0 now tokens.old leg account how.entry)).desk.tokens) }
         ensures site { OnOk result ((peers : Peers) (accounts : List AccountIdentity) →
             site_of self.new peers accounts ≡ site_of self.old peers accounts) }
         ensures gone { self.old.has_failed ≡ false → access room.0 self.old.table.live ≡ Err fault.Gone →
-            (result ≡ Err (entrant.leg, fault.Gone)) × ((self.new ≡ self.old) × (tokens.new ≡ tokens.old)) }
+            (result ≡ Err (leg, fault.Gone)) × ((self.new ≡ self.old) × (tokens.new ≡ tokens.old)) }
         ensures full { self.old.has_failed ≡ false → access room.0 self.old.table.live ≡ Err fault.RoomFull →
-            (result ≡ Err (entrant.leg, fault.RoomFull)) × ((self.new ≡ self.old) × (tokens.new ≡ tokens.old)) }
+            (result ≡ Err (leg, fault.RoomFull)) × ((self.new ≡ self.old) × (tokens.new ≡ tokens.old)) }
         ensures fails { self.old.has_failed ≡ false → (place : ℕ) → access room.0 self.old.table.live ≡ Ok place →
             IfErr result (λ e. (e.1 ≡ fault.NoMemory) × (self.new.has_failed ≡ true)) }
         ensures meter { IfErr result (λ e. (released_leg e.0).meter ≡ None) }
-        ensures side { IfErr result (λ e. is_same_side e.0 entrant.leg ≡ true) }
+        ensures side { IfErr result (λ e. is_same_side e.0 leg ≡ true) }
         ensures stuck { self.old.has_failed ≡ true →
-            (result ≡ Err (entrant.leg, fault.NoMemory)) × ((self.new ≡ self.old) × (tokens.new ≡ tokens.old)) }
+            (result ≡ Err (leg, fault.NoMemory)) × ((self.new ≡ self.old) × (tokens.new ≡ tokens.old)) }
     {
         if self.has_failed {
-            return Err((entrant.into_leg(), RoomFault::NoMemory));
+            return Err((leg, RoomFault::NoMemory));
         }
         match access(&self.live, room) {
-            Err(fault) => Err((entrant.into_leg(), fault)),
+            Err(fault) => Err((leg, fault)),
             Ok(place) => {
                 let step = self.step(alloc, peers, accounts, now);
+                let entrant = Entrant { leg, account };
                 match self.enter(&step, room, place, entrant, how, tokens) {
                     Ok(out) => Ok(out),
                     Err(leg) => {

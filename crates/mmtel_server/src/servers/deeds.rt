@@ -60,7 +60,7 @@ pub(super) fn drawn_tag(alloc: Global, tokens: &mut Tokens, message: &Msg) -> Re
     ensures drawn { tokens.old.drawn < 2 ^ 60 → OnOk result (tokens.new
         ≡ record { token = tokens.old.token; drawn = tokens.old.drawn + tags_due (to_tag_in message.now.lines) }) }
 {
-    if is_untagged(alloc, message)? {
+    if is_untagged(message) {
         tokens.draw(alloc)
     } else {
         Ok(Text::new())

@@ -17,7 +17,8 @@ use super::{Context, Server};
 use crate::laws::numbers_are_drawn_on;
 use mmtel_answers::{Hearing, status_of};
 use mmtel_call::NotTalking;
-use mmtel_focus::{Entrant, Joining, Referral, Replaces, RoomSignal, referral_of};
+use mmtel_focus::{Joining, Referral, Replaces, RoomSignal, referral_of};
+use mmtel_leg::Released;
 use mmtel_message::is_method;
 use mmtel_outside::Offer;
 use mmtel_scan::{List, NoMemory};
@@ -259,10 +260,7 @@ impl Server {
         numbers_are_drawn_on();
         let account = account_at(self.calls.party(call, side));
         match self.calls.release(call, side) {
-            Ok(leg) => {
-                let entrant = Entrant { leg, account };
-                self.adopt(context, seat, call, entrant, out, steps)
-            }
+            Ok(leg) => self.adopt(context, seat, call, leg, account, out, steps),
             Err(NotTalking) => self.notice(context, seat, 491, out, steps),
         }
     }
@@ -273,23 +271,24 @@ impl Server {
         context: &Context,
         seat: RoomSeat,
         call: CallNo,
-        entrant: Entrant,
+        leg: Released,
+        account: Option<Account>,
         out: &mut List<Offer>,
         steps: &mut Steps<L>,
     ) -> Result<(), NoMemory>
-        requires unmetered { (released_leg entrant.leg).meter ≡ None }
-        requires fits { takes_back entrant.leg (entry_of call.0 self.old.calls.table.entries) ≡ true }
+        requires unmetered { (released_leg leg).meter ≡ None }
+        requires fits { takes_back leg (entry_of call.0 self.old.calls.table.entries) ≡ true }
         requires away { is_away (entry_of call.0 self.old.calls.table.entries) ≡ true }
         ensures done { OnOk result (Follows self.old out.old self.new out.new
-            (λ d token world. adopting d token context.now.at seat.room seat.number call entrant.leg entrant.account
+            (λ d token world. adopting d token context.now.at seat.room seat.number call leg account
             (access seat.room.0 (rooms_in d world).live) world)) }
         ensures err { OnErr result (Breaks self.old out.old out.new
-            (λ d token world. adopting d token context.now.at seat.room seat.number call entrant.leg entrant.account
+            (λ d token world. adopting d token context.now.at seat.room seat.number call leg account
             (access seat.room.0 (rooms_in d world).live) world)) }
     {
         numbers_are_drawn_on();
         let how = Joining::Referred { by: seat.number };
-        let seated = self.seat_leg(context, seat.room, entrant, how)?;
+        let seated = self.seat_leg(context, seat.room, leg, account, how)?;
         match seated {
             Ok(emits) => {
                 let emitted = self.emit_all(context, emits.items(), out, steps);

@@ -17,7 +17,7 @@ use super::{Context, Server};
 use crate::laws::numbers_are_drawn_on;
 use mmtel_answers::Hearing;
 use mmtel_charging::Row;
-use mmtel_focus::{Entrant, Joining, RoomFault, RoomSignal, Rooms};
+use mmtel_focus::{Joining, RoomFault, RoomSignal, Rooms};
 use mmtel_leg::{CallerLeg, Ended, Released, Standing};
 use mmtel_outside::Offer;
 use mmtel_scan::{List, NoMemory};
@@ -168,17 +168,18 @@ impl Server {
         &mut self,
         context: &Context,
         room: RoomNo,
-        entrant: Entrant,
+        leg: Released,
+        account: Option<Account>,
         how: Joining<'_>,
     ) -> Result<Result<Emits, (Released, RoomFault)>, NoMemory>
-        requires unmetered { (released_leg entrant.leg).meter ≡ None }
+        requires unmetered { (released_leg leg).meter ≡ None }
         requires audio { is_offer how ≡ true }
         ensures seated { IfOk result (λ seated. IfOk seated (RoomsDo self.old self.new
             (λ d token world. entering room.0 context.now.at
-            (tokens_now token world) entrant.leg entrant.account how.entry))) }
+            (tokens_now token world) leg account how.entry))) }
         ensures free { IfOk result (λ seated. IfOk seated (λ emits. IsOk (access room.0 self.old.rooms.table.live))) }
         ensures refused { IfOk result (λ seated. IfErr seated (λ e.
-            (e.0 ≡ entrant.leg) × (access room.0 self.old.rooms.table.live ≡ Err e.1))) }
+            (e.0 ≡ leg) × (access room.0 self.old.rooms.table.live ≡ Err e.1))) }
         ensures same { IfOk result (λ seated. OnErr seated (self.new ≡ self.old)) }
         ensures calls { self.new.calls ≡ self.old.calls }
     {
@@ -186,7 +187,8 @@ impl Server {
         match self.rooms.adopt(
             context.alloc,
             room,
-            entrant,
+            leg,
+            account,
             how,
             &self.directory.peers,
             &self.directory.names.accounts,

@@ -12,7 +12,7 @@ use super::rooms::let_go;
 use super::{Context, Server};
 use crate::laws::numbers_are_drawn_on;
 use mmtel_answers::Hearing;
-use mmtel_focus::{Entrant, Joining, RoomFault};
+use mmtel_focus::{Joining, RoomFault};
 use mmtel_intake::{caller_account, plainly, response_to};
 use mmtel_leg::{CallerLeg, Ended, Released, Standing};
 use mmtel_outside::Offer;
@@ -195,8 +195,7 @@ impl Server {
             invite: visitor.invite,
         };
         let leg = Released::Caller(leg);
-        let entrant = Entrant { leg, account };
-        let seated = self.seat_leg(context, room, entrant, how)?;
+        let seated = self.seat_leg(context, room, leg, account, how)?;
         match seated {
             Ok(emits) => {
                 let done = self.emit_all(context, emits.items(), out, steps);

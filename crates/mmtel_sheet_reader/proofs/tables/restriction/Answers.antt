@@ -12,8 +12,8 @@ use Rattle.mmtel_sheet_reader.proofs.tables.restriction.Goals as goal
 pub members-init : goal.members-init
 members-init c = rw (c.into_iter-key-iterator.ensures.into_iter_gives, c.iter-key-items.ensures.rest) (tt, tt, refl, members_begin c.args.table.now.entries c.iter-key-items.ensures.ordered)
 
-pub members-preserved-in_ok-draft : goal.members-preserved-in_ok-draft
-members-preserved-in_ok-draft c =
+pub members-preserved : goal.members-preserved
+members-preserved c =
     let (can, finite, same, left) = c.members.invariant in
     let e : Entry = (c.in-Some.key.now, c.in-Some.value.now) in
     let first = c.in-Some.ensures.steps in (

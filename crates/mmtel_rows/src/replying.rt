@@ -94,11 +94,10 @@ fn heard(page: &mut Page, lines: &[u8]) -> Option<Hearing> {
 }
 
 fn tell_tag(page: &mut Page, request: &Hearing) {
-    let untagged = is_untagged(page.alloc, &request.message);
-    match page.noted(untagged) {
-        None => {}
-        Some(true) => page.add(b"untagged\n"),
-        Some(false) => page.add(b"tagged\n"),
+    if is_untagged(&request.message) {
+        page.add(b"untagged\n");
+    } else {
+        page.add(b"tagged\n");
     }
 }
 
@@ -131,7 +130,7 @@ fn tell_dialog(page: &mut Page, request: &Hearing) {
 
 /// The reply to unreadable bytes that is completed for a peer behind another port.
 fn tell_completed(page: &mut Page, request: &Hearing) {
-    let reply = reply_with(page.alloc, 420, b"Bad Extension", request.message.lines());
+    let reply = reply_with(page.alloc, 420, b"Bad Extension", &request.message.lines());
     if let Some(reply) = page.noted(reply) {
         let built = completed_reply(page.alloc, b"t1", address(5072), &reply);
         drop(reply);

@@ -6,6 +6,7 @@ mod history;
 mod lookups;
 mod message;
 mod parties;
+mod places;
 mod responses;
 mod shown;
 mod trust;

@@ -14,7 +14,7 @@ use crate::telling::{Wire, tell_emits, tell_rows};
 use crate::worlds::{World, is, number, peer_of, uri, word};
 use mmtel_answers::Hearing;
 use mmtel_charging::{Meter, Row};
-use mmtel_focus::{Entrant, Joining, RoomFault, Rooms};
+use mmtel_focus::{Joining, RoomFault, Rooms};
 use mmtel_leg::{Asked, CalleeLeg, CallerLeg, Dialogue, Ended, Released, Remote, Standing};
 use mmtel_scan::{List, Text};
 use mmtel_sdp::offers_audio;
@@ -220,7 +220,8 @@ fn enter(
     let entered = rooms.adopt(
         told.alloc,
         room,
-        Entrant { leg, account },
+        leg,
+        account,
         how,
         &world.peers,
         &world.accounts,

@@ -160,12 +160,14 @@ fn tell_short(told: &mut Told, style: Style, message: &Msg) {
     tell_start(told, message.start());
     told.add(b", ");
     told.add_line(value(message, b"CSeq"));
-    for line in message.lines() {
-        if is_told(style, line.0.bytes()) {
+    let lines = message.lines();
+    for i in 0..lines.len() {
+        let (name, value) = lines.at(i);
+        if is_told(style, name) {
             told.add(b" ");
-            told.add(line.0.bytes());
+            told.add(name);
             told.add(b": ");
-            told.add_line(line.1.bytes());
+            told.add_line(value);
         }
     }
     match style {

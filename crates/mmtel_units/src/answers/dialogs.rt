@@ -50,10 +50,12 @@ fn tell_way(told: &mut Told, ack: &Msg) {
     if let Start::Request { method: _, uri } = ack.start() {
         told.add(uri.bytes());
     }
-    for line in ack.lines() {
-        if line.0.bytes() == b"To".as_slice() || line.0.bytes() == b"Route".as_slice() {
+    let lines = ack.lines();
+    for i in 0..lines.len() {
+        let (name, value) = lines.at(i);
+        if name == b"To".as_slice() || name == b"Route".as_slice() {
             told.add(b" ");
-            told.add(line.1.bytes());
+            told.add(value);
         }
     }
     told.add(b"\n");

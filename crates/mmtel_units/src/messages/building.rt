@@ -1,10 +1,10 @@
 //! Header lines that the server builds, and how it names itself in them.
 
 use crate::asserting::assert_right;
-use crate::messages::drafts::tell_lines;
+use crate::messages::drafts::{request, tell_lines};
 use mmtel_lex::{List, NoMemory, Text};
 use mmtel_message::{
-    Line, add_bytes, add_decimal, add_line, add_named, add_passed, addr_text, contact_text,
+    Line, Msg, add_bytes, add_decimal, add_line, add_named, add_passed, addr_text, contact_text,
     ip_text, tagged, via_text,
 };
 use mmtel_told::Told;
@@ -58,8 +58,10 @@ fn pass(told: &mut Told, lines: &mut List<Line>) {
     add(told, &mut received, b"Supported", b"timer");
     let done = add_passed(told.alloc, lines, received.items());
     told.keep(done.is_ok());
-    let done = add_named(told.alloc, lines, b"SUPPORTED", received.items());
-    drop(received);
+    let start = request(told, b"X");
+    let message = Msg::of(start, received, Text::new());
+    let done = add_named(told.alloc, lines, b"SUPPORTED", &message.lines());
+    drop(message);
     told.keep(done.is_ok());
 }
 

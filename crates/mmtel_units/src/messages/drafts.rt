@@ -1,7 +1,7 @@
 //! Messages that tests make of the lines of a table, and lines as a table has them.
 
-use mmtel_lex::Text;
-use mmtel_message::{Line, Msg, Start, read};
+use mmtel_lex::{List, Text};
+use mmtel_message::{Line, Msg, Start, add_bytes, read};
 use mmtel_told::{Told, cut, next_line};
 
 /// What these bytes are read as; none where they cannot be read, which is remembered.
@@ -35,14 +35,26 @@ pub fn add(told: &mut Told, message: &mut Msg, name: &[u8], value: &[u8]) {
 }
 
 /// Adds a line of a table.
-fn add_row(told: &mut Told, message: &mut Msg, row: &[u8]) {
+fn add_row(told: &mut Told, lines: &mut List<Line>, row: &[u8]) {
     let (name, value) = cut(b':', row);
-    add(
-        told,
-        message,
-        name,
-        value.strip_prefix(b" ").unwrap_or(value),
-    );
+    let value = value.strip_prefix(b" ").unwrap_or(value);
+    let done = add_bytes(told.alloc, lines, name, value);
+    told.keep(done.is_ok());
+}
+
+/// The lines of a table.
+pub fn lines_of(told: &mut Told, table: &[u8]) -> List<Line> {
+    let mut lines = List::new();
+    let mut rows = table;
+    for _ in 0..10 {
+        if !rows.is_empty() {
+            let (row, rest) = next_line(rows);
+            rows = rest;
+            add_row(told, &mut lines, row);
+        }
+    }
+    told.keep(rows.is_empty());
+    lines
 }
 
 /// The start line of a request of this method.
@@ -54,17 +66,8 @@ pub fn request(told: &mut Told, method: &[u8]) -> Start {
 
 /// A message of the lines of a table.
 pub fn of_lines(told: &mut Told, start: Start, table: &[u8]) -> Msg {
-    let mut message = Msg::new(start, Text::new());
-    let mut rows = table;
-    for _ in 0..10 {
-        if !rows.is_empty() {
-            let (row, rest) = next_line(rows);
-            rows = rest;
-            add_row(told, &mut message, row);
-        }
-    }
-    told.keep(rows.is_empty());
-    message
+    let lines = lines_of(told, table);
+    Msg::of(start, lines, Text::new())
 }
 
 /// Tells lines, one a line, and a line `#`.

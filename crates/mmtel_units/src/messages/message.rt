@@ -2,6 +2,7 @@
 
 use crate::asserting::assert_right;
 use crate::messages::drafts::{of_lines, request};
+use crate::messages::places::are_right;
 use mmtel_lex::{List, NoMemory, Text};
 use mmtel_message::{
     Mode, Msg, ReadFault, Start, is_readable, joined_by, line_texts, param_value, read, read_cseq,
@@ -52,6 +53,7 @@ fn tell_fault(told: &mut Told, fault: &ReadFault) {
 fn tell_outcome(told: &mut Told, bytes: &[u8]) {
     match read(told.alloc, bytes) {
         Ok(message) => {
+            told.keep(are_right(&message));
             drop(message);
             told.add(b"read");
         }
@@ -87,6 +89,7 @@ fn tell_answer(told: &mut Told, bytes: &[u8]) {
     match read(told.alloc, bytes) {
         Ok(message) => {
             tell_message(told, &message);
+            told.keep(are_right(&message));
             drop(message);
         }
         Err(fault) => {
@@ -802,7 +805,7 @@ CSeq: 1 OPTIONS
 
 /// Tells two of the five fields of a message.
 fn tell_five(told: &mut Told, message: &Msg) {
-    match read_five(told.alloc, message.lines()) {
+    match read_five(told.alloc, &message.lines()) {
         Ok(five) => {
             told.add(five.call_id.bytes());
             told.add(b"|");
@@ -815,7 +818,7 @@ fn tell_five(told: &mut Told, message: &Msg) {
 
 /// Tells the text of the response to a request, which repeats the lines of the request.
 fn tell_busy(told: &mut Told, message: &Msg) {
-    match reply_with(told.alloc, 486, b"Busy Here", message.lines()) {
+    match reply_with(told.alloc, 486, b"Busy Here", &message.lines()) {
         Ok(reply) => {
             tell_message(told, &reply);
             drop(reply);
@@ -836,10 +839,10 @@ fn tell_found(told: &mut Told, message: &Msg) {
     let alloc = told.alloc;
     tell_joined(
         told,
-        values_named(alloc, Mode::Plain, message.lines(), b"ROUTE"),
+        values_named(alloc, Mode::Plain, &message.lines(), b"ROUTE"),
     );
     tell_joined(told, message.values(alloc, b"ROUTE"));
-    tell_joined(told, line_texts(alloc, message.lines(), b"ROUTE"));
+    tell_joined(told, line_texts(alloc, &message.lines(), b"ROUTE"));
     told.add_line(message.first(b"ROUTE").unwrap_or(b""));
 }
 

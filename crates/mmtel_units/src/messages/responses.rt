@@ -1,8 +1,8 @@
 //! Responses: the first Via with where a request came from, phrases, and what of a request's lines an answer has.
 
 use crate::asserting::assert_right;
-use crate::messages::drafts::{of_lines, request, tell_message};
-use mmtel_message::{Msg, ReadFault, Reply, completed, phrase_of, read, response};
+use crate::messages::drafts::{lines_of, of_lines, request, tell_message};
+use mmtel_message::{Line, Msg, ReadFault, Reply, completed, phrase_of, read, response};
 use mmtel_scan::number_up_to;
 use mmtel_told::{Rows, Told, wrong_line};
 use mmtel_types::Addr;
@@ -130,18 +130,25 @@ fn asked(told: &mut Told, method: &[u8], table: &[u8]) -> Msg {
 }
 
 /// Tells the text of the response of this code, with the tag `T-1`, to a request that came from `SOURCE`. It passes on these lines and has others named for it.
-fn tell_response(told: &mut Told, asked: &Msg, code: u16, passed: &Msg, named: &Msg, body: &[u8]) {
+fn tell_response(
+    told: &mut Told,
+    asked: &Msg,
+    code: u16,
+    passed: &[Line],
+    named: &[Line],
+    body: &[u8],
+) {
     let reply = Reply {
         code,
         phrase: phrase_of(code),
         tag: b"T-1",
         source: Some(SOURCE),
         contact: b"<sip:127.0.0.1:5060>",
-        passed: passed.lines(),
-        named: named.lines(),
+        passed,
+        named,
         body,
     };
-    match response(told.alloc, asked.start(), asked.lines(), &reply) {
+    match response(told.alloc, asked.start(), &asked.lines(), &reply) {
         Ok(message) => {
             tell_message(told, &message);
             drop(message);
@@ -159,9 +166,9 @@ fn tell_answer(
     named: &[u8],
     body: &[u8],
 ) {
-    let passed = asked(told, b"X", passed);
-    let named = asked(told, b"X", named);
-    tell_response(told, request, code, &passed, &named, body);
+    let passed = lines_of(told, passed);
+    let named = lines_of(told, named);
+    tell_response(told, request, code, passed.items(), named.items(), body);
     drop(passed);
     drop(named);
 }

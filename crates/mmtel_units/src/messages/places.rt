@@ -1,0 +1,131 @@
+//! Where the values of a message stand among the bytes received.
+
+use crate::asserting::assert_right;
+use crate::messages::drafts::request;
+use mmtel_lex::Text;
+use mmtel_message::{Msg, ReadFault, Span, read_held};
+use mmtel_told::Told;
+use std::alloc::Global;
+
+/// An INVITE whose Via value begins at 41 and has 43 bytes, and whose Max-Forwards begins at 100; its Contact is folded, and its Route has two values on one line.
+const INVITE: &[u8] = b"INVITE sip:bob@far.example SIP/2.0
+Via: SIP/2.0/UDP 127.0.0.1:5071;branch=z9hG4bKa1
+Max-Forwards: 68
+From: \"Erin\" <sip:erin@other.example>;tag=a
+To: <sip:bob@far.example>
+Call-ID: c1
+CSeq: 7 INVITE
+Contact: \"E\"
+ <sip:erin@127.0.0.1:5071>
+Route: <sip:r@h;lr>, <sip:s@h;lr>
+Content-Length: 0
+
+";
+
+/// What is told of it: the place of each line's value, or that it is an edit; the same after Max-Forwards is set; the values of Route; how many bytes were received of a
+/// message that the server built.
+const PLACES: &[u8] = b"41+43 100+2 110+37 153+21 185+2 195+8 edit 254+12 268+12 298+1
+41+43 edit 110+37 153+21 185+2 195+8 edit 254+12 268+12 298+1
+<sip:r@h;lr>|<sip:s@h;lr>|
+0
+";
+
+fn tell_place(told: &mut Told, place: Option<Span>) {
+    match place {
+        None => told.add(b"edit"),
+        Some(place) => {
+            told.add_number(place.from as u64);
+            told.add(b"+");
+            told.add_number(place.len as u64);
+        }
+    }
+}
+
+/// Tells where the values stand.
+fn tell_places(told: &mut Told, message: &Msg) {
+    for i in 0..message.lines().len() {
+        told.add_if(i > 0, b" ", b"");
+        tell_place(told, message.span(i));
+    }
+    told.add(b"\n");
+}
+
+/// Whether a value stands at this place of the bytes.
+fn stands(received: &[u8], place: Span, value: &[u8]) -> bool {
+    if place.from > received.len() {
+        return false;
+    }
+    let rest = &received[place.from..];
+    if place.len > rest.len() {
+        return false;
+    }
+    &rest[..place.len] == value
+}
+
+/// Whether each place has the value of its line.
+pub fn are_right(message: &Msg) -> bool {
+    let lines = message.lines();
+    let received = message.received();
+    for i in 0..lines.len() {
+        let (_, value) = lines.at(i);
+        if let Some(place) = message.span(i) {
+            if !stands(received, place, value) {
+                return false;
+            }
+        }
+    }
+    true
+}
+
+/// Tells the values of Route, each with a bar behind it.
+fn tell_routes(told: &mut Told, message: &Msg) {
+    for value in message.values_in(b"ROUTE") {
+        told.add(value);
+        told.add(b"|");
+    }
+    told.add(b"\n");
+}
+
+/// Tells of a message that was read, and once more with another Max-Forwards.
+fn tell_edited(told: &mut Told, message: &mut Msg) {
+    tell_places(told, message);
+    let hops = told.copy(b"67");
+    let done = message.set(told.alloc, b"Max-Forwards", hops);
+    told.keep(done.is_ok());
+    tell_places(told, message);
+    tell_routes(told, message);
+    told.keep(are_right(message));
+}
+
+/// Tells what comes of these bytes.
+fn tell_held(told: &mut Told, bytes: Text) {
+    let read: Result<Msg, ReadFault> = read_held(told.alloc, bytes);
+    match told.noted(read) {
+        None => {}
+        Some(message) => {
+            let mut message = message;
+            tell_edited(told, &mut message);
+            drop(message);
+        }
+    }
+}
+
+/// The number of the first line that is told otherwise; 0 where none is.
+fn wrong_place(alloc: Global) -> usize {
+    let mut told = Told::new(alloc);
+    let mut datagram = Told::new(alloc);
+    datagram.add_with_cr(INVITE);
+    let bytes = told.copy(datagram.whole());
+    drop(datagram);
+    tell_held(&mut told, bytes);
+    let built = Msg::new(request(&mut told, b"OPTIONS"), Text::new());
+    told.add_number(built.received().len() as u64);
+    told.add(b"\n");
+    drop(built);
+    told.wrong_line(PLACES)
+}
+
+#[test]
+fn values_stand_where_they_came(rt: HostRuntime) {
+    assert_right(&rt, "PLACES", wrong_place(rt.alloc()));
+}

@@ -9,7 +9,7 @@ use Rattle.std.specs.Str.Parse.{AllDigits}
 use Rattle.csv.specs.Writing.{default_writer, row_text, needs_byte, field_text, fields_text, is_blank}
 use Rattle.mmtel_types.specs.Causes as causes
 use Rattle.mmtel_types.specs.declared.causes.Cause.{Cause}
-use Rattle.mmtel_types.specs.declared.causes.Cause.TheVariants.{OutgoingBarred, IncomingBarred, AnonymousRejected, NotRegistered, NetworkBusy, NoReply, TooManyDiversions, Unreachable, Relayed, Cancelled, NoAccount, NoRoute, BadScheme, Hops, Extension, Critical, Merged, Full, Ended}
+use Rattle.mmtel_types.specs.declared.causes.Cause.TheVariants.{OutgoingBarred, IncomingBarred, AnonymousRejected, NotRegistered, NetworkBusy, NoReply, TooManyDiversions, Unreachable, Relayed, Cancelled, NoAccount, NoRoute, BadScheme, Hops, Extension, Critical, Merged, Full, Ended, Unacknowledged}
 use Rattle.mmtel_charging.specs.declared.rows.Kind.{Kind}
 use Rattle.mmtel_charging.specs.declared.rows.Kind.TheVariants.{Origin, Terminating, Diversion, Participant}
 use Rattle.mmtel_charging.specs.declared.rows.Row.{Row}
@@ -69,6 +69,7 @@ cause-plain Critical = refl
 cause-plain Merged = refl
 cause-plain Full = refl
 cause-plain Ended = refl
+cause-plain Unacknowledged = refl
 
 -- plain fields are written as they are, with a comma between each two
 fields-line : (x : List ℕ) (rest : List (List ℕ)) → ArePlain (x ∷ rest)

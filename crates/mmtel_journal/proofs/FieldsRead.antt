@@ -13,7 +13,7 @@ use Rattle.mmtel_types.specs.declared.numbers.CallNo.{CallNo}
 use Rattle.mmtel_types.specs.declared.causes.Cause.{Cause}
 use Rattle.mmtel_types.specs.declared.causes.Cause.TheVariants.{OutgoingBarred, IncomingBarred, AnonymousRejected, NotRegistered, NetworkBusy, NoReply, TooManyDiversions}
 use Rattle.mmtel_types.specs.declared.causes.Cause.TheVariants.{Unreachable, Relayed, Cancelled, NoAccount, NoRoute, BadScheme, Hops, Extension, Critical, Merged, Full}
-use Rattle.mmtel_types.specs.declared.causes.Cause.TheVariants.{Ended}
+use Rattle.mmtel_types.specs.declared.causes.Cause.TheVariants.{Ended, Unacknowledged}
 use Rattle.mmtel_charging.specs.declared.rows.Kind.{Kind}
 use Rattle.mmtel_charging.specs.declared.rows.Kind.TheVariants.{Origin, Terminating, Diversion, Participant}
 use Rattle.mmtel_charging.specs.declared.rows.Row.{Row}
@@ -130,6 +130,7 @@ cause_given Critical q = ((omega arith, q), refl)
 cause_given Merged q = ((omega arith, q), refl)
 cause_given Full q = ((omega arith, q), refl)
 cause_given Ended q = ((omega arith, q), refl)
+cause_given Unacknowledged q = ((omega arith, q), refl)
 
 pub cause_reads : Reads (λ c. (cause_of c).1 < 2 ^ 16) cause_bytes cause_at
 cause_reads =

@@ -7,7 +7,7 @@ use Rattle.mmtel_types.specs.declared.numbers.CallNo.{CallNo}
 use Rattle.mmtel_types.specs.declared.causes.Cause.{Cause}
 use Rattle.mmtel_types.specs.declared.causes.Cause.TheVariants.{OutgoingBarred, IncomingBarred, AnonymousRejected, NotRegistered, NetworkBusy, NoReply, TooManyDiversions}
 use Rattle.mmtel_types.specs.declared.causes.Cause.TheVariants.{Unreachable, Relayed, Cancelled, NoAccount, NoRoute, BadScheme, Hops, Extension, Critical, Merged, Full}
-use Rattle.mmtel_types.specs.declared.causes.Cause.TheVariants.{Ended}
+use Rattle.mmtel_types.specs.declared.causes.Cause.TheVariants.{Ended, Unacknowledged}
 use Rattle.mmtel_charging.specs.declared.rows.Kind.{Kind}
 use Rattle.mmtel_charging.specs.declared.rows.Kind.TheVariants.{Origin, Terminating, Diversion, Participant}
 use Rattle.mmtel_charging.specs.declared.rows.Row.{Row}
@@ -76,7 +76,8 @@ cause_by place code =
     else if place == 16 then Critical
     else if place == 17 then Merged
     else if place == 18 then Full
-    else Ended
+    else if place == 19 then Ended
+    else Unacknowledged
 
 abbrev pub told_cause : ℕ → ℕ → Option Cause
 told_cause place code =

@@ -6,7 +6,7 @@ use Rattle.mmtel_types.specs.declared.numbers.Account.{Account}
 use Rattle.mmtel_types.specs.declared.causes.Cause.{Cause}
 use Rattle.mmtel_types.specs.declared.causes.Cause.TheVariants.{OutgoingBarred, IncomingBarred, AnonymousRejected, NotRegistered, NetworkBusy, NoReply, TooManyDiversions}
 use Rattle.mmtel_types.specs.declared.causes.Cause.TheVariants.{Unreachable, Relayed, Cancelled, NoAccount, NoRoute, BadScheme, Hops, Extension, Critical, Merged, Full}
-use Rattle.mmtel_types.specs.declared.causes.Cause.TheVariants.{Ended}
+use Rattle.mmtel_types.specs.declared.causes.Cause.TheVariants.{Ended, Unacknowledged}
 use Rattle.mmtel_charging.specs.declared.rows.Kind.{Kind}
 use Rattle.mmtel_charging.specs.declared.rows.Kind.TheVariants.{Origin, Terminating, Diversion, Participant}
 use Rattle.mmtel_charging.specs.declared.rows.Row.{Row}
@@ -53,6 +53,7 @@ cause_of Critical = (16, 0)
 cause_of Merged = (17, 0)
 cause_of Full = (18, 0)
 cause_of Ended = (19, 0)
+cause_of Unacknowledged = (20, 0)
 
 abbrev pub cause_bytes : Cause → List ℕ
 cause_bytes cause = (cause_of cause).0 ∷ to_be_bytes w16 (cause_of cause).1

@@ -124,7 +124,8 @@ fn cause_by(place: u8, code: u16) -> Cause
         16 => Cause::Critical,
         17 => Cause::Merged,
         18 => Cause::Full,
-        _ => Cause::Ended,
+        19 => Cause::Ended,
+        _ => Cause::Unacknowledged,
     }
 }
 

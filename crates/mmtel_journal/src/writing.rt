@@ -101,6 +101,7 @@ pub fn cause_numbers(cause: &Cause) -> (u8, u16)
         Cause::Merged => (17, 0),
         Cause::Full => (18, 0),
         Cause::Ended => (19, 0),
+        Cause::Unacknowledged => (20, 0),
     }
 }
 

@@ -8,12 +8,13 @@ use Rattle.mmtel_scan.proofs.Runs.{and_true}
 use Rattle.mmtel_store.specs.Columns.{is_told}
 use Rattle.mmtel_types.specs.Causes.{status_of, word_of}
 use Rattle.mmtel_types.specs.declared.causes.Cause.{Cause}
-use Rattle.mmtel_types.specs.declared.causes.Cause.TheVariants.{OutgoingBarred, IncomingBarred, AnonymousRejected, NotRegistered, NetworkBusy, NoReply, TooManyDiversions, Unreachable, Relayed, Cancelled, NoAccount, NoRoute, BadScheme, Hops, Extension, Critical, Merged, Full, Ended}
+use Rattle.mmtel_types.specs.declared.causes.Cause.TheVariants.{OutgoingBarred, IncomingBarred, AnonymousRejected, NotRegistered, NetworkBusy, NoReply, TooManyDiversions, Unreachable, Relayed, Cancelled, NoAccount, NoRoute, BadScheme, Hops, Extension, Critical, Merged, Full, Ended, Unacknowledged}
 
 abbrev pub with_status : ℕ → List Cause
 with_status status =
     OutgoingBarred ∷ IncomingBarred ∷ AnonymousRejected ∷ NotRegistered ∷ NetworkBusy ∷ NoReply ∷ TooManyDiversions true ∷ TooManyDiversions false
-    ∷ Unreachable status ∷ Relayed status ∷ Cancelled ∷ NoAccount ∷ NoRoute ∷ BadScheme ∷ Hops ∷ Extension ∷ Critical ∷ Merged ∷ Full ∷ Ended ∷ []
+    ∷ Unreachable status ∷ Relayed status ∷ Cancelled ∷ NoAccount ∷ NoRoute ∷ BadScheme ∷ Hops ∷ Extension ∷ Critical ∷ Merged ∷ Full ∷ Ended
+    ∷ Unacknowledged ∷ []
 
 same : (n : ℕ) → (n == n) ≡ true
 same n = grind arith
@@ -40,6 +41,7 @@ told Critical = refl
 told Merged = refl
 told Full = refl
 told Ended = refl
+told Unacknowledged = refl
 
 pub told_word : (word : List ℕ) (status : ℕ) (cause : Cause) → is_told word status cause ≡ true → word ≡ word_of cause
 unfolding is_told

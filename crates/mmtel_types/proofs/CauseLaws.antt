@@ -4,7 +4,7 @@ use Rattle.std.specs.Str.{bytes_eq}
 use Rattle.std.proofs.Common.{sym, ◌∙◌, ap}
 use Rattle.mmtel_types.specs.Causes.{AreToldApart, status_of, word_of}
 use Rattle.mmtel_types.specs.declared.causes.Cause.{Cause}
-use Rattle.mmtel_types.specs.declared.causes.Cause.TheVariants.{OutgoingBarred, IncomingBarred, AnonymousRejected, NotRegistered, NetworkBusy, NoReply, TooManyDiversions, Unreachable, Relayed, Cancelled, NoAccount, NoRoute, BadScheme, Hops, Extension, Critical, Merged, Full, Ended}
+use Rattle.mmtel_types.specs.declared.causes.Cause.TheVariants.{OutgoingBarred, IncomingBarred, AnonymousRejected, NotRegistered, NetworkBusy, NoReply, TooManyDiversions, Unreachable, Relayed, Cancelled, NoAccount, NoRoute, BadScheme, Hops, Extension, Critical, Merged, Full, Ended, Unacknowledged}
 
 unfoldable cause_of : List ℕ → ℕ → Cause
 cause_of word status =
@@ -26,6 +26,7 @@ cause_of word status =
     if bytes_eq word (codes "critical") then Critical else
     if bytes_eq word (codes "merged") then Merged else
     if bytes_eq word (codes "full") then Full else
+    if bytes_eq word (codes "unacknowledged") then Unacknowledged else
     Ended
 
 cause_of-row : (c : Cause) → cause_of (word_of c) (status_of c) ≡ c
@@ -50,6 +51,7 @@ cause_of-row Critical = refl
 cause_of-row Merged = refl
 cause_of-row Full = refl
 cause_of-row Ended = refl
+cause_of-row Unacknowledged = refl
 
 pub told_apart : AreToldApart
 told_apart a b words statuses =

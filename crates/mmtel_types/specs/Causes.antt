@@ -3,7 +3,7 @@ use Rattle.std.specs.Prelude.{◌≡◌, ℕ, List, codes, if◌then◌else◌}
 use Rattle.mmtel_types.specs.declared.causes.Cause.{Cause}
 use Rattle.mmtel_types.specs.declared.causes.Cause.TheVariants.{OutgoingBarred, IncomingBarred, AnonymousRejected, NotRegistered, NetworkBusy, NoReply, TooManyDiversions}
 use Rattle.mmtel_types.specs.declared.causes.Cause.TheVariants.{Unreachable, Relayed, Cancelled, NoAccount, NoRoute, BadScheme, Hops, Extension, Critical, Merged, Full}
-use Rattle.mmtel_types.specs.declared.causes.Cause.TheVariants.{Ended}
+use Rattle.mmtel_types.specs.declared.causes.Cause.TheVariants.{Ended, Unacknowledged}
 
 -- a row of the table
 pub record Row : Type 0 where
@@ -34,6 +34,7 @@ row_of Critical = row (codes "critical") 500
 row_of Merged = row (codes "merged") 482
 row_of Full = row (codes "full") 503
 row_of Ended = row (codes "ended") 0
+row_of Unacknowledged = row (codes "unacknowledged") 500
 
 -- a cause's status and its word
 abbrev pub status_of : Cause → ℕ

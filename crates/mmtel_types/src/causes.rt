@@ -48,6 +48,8 @@ pub enum Cause {
     Full,
     /// The call was answered, and ended.
     Ended,
+    /// No PRACK of a reliable provisional answer came in time (RFC 3262 §3).
+    Unacknowledged,
 }
 
 impl Cause {
@@ -76,6 +78,7 @@ impl Cause {
             Cause::Merged => 482,
             Cause::Full => 503,
             Cause::Ended => 0,
+            Cause::Unacknowledged => 500,
         }
     }
 
@@ -103,6 +106,7 @@ impl Cause {
             Cause::Merged => "merged",
             Cause::Full => "full",
             Cause::Ended => "ended",
+            Cause::Unacknowledged => "unacknowledged",
         }
     }
 }

@@ -1,5 +1,5 @@
-//! What all crates share and what takes no memory: numbers of peers, accounts, calls and rooms, addresses, the sides of a call, moments, sets of privacy words, the causes
-//! of refusals, and the limits of the server.
+//! What all crates share and what takes no memory: numbers of peers, accounts, calls, rooms and subscriptions, addresses, the sides of a call, moments, sets of privacy
+//! words, the causes of refusals, and the limits of the server.
 #![tactic(auto)]
 
 mod addrs;
@@ -13,6 +13,6 @@ mod sides;
 pub use addrs::Addr;
 pub use causes::{Cause, causes_are_told_apart};
 pub use moments::Moment;
-pub use numbers::{Account, CallNo, Failed, Peer, RoomNo};
+pub use numbers::{Account, CallNo, Failed, Peer, RoomNo, SubNo};
 pub use privacy::PrivacySet;
 pub use sides::Side;

@@ -16,6 +16,10 @@ pub struct CallNo(pub u64);
 #[derive(Clone, Copy, Debug, PartialEq, Eq, PartialOrd, Ord)]
 pub struct RoomNo(pub u64);
 
+/// The number of a subscription to the messages that wait in a mailbox: subscriptions are numbered from 1 in the order in which they are made (TS 24.606, RFC 3842).
+#[derive(Clone, Copy, Debug, PartialEq, Eq, PartialOrd, Ord)]
+pub struct SubNo(pub u64);
+
 /// The answer of a file, a link, a keeper, a sink or another thing outside the program that could not do what it was asked.
 #[derive(Clone, Copy, Debug, PartialEq, Eq)]
 pub struct Failed;

@@ -29,6 +29,7 @@ use Rattle.mmtel_message.specs.declared.messages.Start.{Start}
 use Rattle.mmtel_message.proofs.CommaLaws.{parts_none}
 use Rattle.mmtel_message.proofs.ValueLaws.{parts_is_cons, parts_closed, merged_values, merged_again, trim_again, trim_whole}
 use Rattle.mmtel_message.proofs.ExpansionLaws.{Line, Clean, line_named, not_false, named_by, NeedsWords, has_more}
+use Rattle.mmtel_message.proofs.WalkLaws.{first_named, head_value}
 
 -- ---- Privacy's words
 
@@ -143,18 +144,6 @@ named_kept X p a start five room B (h ∷ hs) plain e =
     elim (cases_Bool (is_line X h)) [
       | inl y ↦ cut ∙ rw (plain p a B h (named_by start five room B h e.0) y, y, more) refl
       | inr n ↦ cut ∙ rw (named_other X p a B h n, n, more) refl
-    ]
-
-abbrev pub head_value : List Line → Option (List ℕ)
-head_value [] = None
-head_value (l ∷ ls) = Some l.1
-
-pub first_named : (X : List ℕ) (ls : List Line) → first_value X ls ≡ head_value (named X ls)
-first_named X [] = refl
-first_named X (l ∷ ls) =
-    elim (cases_Bool (is_line X l)) [
-      | inl y ↦ rw y refl
-      | inr n ↦ rw n (first_named X ls)
     ]
 
 pub count_named : (X : List ℕ) (ls : List Line) → count_by (λ l. is_line X l) ls ≡ length (named X ls)

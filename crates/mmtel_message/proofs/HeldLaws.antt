@@ -1,8 +1,8 @@
 -- Lines as they are held: fronts of them, and edits, first among those that were received and then among those that were added.
-use Rattle.std.proofs.Common.{◌≡◌, ℕ, zero, suc, slice_set, inl, inr, ◌+◌, ◌-◌, ◌≤◌, ◌<◌, Bool, true, false, not, List, [], ◌∷◌, ◌++◌, length, take, drop, map, filter, Option, Some, None, refl, sym, ap, subst, get_or, slice_get, drop-cons, take-suc, add-one, append-nil, append_assoc, ◌∙◌, arith}
+use Rattle.std.proofs.Common.{◌≡◌, ℕ, zero, suc, slice_set, inl, inr, ◌+◌, ◌-◌, ◌≤◌, ◌<◌, not, List, [], ◌∷◌, ◌++◌, length, take, drop, filter, Some, None, refl, sym, ap, subst, get_or, slice_get, drop-cons, take-suc, add-one, append-nil, ◌∙◌, arith}
 use Rattle.std.proofs.lemmas.Option.{slice_get_within, unwrap_or-slice_get}
 use Rattle.std.proofs.lemmas.Bool.{cases_Bool}
-use Rattle.std.proofs.lemmas.List.{drop-map, length-map, map-append, take-append-le, take-map}
+use Rattle.std.proofs.lemmas.List.{drop_all, drop-map, length-map, map-append, take-append-le, take-map}
 use Rattle.std.proofs.lemmas.List.Elements.{filter-append}
 use Rattle.std.proofs.Math.Seq.{take-append-add}
 use Rattle.std.specs.Option.{option_map, unwrap_or}
@@ -12,7 +12,7 @@ use Rattle.mmtel_scan.proofs.Positions.{position_no, position_yes}
 use Rattle.mmtel_message.proofs.EditLaws.{set_there, there}
 use Rattle.mmtel_message.proofs.LineLaws.{mapped, unmapped}
 use Rattle.mmtel_message.specs.Held.{held_line, held_lines, lines_of}
-use Rattle.mmtel_message.specs.Message.{Line, dropped, is_line, replaced}
+use Rattle.mmtel_message.specs.Message.{Line, dropped, is_line, named, replaced}
 use Rattle.mmtel_message.specs.declared.held.HeldValue.{HeldValue}
 use Rattle.mmtel_message.specs.declared.held.HeldValue.TheVariants.{Edited}
 
@@ -40,6 +40,67 @@ first_from ls i x e = rw (add-one, drop-cons ls i x (slice_get_within ls i x e),
 -- and last of those up to there
 pub last_to : (ls : List Line) (i : ℕ) (x : Line) → slice_get ls i ≡ Some x → take (i + 1) ls ≡ take i ls ++ x ∷ []
 last_to ls i x e = rw (add-one, take-suc ls i x (slice_get_within ls i x e), sym (here ls i x e)) refl
+
+-- ---- the next line of a name
+
+drop_parted : {A : Type 0} (xs ys : List A) (n : ℕ) → drop n (xs ++ ys) ≡ drop n xs ++ drop (n - length xs) ys
+drop_parted [] ys zero = refl
+drop_parted [] ys (suc n) =
+    let same : suc n - 0 ≡ suc n = omega arith in
+    ap (λ (k : ℕ). drop k ys) (sym same)
+drop_parted (x ∷ xs) ys zero =
+    let none : 0 - length (x ∷ xs) ≡ 0 = omega arith in
+    sym (ap (λ (k : ℕ). x ∷ (xs ++ drop k ys)) none)
+drop_parted (x ∷ xs) ys (suc n) =
+    let less : n - length xs ≡ suc n - length (x ∷ xs) = omega arith in
+    drop_parted xs ys n ∙ ap (λ (k : ℕ). drop n xs ++ drop k ys) less
+
+named_held : (s name : List ℕ) (hs : List (List ℕ × HeldValue)) → named name (held_lines s hs) ≡ held_lines s (filter (λ h. str_eq_ignore_ascii_case h.0 name) hs)
+named_held s name [] = refl
+named_held s name (h ∷ hs) =
+    elim (cases_Bool (str_eq_ignore_ascii_case h.0 name)) [
+      | inl y ↦ rw y (ap (λ (ls : List Line). held_line s h ∷ ls) (named_held s name hs))
+      | inr n ↦ rw n (named_held s name hs)
+    ]
+
+-- the lines of a name from a place on: those among the lines received, then those among the lines added
+named_parted : (s name : List ℕ) (hs : List (List ℕ × HeldValue)) (added : List Line) (n : ℕ) → named name (drop n (lines_of s hs added)) ≡ held_lines s (filter (λ h. str_eq_ignore_ascii_case h.0 name) (drop n hs)) ++ named name (drop (n - length hs) added)
+named_parted s name hs added n =
+    let many : length (held_lines s hs) ≡ length hs = length-map hs (λ h. held_line s h) in
+    let front : drop n (held_lines s hs) ≡ held_lines s (drop n hs) = drop-map (λ h. held_line s h) n hs in
+    let parts : drop n (lines_of s hs added) ≡ held_lines s (drop n hs) ++ drop (n - length hs) added =
+    drop_parted (held_lines s hs) added n ∙ ap (λ (k : ℕ). drop n (held_lines s hs) ++ drop (n - k) added) many ∙ ap (λ (ls : List Line). ls ++ drop (n - length hs) added) front in
+    ap (λ (ls : List Line). named name ls) parts
+    ∙ filter-append (λ l. is_line name l) (held_lines s (drop n hs)) (drop (n - length hs) added)
+    ∙ ap (λ (ls : List Line). ls ++ named name (drop (n - length hs) added)) (named_held s name (drop n hs))
+
+-- the next one is among the lines received
+pub next_received : (s name : List ℕ) (hs : List (List ℕ × HeldValue)) (added : List Line) (from : ℕ) (h : List ℕ × HeldValue) (after : ℕ) → from < after → after ≤ length hs → filter (λ x. str_eq_ignore_ascii_case x.0 name) (drop from hs) ≡ h ∷ filter (λ x. str_eq_ignore_ascii_case x.0 name) (drop after hs) → named name (drop from (lines_of s hs added)) ≡ held_line s h ∷ named name (drop after (lines_of s hs added))
+next_received s name hs added from h after later within found =
+    let same : from - length hs ≡ after - length hs = omega arith in
+    let first : held_lines s (filter (λ x. str_eq_ignore_ascii_case x.0 name) (drop from hs)) ++ named name (drop (from - length hs) added) ≡ held_line s h ∷ (held_lines s (filter (λ x. str_eq_ignore_ascii_case x.0 name) (drop after hs)) ++ named name (drop (after - length hs) added)) =
+    ap (λ (k : ℕ). held_lines s (filter (λ x. str_eq_ignore_ascii_case x.0 name) (drop from hs)) ++ named name (drop k added)) same
+    ∙ ap (λ (xs : List (List ℕ × HeldValue)). held_lines s xs ++ named name (drop (after - length hs) added)) found in
+    named_parted s name hs added from ∙ first ∙ ap (λ (ls : List Line). held_line s h ∷ ls) (sym (named_parted s name hs added after))
+
+none_received : (s name : List ℕ) (hs : List (List ℕ × HeldValue)) (added : List Line) (from : ℕ) → filter (λ x. str_eq_ignore_ascii_case x.0 name) (drop from hs) ≡ [] → named name (drop from (lines_of s hs added)) ≡ named name (drop (from - length hs) added)
+none_received s name hs added from none = named_parted s name hs added from ∙ ap (λ (xs : List (List ℕ × HeldValue)). held_lines s xs ++ named name (drop (from - length hs) added)) none
+
+-- behind those received stand those added
+behind_received : (s name : List ℕ) (hs : List (List ℕ × HeldValue)) (added : List Line) (n : ℕ) → named name (drop (length hs + n) (lines_of s hs added)) ≡ named name (drop n added)
+behind_received s name hs added n =
+    let rest : length hs + n - length hs ≡ n = omega arith in
+    none_received s name hs added (length hs + n) (ap (λ (xs : List (List ℕ × HeldValue)). filter (λ x. str_eq_ignore_ascii_case x.0 name) xs) (drop_all (length hs + n) hs (omega arith)))
+    ∙ ap (λ (k : ℕ). named name (drop k added)) rest
+
+-- the next one is among the lines added
+pub next_added : (s name : List ℕ) (hs : List (List ℕ × HeldValue)) (added : List Line) (from : ℕ) (l : Line) (after : ℕ) → filter (λ x. str_eq_ignore_ascii_case x.0 name) (drop from hs) ≡ [] → named name (drop (from - length hs) added) ≡ l ∷ named name (drop after added) → named name (drop from (lines_of s hs added)) ≡ l ∷ named name (drop (length hs + after) (lines_of s hs added))
+next_added s name hs added from l after none found =
+    none_received s name hs added from none ∙ found ∙ ap (λ (ls : List Line). l ∷ ls) (sym (behind_received s name hs added after))
+
+-- there is none
+pub next_nowhere : (s name : List ℕ) (hs : List (List ℕ × HeldValue)) (added : List Line) (from : ℕ) → filter (λ x. str_eq_ignore_ascii_case x.0 name) (drop from hs) ≡ [] → named name (drop (from - length hs) added) ≡ [] → named name (drop from (lines_of s hs added)) ≡ []
+next_nowhere s name hs added from none nothing = none_received s name hs added from none ∙ nothing
 
 -- ---- edits
 

@@ -5,6 +5,7 @@ mod EditLaws
 mod EntryLaws
 pub mod ExpansionLaws
 mod FieldLaws
+mod FiveLaws
 mod FoldLaws
 mod HeaderLaws
 mod HeldLaws

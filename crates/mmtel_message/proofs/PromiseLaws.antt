@@ -37,7 +37,8 @@ use Rattle.mmtel_message.specs.declared.messages.Start.{Start}
 use Rattle.mmtel_message.specs.declared.messages.Start.TheVariants.{Request, Status}
 use Rattle.mmtel_message.proofs.StartLaws.{after_text_whole, not_below}
 use Rattle.mmtel_message.proofs.ExpansionLaws.{Line, Clean, line_named, not_false, or_left, named_by, has_more, AllOf, IsSingle, singles}
-use Rattle.mmtel_message.proofs.CanonicalLaws.{or_true, named_other, texts_over, first_named, head_value, count_named, first_length}
+use Rattle.mmtel_message.proofs.CanonicalLaws.{or_true, named_other, texts_over, count_named, first_length}
+use Rattle.mmtel_message.proofs.WalkLaws.{first_named, head_value}
 use Rattle.mmtel_message.proofs.ReadLaws.{canonical, ok_is, with_five}
 use Rattle.mmtel_message.proofs.EntryLaws.{clean_read}
 

@@ -16,13 +16,14 @@ use Rattle.mmtel_message.specs.Fields.{call_in, first_part, five_at, only_value,
 use Rattle.mmtel_message.specs.Message.{Line, line, first_value, is_line, named}
 use Rattle.mmtel_message.specs.Promises.{IsOnly}
 use Rattle.mmtel_message.specs.Replies.{bare, reply_with}
-use Rattle.mmtel_message.specs.Responses.{AreLinesWith, AreOthers, BringsNo, BringsNone, CanBeSent, IsSendable, Reply, added_lines, call_lines, completed_lines, contact_lines, five_answered, heard_lines, makes_dialog, names_contact, own_lines, party_lines, response, route_lines, tag_due, to_answered, to_line, to_value, via_answered, via_lines}
+use Rattle.mmtel_message.specs.Responses.{AreLinesWith, AreOthers, BringsNo, BringsNone, CanBeSent, IsSendable, Reply, added_lines, call_lines, completed_lines, contact_lines, five_answered, heard_lines, makes_dialog, names_contact, own_lines, party_lines, refreshes_target, response, route_lines, tag_due, to_answered, to_line, to_value, via_answered, via_lines}
 use Rattle.mmtel_message.specs.Vias.{completed}
 use Rattle.mmtel_message.specs.declared.fields.Five.{Five}
 use Rattle.mmtel_message.specs.declared.fields.Via.{Via}
 use Rattle.mmtel_message.specs.declared.messages.Start.{Start}
 use Rattle.mmtel_message.specs.declared.messages.Start.TheVariants.{Status}
-use Rattle.mmtel_message.proofs.CanonicalLaws.{first_named, head_value, only_kept, only_named}
+use Rattle.mmtel_message.proofs.CanonicalLaws.{only_kept, only_named}
+use Rattle.mmtel_message.proofs.WalkLaws.{first_named, head_value}
 use Rattle.mmtel_message.proofs.ExpansionLaws.{line_named, or_left}
 use Rattle.mmtel_message.proofs.LineLaws.{and_false}
 use Rattle.mmtel_message.proofs.PromiseLaws.{fields_are, named_none, parties_are}
@@ -270,22 +271,27 @@ response_five start ls r five can is =
 
 -- ---- a response that says no way to the server
 
-over : (code : ℕ) → 300 ≤ code → (nat_le code 299 ≡ false) × ((code == 202) ≡ false)
-over code le = (grind (arith, nat_tests), grind (arith, nat_tests))
+over : (code : ℕ) → 300 ≤ code → (nat_le code 299 ≡ false) × ((code == 200) ≡ false) × ((code == 202) ≡ false)
+over code le = (grind (arith, nat_tests), grind (arith, nat_tests), grind (arith, nat_tests))
 
 pub late : (code : ℕ) (start : Start) → 300 ≤ code → names_contact code start ≡ false
 late code start le =
     let o = over code le in
-    rw (o.0, o.1, and_false (nat_le 101 code)) refl
+    rw (o.0, o.1, o.2, and_false (nat_le 101 code), and_false (nat_le 200 code)) refl
 
 status_none : (code n : ℕ) (phrase : List ℕ) → names_contact code (Status n phrase) ≡ false
-status_none code n phrase = rw (and_false (nat_le 101 code && nat_le code 299), and_false (code == 202)) refl
+status_none code n phrase = rw (
+  and_false (nat_le 101 code && nat_le code 299),
+  and_false (code == 200),
+  and_false (code == 202),
+  and_false (nat_le 200 code && nat_le code 299),
+) refl
 
 added_same : (code : ℕ) (a b : Start) (ks ls : List Line) (contact : List ℕ) (passed more : List Line) (body : List ℕ) → names_contact code a ≡ false → names_contact code b ≡ false → added_lines code a ks contact passed more body ≡ added_lines code b ls contact passed more body
 unfolding added_lines route_lines contact_lines
 added_same code a b ks ls contact passed more body x y =
-    let in_a = or_left (makes_dialog code a) (code == 202 && is_method (codes "REFER") a) x in
-    let in_b = or_left (makes_dialog code b) (code == 202 && is_method (codes "REFER") b) y in
+    let in_a = or_left (makes_dialog code a) (refreshes_target code a) x in
+    let in_b = or_left (makes_dialog code b) (refreshes_target code b) y in
     rw (x, y, in_a.0, in_b.0) refl
 
 pub bare_is : (start : Start) (code : ℕ) (phrase : List ℕ) (ls : List Line) → names_contact code start ≡ false → response start ls (bare code phrase) ≡ reply_with code phrase ls

@@ -23,7 +23,8 @@ more_compact_forms =
     (codes "e", codes "Content-Encoding") ∷
     (codes "r", codes "Refer-To") ∷
     (codes "b", codes "Referred-By") ∷
-    (codes "o", codes "Event") ∷ []
+    (codes "o", codes "Event") ∷
+    (codes "x", codes "Session-Expires") ∷ []
 
 -- names without a compact form: what routes and identifies
 abbrev pub routing_names : List (List ℕ)
@@ -77,7 +78,6 @@ network_names =
     codes "Expires" ∷
     codes "RSeq" ∷
     codes "RAck" ∷
-    codes "Session-Expires" ∷
     codes "Min-SE" ∷ []
 
 -- the name that this one stands for, by its long or compact form and without regard to case

@@ -1,4 +1,4 @@
--- The phrases of the statuses that the server makes (RFC 3261 §21, RFC 3515 §2.4.2 for 202, RFC 5079 §5 for 433); no bytes for any other.
+-- The phrases of the statuses that the server makes (RFC 3261 §21, RFC 3515 §2.4.2 for 202, RFC 4028 §6 for 422, RFC 5079 §5 for 433, RFC 6665 §8.3.2 for 489); no bytes for any other.
 use Rattle.std.specs.Prelude.{ℕ, ◌==◌, List, [], ◌∷◌, ◌++◌, codes, if◌then◌else◌}
 
 abbrev pub Phrases : Type 0
@@ -22,6 +22,7 @@ first_phrases =
 abbrev pub further_phrases : Phrases
 further_phrases =
     (420, codes "Bad Extension") ∷
+    (422, codes "Session Interval Too Small") ∷
     (433, codes "Anonymity Disallowed") ∷
     (480, codes "Temporarily Unavailable") ∷
     (481, codes "Call/Transaction Does Not Exist") ∷
@@ -30,6 +31,7 @@ further_phrases =
     (486, codes "Busy Here") ∷
     (487, codes "Request Terminated") ∷
     (488, codes "Not Acceptable Here") ∷
+    (489, codes "Bad Event") ∷
     (491, codes "Request Pending") ∷
     (500, codes "Server Internal Error") ∷
     (503, codes "Service Unavailable") ∷

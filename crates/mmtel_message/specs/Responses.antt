@@ -74,13 +74,17 @@ call_lines ls = named (codes "Call-ID") ls ++ named (codes "CSeq") ls
 
 -- ---- Record-Route as received, and Contact
 
--- a response to an INVITE from 101 to 299 makes a dialog (§12.1.1)
+-- a response makes a dialog: from 101 to 299 to an INVITE (§12.1.1), and the 200 of a SUBSCRIBE (RFC 6665 §4.2.1)
 abbrev pub makes_dialog : ℕ → Start → Bool
-makes_dialog code start = (nat_le 101 code && nat_le code 299) && is_method (codes "INVITE") start
+makes_dialog code start = ((nat_le 101 code && nat_le code 299) && is_method (codes "INVITE") start) || (code == 200 && is_method (codes "SUBSCRIBE") start)
 
--- a response that says where the server is reached: one that makes a dialog, and the 202 of a REFER (RFC 3515 §2.2)
+-- it refreshes the target of its dialog: the 202 of a REFER (RFC 3515 §2.2), and the success of an UPDATE (RFC 3311 §5.2)
+abbrev pub refreshes_target : ℕ → Start → Bool
+refreshes_target code start = (code == 202 && is_method (codes "REFER") start) || ((nat_le 200 code && nat_le code 299) && is_method (codes "UPDATE") start)
+
+-- a response that says where the server is reached
 abbrev pub names_contact : ℕ → Start → Bool
-names_contact code start = makes_dialog code start || (code == 202 && is_method (codes "REFER") start)
+names_contact code start = makes_dialog code start || refreshes_target code start
 
 -- it says no way to the server
 abbrev pub SaysNoWay : ℕ → Start → Type 0

@@ -3,7 +3,7 @@ ghost use Rattle.std.specs.Prelude.{◌≡◌, ◌∷◌, ◌++◌, [], IfOk, On
 ghost use Rattle.mmtel_message.specs.Message.{line, named};
 
 use crate::held::Lines;
-use crate::messages::{Line, is_named};
+use crate::messages::Line;
 use mmtel_scan::{List, NoMemory, Text, add_number};
 use std::alloc::Global;
 
@@ -75,24 +75,8 @@ pub fn append_lines(alloc: Global, out: &mut List<Line>, lines: &[Line]) -> Resu
     Ok(())
 }
 
-/// Adds the line of this spelling and value, where it has the name.
-#[tactic(auto, unfolding(crate::specs::Message::line))]
-fn add_if_named(
-    alloc: Global,
-    out: &mut List<Line>,
-    name: &[u8],
-    spelled: &[u8],
-    value: &[u8],
-) -> Result<(), NoMemory>
-    ensures { OnOk result (out.new ≡ out.old ++ named name.now ((spelled.now, value.now) ∷ [])) }
-{
-    if !is_named(spelled, name) {
-        return Ok(());
-    }
-    add_bytes(alloc, out, spelled, value)
-}
-
 /// Adds those of the lines that have the name, as they stand and in their order. For want of memory a front of them.
+#[tactic(auto, unfolding(crate::specs::Message::line))]
 pub fn append_named(
     alloc: Global,
     out: &mut List<Line>,
@@ -101,9 +85,10 @@ pub fn append_named(
 ) -> Result<(), NoMemory>
     ensures { OnOk result (out.new ≡ out.old ++ named name.now lines.now.values) }
 {
-    for i in 0..lines.len() {
-        let (spelled, value) = lines.at(i);
-        add_if_named(alloc, out, name, spelled, value)?;
+    let mut from = 0;
+    'lines: while let Some(line) = lines.next_named(name, from) {
+        add_bytes(alloc, out, line.name, line.value)?;
+        from = line.after;
     }
     Ok(())
 }

@@ -6,7 +6,8 @@ ghost use Rattle.mmtel_message.specs.Held.{held_line, held_lines, value_of};
 ghost use Rattle.mmtel_message.specs.Values.{base, values_of};
 ghost use Rattle.mmtel_message.specs.Expansion.{listed_names, merged_text, privacy_text, allow_text, at_first, lines_for, expanded_from, expanded};
 
-use crate::held::{Held, HeldValue, Lines, part_of, value_of};
+use crate::edits::Edit;
+use crate::held::{Held, HeldValue, Lines, placed, placed_part, value_of};
 use crate::messages::{has_line, is_named, line_texts};
 use crate::values::{Mode, joined_by, next_value, values_in};
 use mmtel_lex::{List, NoMemory, Text};
@@ -67,21 +68,11 @@ fn add_values(
     let mut next = Some(0);
     'values: while let Some(from) = next {
         let (place, after) = next_value(Mode::Plain, text, from);
-        let one = part_of(alloc, bytes, value, place)?;
+        let one = placed_part(alloc, bytes, value, place)?;
         add_held(alloc, out, name, one)?;
         next = after;
     }
     Ok(())
-}
-
-/// The same value.
-fn value_copied(alloc: Global, value: &HeldValue) -> Result<HeldValue, NoMemory>
-    ensures { IfOk result (λ v. v ≡ value.now) }
-{
-    match value {
-        HeldValue::Received(place) => Ok(HeldValue::Received(*place)),
-        HeldValue::Edited(text) => Ok(HeldValue::Edited(text.copied(alloc)?)),
-    }
 }
 
 /// The values of several texts as one list, with a separator between them.
@@ -131,9 +122,9 @@ fn merged_value(
     ensures { IfOk result (λ v. value_of bytes.now v ≡ text.now) }
 {
     if value_of(bytes, first) == text {
-        return value_copied(alloc, first);
+        return placed(alloc, bytes, first);
     }
-    Ok(HeldValue::Edited(Text::of(alloc, text)?))
+    Ok(HeldValue::Edited(Edit::of(Text::of(alloc, text)?)))
 }
 
 /// Adds a line of a name whose lines are merged: the text of its values at the first one, nothing at further ones.
@@ -211,7 +202,7 @@ fn add_lines_for(
     if is_listed(name) {
         return add_values(alloc, out, bytes, name, &line.1);
     }
-    let value = value_copied(alloc, &line.1)?;
+    let value = placed(alloc, bytes, &line.1)?;
     add_held(alloc, out, name, value)
 }
 
@@ -235,7 +226,7 @@ fn expanded_in(
 /// The lines of the canonical text of a message that has these lines.
 ///
 /// A part of a value that is a place is a place. So is the merged text of Privacy or Allow where it says what the first line of the name says, as it does where that is the
-/// only one and is canonical. A part of an edit is an edit, also where it stands among the bytes: a line that was folded keeps no place.
+/// only one and is canonical. A part of an edit, as a line is that was folded, is a place where it was taken from the bytes in one piece.
 pub fn expanded(alloc: Global, bytes: &[u8], lines: &[Held]) -> Result<List<Held>, NoMemory>
     ensures { IfOk result (λ ls. held_lines bytes.now ls ≡ expanded (held_lines bytes.now lines.now)) }
 {

@@ -77,20 +77,26 @@ pub struct FiveLines<'a> {
     pub cseq: Only<'a>,
 }
 
-/// What is found with a further line.
-fn with_line<'a>(found: FiveLines<'a>, name: &[u8], value: &'a [u8]) -> FiveLines<'a>
-    ensures via { (ls : List Line) → first_behind (codes "Via") (option_copied found.entry.via) ((name.now, value.now) ∷ ls) ≡ first_behind (codes "Via") (option_copied result.via) ls }
-    ensures from { (ls : List Line) → only_behind (codes "From") found.entry.from ((name.now, value.now) ∷ ls) ≡ only_behind (codes "From") result.from ls }
-    ensures to { (ls : List Line) → only_behind (codes "To") found.entry.to ((name.now, value.now) ∷ ls) ≡ only_behind (codes "To") result.to ls }
-    ensures call_id { (ls : List Line) → only_behind (codes "Call-ID") found.entry.call_id ((name.now, value.now) ∷ ls) ≡ only_behind (codes "Call-ID") result.call_id ls }
-    ensures cseq { (ls : List Line) → only_behind (codes "CSeq") found.entry.cseq ((name.now, value.now) ∷ ls) ≡ only_behind (codes "CSeq") result.cseq ls }
-{
-    FiveLines {
-        via: first_with(found.via, is_named(name, b"Via"), value),
-        from: found.from.with(is_named(name, b"From"), value),
-        to: found.to.with(is_named(name, b"To"), value),
-        call_id: found.call_id.with(is_named(name, b"Call-ID"), value),
-        cseq: found.cseq.with(is_named(name, b"CSeq"), value),
+impl<'a> FiveLines<'a> {
+    /// Adds what a further line says. A line whose name has another length than these is of none of the five.
+    #[tactic(auto, using(crate::proofs::FiveLaws::first_over, crate::proofs::FiveLaws::only_over))]
+    fn add(&mut self, name: &[u8], value: &'a [u8])
+        ensures via { (ls : List Line) → first_behind (codes "Via") (option_copied self.old.via) ((name.now, value.now) ∷ ls) ≡ first_behind (codes "Via") (option_copied self.new.via) ls }
+        ensures from { (ls : List Line) → only_behind (codes "From") self.old.from ((name.now, value.now) ∷ ls) ≡ only_behind (codes "From") self.new.from ls }
+        ensures to { (ls : List Line) → only_behind (codes "To") self.old.to ((name.now, value.now) ∷ ls) ≡ only_behind (codes "To") self.new.to ls }
+        ensures call_id { (ls : List Line) → only_behind (codes "Call-ID") self.old.call_id ((name.now, value.now) ∷ ls) ≡ only_behind (codes "Call-ID") self.new.call_id ls }
+        ensures cseq { (ls : List Line) → only_behind (codes "CSeq") self.old.cseq ((name.now, value.now) ∷ ls) ≡ only_behind (codes "CSeq") self.new.cseq ls }
+    {
+        match name.len() {
+            2 => self.to = self.to.with(is_named(name, b"To"), value),
+            3 => self.via = first_with(self.via, is_named(name, b"Via"), value),
+            4 => {
+                self.from = self.from.with(is_named(name, b"From"), value);
+                self.cseq = self.cseq.with(is_named(name, b"CSeq"), value);
+            }
+            7 => self.call_id = self.call_id.with(is_named(name, b"Call-ID"), value),
+            _ => {}
+        }
     }
 }
 
@@ -111,7 +117,7 @@ pub fn five_lines<'a>(lines: &Lines<'a>) -> FiveLines<'a>
     };
     for i in 0..lines.len() {
         let (name, value) = lines.at(i);
-        found = with_line(found, name, value);
+        found.add(name, value);
     }
     found
 }

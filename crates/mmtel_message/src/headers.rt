@@ -6,6 +6,7 @@ ghost use Rattle.mmtel_message.specs.Held.{at_place, held_line, held_lines, valu
 ghost use Rattle.mmtel_message.specs.Names.{long_name};
 ghost use Rattle.mmtel_message.specs.Headers.{header_at, header_line, is_value_byte};
 
+use crate::edits::Edit;
 use crate::held::{Held, HeldValue, Span, at_place, part_of, value_of};
 use crate::names::long_name;
 use crate::values::trimmed_place;
@@ -50,7 +51,7 @@ fn header_line(alloc: Global, bytes: &[u8], line: &HeldValue) -> Result<Held, No
     ensures { IfOk result (λ h. held_line bytes.now h ≡ header_line (value_of bytes.now line.now)) }
 {
     match header(value_of(bytes, line)) {
-        None => Ok((Text::new(), HeldValue::Edited(Text::new()))),
+        None => Ok((Text::new(), HeldValue::Edited(Edit::of(Text::new())))),
         Some((name, place)) => {
             let value = part_of(alloc, bytes, line, place)?;
             let name = Text::of(alloc, long_name(name))?;

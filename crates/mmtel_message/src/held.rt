@@ -1,9 +1,12 @@
 //! How a message is held: the bytes that were received, and of each line the place of its value among them, or an edit.
-ghost use Rattle.std.specs.Prelude.{◌≡◌, ◌<◌, ◌≤◌, ◌+◌, ◌==◌, [], ◌∷◌, ◌++◌, Some, IfOk, IfSome, length, map, take, drop, slice_get};
+ghost use Rattle.std.specs.Prelude.{◌≡◌, ◌<◌, ◌≤◌, ◌+◌, ◌==◌, [], ◌∷◌, ◌++◌, Some, IfOk, IfSome, MatchOption, length, filter, map, take, drop, slice_get};
 ghost use Rattle.std.specs.Option.{option_map};
+ghost use Rattle.std.specs.Str.{str_eq_ignore_ascii_case};
 ghost use Rattle.mmtel_message.specs.Held.{at_place, lines_of, place_of, span_at, value_of};
+ghost use Rattle.mmtel_message.specs.Message.{named};
 
-use crate::messages::Line;
+use crate::edits::Edit;
+use crate::messages::{Line, is_named};
 use mmtel_lex::{NoMemory, Text};
 use std::alloc::Global;
 use std::marker::Model;
@@ -21,7 +24,7 @@ pub struct Span {
 #[derive(Drop)]
 pub enum HeldValue {
     Received(Span),
-    Edited(Text),
+    Edited(Edit),
 }
 
 /// A line that was received: its name and its value.
@@ -42,7 +45,18 @@ pub fn value_of<'a>(received: &'a [u8], value: &'a HeldValue) -> &'a [u8]
 {
     match value {
         HeldValue::Received(place) => at_place(received, *place),
-        HeldValue::Edited(text) => text.bytes(),
+        HeldValue::Edited(edit) => edit.bytes(),
+    }
+}
+
+/// The place among the bytes received of a part of what stands at a place there.
+fn within(place: Span, received: &[u8], part: Span) -> Span
+    requires { part.from + part.len ≤ length (at_place received.now place) }
+    ensures { at_place received.now result ≡ at_place (at_place received.now place) part }
+{
+    Span {
+        from: place.from + part.from,
+        len: part.len,
     }
 }
 
@@ -57,15 +71,33 @@ pub fn part_of(
     ensures { IfOk result (λ v. value_of received.now v ≡ at_place (value_of received.now value.now) part) }
 {
     match value {
-        HeldValue::Received(place) => Ok(HeldValue::Received(Span {
-            from: place.from + part.from,
-            len: part.len,
-        })),
-        HeldValue::Edited(text) => Ok(HeldValue::Edited(Text::of(
-            alloc,
-            at_place(text.bytes(), part),
-        )?)),
+        HeldValue::Received(place) => Ok(HeldValue::Received(within(*place, received, part))),
+        HeldValue::Edited(edit) => Ok(HeldValue::Edited(edit.part(alloc, part)?)),
     }
+}
+
+/// The same as a line of a message has it: a place also where the part of an edit was taken from the bytes received in one piece.
+pub fn placed_part(
+    alloc: Global,
+    received: &[u8],
+    value: &HeldValue,
+    part: Span,
+) -> Result<HeldValue, NoMemory>
+    requires { part.from + part.len ≤ length (value_of received.now value.now) }
+    ensures { IfOk result (λ v. value_of received.now v ≡ at_place (value_of received.now value.now) part) }
+{
+    match value {
+        HeldValue::Received(place) => Ok(HeldValue::Received(within(*place, received, part))),
+        HeldValue::Edited(edit) => edit.placed(alloc, received, part),
+    }
+}
+
+/// The whole value as a line of a message has it.
+pub fn placed(alloc: Global, received: &[u8], value: &HeldValue) -> Result<HeldValue, NoMemory>
+    ensures { IfOk result (λ v. value_of received.now v ≡ value_of received.now value.now) }
+{
+    let len = value_of(received, value).len();
+    placed_part(alloc, received, value, Span { from: 0, len })
 }
 
 fn place_of(value: &HeldValue) -> Option<Span>
@@ -75,6 +107,37 @@ fn place_of(value: &HeldValue) -> Option<Span>
         HeldValue::Received(place) => Some(*place),
         HeldValue::Edited(_) => None,
     }
+}
+
+/// The first of these lines from a place on that has the name, and the place behind it.
+fn line_from<'a, V>(
+    lines: &'a [(Text, V)],
+    name: &[u8],
+    from: usize,
+) -> Option<(&'a (Text, V), usize)>
+    ensures line { MatchOption result (filter (λ l. str_eq_ignore_ascii_case l.0 name.now) (drop from lines.now) ≡ [])
+        (λ x. filter (λ l. str_eq_ignore_ascii_case l.0 name.now) (drop from lines.now) ≡
+        x.0.now ∷ filter (λ l. str_eq_ignore_ascii_case l.0 name.now) (drop x.1 lines.now)) }
+    ensures later { IfSome result (λ x. (from < x.1) × (x.1 ≤ length lines.now)) }
+{
+    for i in from..lines.len() {
+        let line = &lines[i];
+        if is_named(line.0.bytes(), name) {
+            return Some((line, i + 1));
+        }
+    }
+    None
+}
+
+/// A line that was found by its name, and the place behind it.
+#[derive(Clone, Copy)]
+pub struct NamedLine<'a> {
+    /// Its name, as it is spelled.
+    pub name: &'a [u8],
+    /// Its value.
+    pub value: &'a [u8],
+    /// The place behind it, from which a further one is looked for.
+    pub after: usize,
 }
 
 /// The header lines of a message, in order.
@@ -110,6 +173,13 @@ impl<'a> Lines<'a> {
             held,
             added,
         }
+    }
+
+    /// The bytes that were received, the lines that were received as such, and the lines that were added.
+    pub(crate) fn parts(&self) -> (&'a [u8], &'a [Held], &'a [Line])
+        ensures { self.now.values ≡ lines_of result.0.now result.1.now result.2.now }
+    {
+        (self.received, self.held, self.added)
     }
 
     /// How many there are.
@@ -154,6 +224,32 @@ impl<'a> Lines<'a> {
         ensures last { take (place + 1) self.now.values ≡ take place self.now.values ++ (result.0.now, result.1.now) ∷ [] }
     {
         self.item(place)
+    }
+
+    /// The first line of the name from a place on; the name is compared without case (RFC 3261 §7.3.1).
+    pub fn next_named(&self, name: &[u8], from: usize) -> Option<NamedLine<'a>>
+        ensures line { MatchOption result (named name.now (drop from self.now.values) ≡ [])
+            (λ l. named name.now (drop from self.now.values) ≡ (l.name.now, l.value.now) ∷ named name.now (drop l.after self.now.values)) }
+        ensures later { IfSome result (λ l. (from < l.after) × (l.after ≤ length self.now.values)) }
+    {
+        match line_from(self.held, name, from) {
+            Some((line, after)) => Some(NamedLine {
+                name: line.0.bytes(),
+                value: value_of(self.received, &line.1),
+                after,
+            }),
+            None => {
+                let received = self.held.len();
+                match line_from(self.added, name, from.saturating_sub(received)) {
+                    None => None,
+                    Some((line, after)) => Some(NamedLine {
+                        name: line.0.bytes(),
+                        value: line.1.bytes(),
+                        after: received + after,
+                    }),
+                }
+            }
+        }
     }
 
     /// Those before one.

@@ -3,6 +3,7 @@
 
 mod addresses;
 mod building;
+mod edits;
 mod entries;
 mod expansion;
 mod faults;
@@ -31,7 +32,7 @@ pub use entries::is_place;
 pub use faults::{is_method, is_readable, is_request};
 pub use field_refs::{CSeqRef, FiveRef, ViaRef, cseq_ref, five_ref, via_ref};
 pub use fields::{CSeq, Five, Via, read_cseq, read_five, read_via};
-pub use held::{Lines, Span};
+pub use held::{Lines, NamedLine, Span};
 pub use line_values::ValuesIn;
 pub use messages::{
     Line, Msg, Start, first_of, has_line, is_line, is_named, line_texts, values_named,

@@ -5,7 +5,7 @@ ghost use Rattle.std.specs.Option.{MatchOption};
 ghost use Rattle.mmtel_message.specs.Message.{line_texts};
 
 use crate::held::Lines;
-use crate::messages::{Msg, is_named};
+use crate::messages::Msg;
 use std::marker::Model;
 
 /// The value of the first line of the name from this place on, and the place behind it.
@@ -13,13 +13,10 @@ fn next_value<'a>(lines: &Lines<'a>, name: &[u8], from: usize) -> Option<(&'a [u
     ensures { MatchOption result (line_texts name.now (drop from lines.now.values) ≡ [])
         (λ x. line_texts name.now (drop from lines.now.values) ≡ x.0.now ∷ line_texts name.now (drop x.1 lines.now.values)) }
 {
-    for i in from..lines.len() {
-        let (spelled, value) = lines.at(i);
-        if is_named(spelled, name) {
-            return Some((value, i + 1));
-        }
+    match lines.next_named(name, from) {
+        None => None,
+        Some(line) => Some((line.value, line.after)),
     }
-    None
 }
 
 /// The values of the lines of a name, in order, borrowed from their message. Contracts see it as the list of those that are left.

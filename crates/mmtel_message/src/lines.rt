@@ -7,6 +7,7 @@ ghost use Rattle.mmtel_message.specs.Held.{at_place, value_of};
 ghost use Rattle.mmtel_message.specs.Places.{IsLater, IsWithin, continues, rest_at};
 ghost use Rattle.mmtel_message.specs.Lines.{begins, first_break, last_line_end, whole_end, width, split, unfolded, unfolded_from, starts_blank};
 
+use crate::edits::Edit;
 use crate::held::{HeldValue, Span, at_place};
 use mmtel_lex::{List, NoMemory, Text};
 use mmtel_scan::{Class, split_run, trim_end};
@@ -109,16 +110,14 @@ fn continuing(head: &[u8], next: Option<usize>) -> Option<usize>
     }
 }
 
-/// Adds a piece to a line, behind a gap.
-fn add(alloc: Global, line: &mut Text, gap: &[u8], piece: &[u8]) -> Result<(), NoMemory>
-    ensures { OnOk result (line.new ≡ line.old ++ gap.now ++ piece.now) }
-{
-    line.push(alloc, gap)?;
-    line.push(alloc, piece)
-}
-
-/// Adds a piece to a line, behind a gap of blanks, and leaves no blank at the line's end.
-fn add_trimmed(alloc: Global, line: &mut Text, gap: &[u8], piece: &[u8]) -> Result<(), NoMemory>
+/// Adds a piece, which was taken from that place on, to a line, behind a gap of blanks, and leaves no blank at the line's end.
+fn add_trimmed(
+    alloc: Global,
+    line: &mut Edit,
+    gap: &[u8],
+    piece: &[u8],
+    from: usize,
+) -> Result<(), NoMemory>
     requires gap { IsAll Blank gap.now }
     requires end { Stops Blank (reverse line.old) }
     ensures { OnOk result (line.new ≡ trimmed Blank (line.old ++ gap.now ++ piece.now)) }
@@ -127,7 +126,7 @@ fn add_trimmed(alloc: Global, line: &mut Text, gap: &[u8], piece: &[u8]) -> Resu
     if kept.is_empty() {
         return Ok(());
     }
-    add(alloc, line, gap, kept)
+    line.join(alloc, gap, kept, from)
 }
 
 /// The text of a line with those that continue it, the first of which begins at a place, and where the line behind them begins.
@@ -136,25 +135,27 @@ fn folded(
     head: &[u8],
     first: Span,
     next: usize,
-) -> Result<(Text, Option<usize>), NoMemory>
+) -> Result<(Edit, Option<usize>), NoMemory>
     requires { next ≤ length head.now }
     ensures line { IfOk result (λ x. unfolded_from (at_place head.now first) (split (drop next head.now)) ≡ x.0 ∷ unfolded (rest_at head.now x.1)) }
     ensures later { IfOk result (λ x. IfSome x.1 (λ n. (next ≤ n) × (n ≤ length head.now))) }
 {
     // The line so far in three parts: a front without a blank at its end, the gap behind it, and the piece read last,
     // whose blanks at its end go where another line continues it. The front only grows, so no byte is added twice.
-    let mut front = Text::new();
+    let mut front = Edit::of(Text::new());
     let mut gap: &[u8] = b"";
     let mut piece = at_place(head, first);
+    let mut taken = first.from;
     let mut rest = Some(next);
     'lines: while let Some(from) = continuing(head, rest) {
         let (line, after) = next_line(head, from);
-        add_trimmed(alloc, &mut front, gap, piece)?;
+        add_trimmed(alloc, &mut front, gap, piece, taken)?;
         gap = b" ";
         piece = split_run(Class::Blank, at_place(head, line)).1;
+        taken = (line.from + line.len).saturating_sub(piece.len());
         rest = after;
     }
-    add(alloc, &mut front, gap, piece)?;
+    front.join(alloc, gap, piece, taken)?;
     Ok((front, rest))
 }
 
@@ -173,8 +174,8 @@ fn whole_line(
     match continuing(head, after) {
         None => Ok((HeldValue::Received(line), after)),
         Some(next) => {
-            let (text, after) = folded(alloc, head, line, next)?;
-            Ok((HeldValue::Edited(text), after))
+            let (edit, after) = folded(alloc, head, line, next)?;
+            Ok((HeldValue::Edited(edit), after))
         }
     }
 }

@@ -7,6 +7,7 @@ ghost use Rattle.mmtel_message.specs.declared.values.Mode.TheVariants.{Plain};
 ghost use Rattle.mmtel_message.specs.Held.{held_lines, lines_of, value_of};
 ghost use Rattle.mmtel_message.specs.Message.{is_line, has_line, first_value, dropped, replaced, line_texts, values_named};
 
+use crate::edits::Edit;
 use crate::held::{Held, HeldValue, Lines, Span, value_of};
 use crate::values::{Mode, values_in};
 use mmtel_lex::{List, NoMemory, Text};
@@ -73,13 +74,10 @@ fn place_of<V>(lines: &[(Text, V)], name: &[u8]) -> Option<usize>
 pub fn first_of<'a>(lines: &Lines<'a>, name: &[u8]) -> Option<&'a [u8]>
     ensures { option_copied result ≡ first_value name.now lines.now.values }
 {
-    for i in 0..lines.len() {
-        let (spelled, value) = lines.at(i);
-        if is_named(spelled, name) {
-            return Some(value);
-        }
+    match lines.next_named(name, 0) {
+        None => None,
+        Some(line) => Some(line.value),
     }
-    None
 }
 
 fn drop_named<V: Drop>(lines: &mut List<(Text, V)>, from: usize, name: &[u8])
@@ -122,12 +120,11 @@ pub fn line_texts(alloc: Global, lines: &Lines<'_>, name: &[u8]) -> Result<List<
     ensures { IfOk result (λ vs. vs ≡ line_texts name.now lines.now.values) }
 {
     let mut out = List::new();
-    for i in 0..lines.len() {
-        let (spelled, value) = lines.at(i);
-        if is_named(spelled, name) {
-            let value = Text::of(alloc, value)?;
-            out.push(alloc, value)?;
-        }
+    let mut from = 0;
+    'lines: while let Some(line) = lines.next_named(name, from) {
+        let value = Text::of(alloc, line.value)?;
+        out.push(alloc, value)?;
+        from = line.after;
     }
     Ok(out)
 }
@@ -136,12 +133,7 @@ pub fn line_texts(alloc: Global, lines: &Lines<'_>, name: &[u8]) -> Result<List<
 pub fn has_line(name: &[u8], lines: &Lines<'_>) -> bool
     ensures { result ≡ has_line name.now lines.now.values }
 {
-    for i in 0..lines.len() {
-        if is_named(lines.at(i).0, name) {
-            return true;
-        }
-    }
-    false
+    lines.next_named(name, 0).is_some()
 }
 
 /// Drops the lines of the name.
@@ -194,7 +186,7 @@ fn set_line(
         }
         Some(at) => {
             let spelled = Text::of(alloc, name)?;
-            let (_, _) = held.replace(at, (spelled, HeldValue::Edited(value)));
+            let (_, _) = held.replace(at, (spelled, HeldValue::Edited(Edit::of(value))));
             drop_named(held, at + 1, name);
             drop_named(added, 0, name);
             Ok(())
@@ -217,7 +209,7 @@ fn push_line(
     if held.items().is_empty() {
         added.insert(alloc, 0, (name, value))?;
     } else {
-        held.insert(alloc, 0, (name, HeldValue::Edited(value)))?;
+        held.insert(alloc, 0, (name, HeldValue::Edited(Edit::of(value))))?;
     }
     Ok(())
 }
@@ -239,7 +231,7 @@ impl Msg {
             received: Text::new(),
             held: List::new(),
             added: lines,
-            body: HeldValue::Edited(body),
+            body: HeldValue::Edited(Edit::of(body)),
         }
     }
 

@@ -58,6 +58,9 @@ fn of_more_compact_forms(name: &[u8]) -> Option<&'static [u8]>
     if is_either(name, b"Event", b"o") {
         return Some(b"Event");
     }
+    if is_either(name, b"Session-Expires", b"x") {
+        return Some(b"Session-Expires");
+    }
     None
 }
 
@@ -192,9 +195,6 @@ fn of_network_names(name: &[u8]) -> Option<&'static [u8]>
     }
     if name.eq_ignore_ascii_case(b"RAck") {
         return Some(b"RAck");
-    }
-    if name.eq_ignore_ascii_case(b"Session-Expires") {
-        return Some(b"Session-Expires");
     }
     if name.eq_ignore_ascii_case(b"Min-SE") {
         return Some(b"Min-SE");

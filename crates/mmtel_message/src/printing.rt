@@ -1,11 +1,12 @@
 //! The canonical text.
 ghost use Rattle.std.specs.Prelude.{◌≡◌, ◌++◌, OnOk, IfOk, Ok};
 ghost use Rattle.mmtel_message.specs.Canonical.{IsCanonical, IsWithinLimits};
+ghost use Rattle.mmtel_message.specs.Held.{held_lines};
 ghost use Rattle.mmtel_message.specs.Reads.{reads};
 ghost use Rattle.mmtel_message.specs.Texts.{start_text, line_text, lines_text, message_text};
 
-use crate::held::Lines;
-use crate::messages::{Msg, Start};
+use crate::held::{Held, Lines, value_of};
+use crate::messages::{Line, Msg, Start};
 use mmtel_lex::{NoMemory, Text};
 use mmtel_scan::add_number;
 use std::alloc::Global;
@@ -38,14 +39,36 @@ fn add_line(alloc: Global, out: &mut Text, name: &[u8], value: &[u8]) -> Result<
     out.push(alloc, b"\r\n")
 }
 
+fn add_lines_received(
+    alloc: Global,
+    out: &mut Text,
+    received: &[u8],
+    held: &[Held],
+) -> Result<(), NoMemory>
+    ensures { OnOk result (out.new ≡ out.old ++ lines_text (held_lines received.now held.now)) }
+{
+    for line in held {
+        add_line(alloc, out, line.0.bytes(), value_of(received, &line.1))?;
+    }
+    Ok(())
+}
+
+fn add_lines_added(alloc: Global, out: &mut Text, added: &[Line]) -> Result<(), NoMemory>
+    ensures { OnOk result (out.new ≡ out.old ++ lines_text added.now) }
+{
+    for line in added {
+        add_line(alloc, out, line.0.bytes(), line.1.bytes())?;
+    }
+    Ok(())
+}
+
+#[tactic(auto, using(std::proofs::lemmas::Grind::common_steps))]
 fn add_lines(alloc: Global, out: &mut Text, lines: &Lines<'_>) -> Result<(), NoMemory>
     ensures { OnOk result (out.new ≡ out.old ++ lines_text lines.now.values) }
 {
-    for i in 0..lines.len() {
-        let (name, value) = lines.at(i);
-        add_line(alloc, out, name, value)?;
-    }
-    Ok(())
+    let (received, held, added) = lines.parts();
+    add_lines_received(alloc, out, received, held)?;
+    add_lines_added(alloc, out, added)
 }
 
 /// How many bytes the start line takes, or a few more.
@@ -63,13 +86,22 @@ fn start_room(start: &Start) -> usize {
     }
 }
 
+/// The room for what is before and a line of this name and value.
+fn room_with(room: usize, name: &[u8], value: &[u8]) -> usize {
+    room.saturating_add(name.len())
+        .saturating_add(value.len())
+        .saturating_add(b": \r\n".len())
+}
+
 /// How many bytes the lines take.
 fn lines_room(lines: &Lines<'_>) -> usize {
+    let (received, held, added) = lines.parts();
     let mut room: usize = 0;
-    for i in 0..lines.len() {
-        let (name, value) = lines.at(i);
-        let line = name.len().saturating_add(value.len());
-        room = room.saturating_add(line).saturating_add(b": \r\n".len());
+    for line in held {
+        room = room_with(room, line.0.bytes(), value_of(received, &line.1));
+    }
+    for line in added {
+        room = room_with(room, line.0.bytes(), line.1.bytes());
     }
     room
 }

@@ -2,7 +2,7 @@
 ghost use Rattle.std.specs.Prelude.{◌≡◌, ◌∷◌, ◌++◌, [], Some, IfOk, OnOk, codes, map};
 ghost use Rattle.mmtel_lex.specs.Reading.{name_addr_of};
 ghost use Rattle.mmtel_message.specs.Message.{named};
-ghost use Rattle.mmtel_message.specs.Responses.{added_lines, contact_lines, makes_dialog, names_contact, own_lines, response, route_lines};
+ghost use Rattle.mmtel_message.specs.Responses.{added_lines, contact_lines, makes_dialog, names_contact, own_lines, refreshes_target, response, route_lines};
 ghost use Rattle.mmtel_message.specs.Responses.{call_lines, completed_lines, has_tag, heard_lines, party_lines, tag_due, tagged, to_line, to_value, via_lines};
 
 use crate::building::{add_bytes, add_decimal, add_line, append_lines, append_named};
@@ -212,18 +212,27 @@ fn add_heard(
     add_call(alloc, out, lines)
 }
 
-/// Whether a response of the code to a request with the start line makes a dialog (RFC 3261 §12.1.1).
+/// Whether a response of the code to a request with the start line makes a dialog (RFC 3261 §12.1.1, RFC 6665 §4.2.1).
 fn makes_dialog(code: u16, start: &Start) -> bool
     ensures { result ≡ makes_dialog code start.now }
 {
-    code >= 101 && code <= 299 && is_method(b"INVITE", start)
+    (code >= 101 && code <= 299 && is_method(b"INVITE", start))
+        || (code == 200 && is_method(b"SUBSCRIBE", start))
+}
+
+/// Whether it refreshes the target of its dialog (RFC 3515 §2.2, RFC 3311 §5.2).
+fn refreshes_target(code: u16, start: &Start) -> bool
+    ensures { result ≡ refreshes_target code start.now }
+{
+    (code == 202 && is_method(b"REFER", start))
+        || (code >= 200 && code <= 299 && is_method(b"UPDATE", start))
 }
 
 /// Whether it says where the server is reached.
 fn names_contact(code: u16, start: &Start) -> bool
     ensures { result ≡ names_contact code start.now }
 {
-    makes_dialog(code, start) || (code == 202 && is_method(b"REFER", start))
+    makes_dialog(code, start) || refreshes_target(code, start)
 }
 
 /// Adds Record-Route, where the response makes a dialog.

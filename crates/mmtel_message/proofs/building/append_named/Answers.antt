@@ -1,6 +1,17 @@
-use Rattle.mmtel_message.proofs.WalkLaws.{named_grow}
+use Rattle.std.proofs.Common.{◌++◌, drop, sym}
+use Rattle.mmtel_message.specs.Message.{line, named}
+use Rattle.mmtel_message.proofs.WalkLaws.{no_more, one_more}
 use Rattle.mmtel_message.proofs.building.append_named.Goals as goal
 
-pub loop-i-preserved : goal.loop-i-preserved
-loop-i-preserved c =
-    named_grow c.args.name.now c.args.lines.now.values c.loop-i.i (c.at.result.0.now, c.at.result.1.now) c.args.out.now c.loop-i.out _ c.at.ensures.last c.loop-i.invariant c.in_ok-add_if_named.ensures
+pub lines-preserved : goal.lines-preserved
+unfolding line
+lines-preserved c =
+    let name = c.args.name.now in
+    let ls = c.args.lines.now.values in
+    rw c.in_ok-add_bytes.ensures.added (one_more c.lines.out (named name (drop c.lines.from ls)) (named name (drop c.in-Some.line.after ls)) (c.args.out.now ++ named name ls) (c.in-Some.line.name.now, c.in-Some.line.value.now) c.lines.invariant c.in-Some.ensures.line)
+
+pub returns : goal.returns
+returns c =
+    let name = c.args.name.now in
+    let ls = c.args.lines.now.values in
+    sym (no_more c.lines.out (named name (drop c.lines.from ls)) (c.args.out.now ++ named name ls) c.lines.invariant c.in_default.ensures.line)

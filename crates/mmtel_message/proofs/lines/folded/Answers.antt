@@ -19,4 +19,4 @@ lines-preserved c =
 
 pub returns-clause-line : goal.returns-clause-line
 returns-clause-line c =
-    rw c.in_ok-add.ensures (done_on (unfolded_from (at_place c.args.head.now c.args.first) (split (drop c.args.next c.args.head.now))) c.lines.front c.lines.gap.now c.lines.piece.now c.args.head.now c.lines.rest c.in_default.ensures c.lines.invariant.0)
+    rw c.in_ok-join.ensures (done_on (unfolded_from (at_place c.args.head.now c.args.first) (split (drop c.args.next c.args.head.now))) c.lines.front c.lines.gap.now c.lines.piece.now c.args.head.now c.lines.rest c.in_default.ensures c.lines.invariant.0)

@@ -1,0 +1,142 @@
+//! Texts in place of bytes received, and where their pieces stand among these.
+ghost use Rattle.std.specs.Prelude.{◌≡◌, ◌++◌, IfOk, OnOk, nat_le};
+ghost use Rattle.mmtel_message.specs.Held.{at_place, value_of};
+
+use crate::held::{HeldValue, Span, at_place};
+use mmtel_lex::{List, NoMemory, Text};
+use std::alloc::Global;
+use std::marker::Model;
+
+/// A piece of an edit: where it begins there, and the place among the bytes received that it was taken from.
+#[derive(Clone, Copy)]
+struct Piece {
+    at: usize,
+    place: Span,
+}
+
+impl Piece {
+    /// The place among the bytes received of a part of the edit, where it lies within this piece.
+    fn place_of(self, part: Span) -> Option<Span> {
+        let skipped = part.from.checked_sub(self.at)?;
+        let end = skipped.checked_add(part.len)?;
+        if end > self.place.len {
+            return None;
+        }
+        let from = self.place.from.checked_add(skipped)?;
+        Some(Span {
+            from,
+            len: part.len,
+        })
+    }
+
+    /// What of the piece is left, where the edit loses so many bytes at its front.
+    fn behind(self, front: usize) -> Piece {
+        let skipped = front.saturating_sub(self.at).min(self.place.len);
+        Piece {
+            at: self.at.saturating_sub(front),
+            place: Span {
+                from: self.place.from.saturating_add(skipped),
+                len: self.place.len.saturating_sub(skipped),
+            },
+        }
+    }
+}
+
+/// A text in place of bytes received, and which pieces of it were taken from there, in order. Contracts see the text.
+///
+/// What the pieces say is looked up and compared, so nothing rests on it.
+#[derive(Drop)]
+pub struct Edit {
+    text: Text,
+    pieces: List<Piece>,
+}
+
+impl Model for Edit {
+    ghost use Rattle.std.specs.Prelude.{List, ℕ};
+
+    ghost Value = { List ℕ };
+
+    ghost view = { λ e. e.text };
+}
+
+impl Edit {
+    /// A text of which no piece was taken from the bytes received.
+    pub fn of(text: Text) -> Edit
+        ensures { result ≡ text }
+    {
+        Edit {
+            text,
+            pieces: List::new(),
+        }
+    }
+
+    /// Its bytes.
+    pub fn bytes(&self) -> &[u8]
+        ensures { result.now ≡ self.now }
+    {
+        self.text.bytes()
+    }
+
+    /// Adds a piece, which was taken from that place on, behind a gap.
+    pub fn join(
+        &mut self,
+        alloc: Global,
+        gap: &[u8],
+        piece: &[u8],
+        from: usize,
+    ) -> Result<(), NoMemory>
+        ensures { OnOk result (self.new ≡ self.old ++ gap.now ++ piece.now) }
+    {
+        self.text.push(alloc, gap)?;
+        let at = self.text.bytes().len();
+        self.text.push(alloc, piece)?;
+        let place = Span {
+            from,
+            len: piece.len(),
+        };
+        self.pieces.push(alloc, Piece { at, place })?;
+        Ok(())
+    }
+
+    /// Where a part of it was taken from, if it lies within one piece.
+    fn place_of(&self, part: Span) -> Option<Span> {
+        let pieces = self.pieces.items();
+        let before = pieces.partition_point(
+            |piece: &Piece| -> bool
+                ensures { result ≡ nat_le piece.now.at part.from }
+            { piece.at <= part.from },
+        );
+        let piece = pieces[..before].last()?;
+        piece.place_of(part)
+    }
+
+    /// What is left of the pieces, where so many bytes at the front are lost.
+    fn pieces_behind(&self, alloc: Global, front: usize) -> Result<List<Piece>, NoMemory> {
+        let pieces = self.pieces.items();
+        let mut left = List::with_room(alloc, pieces.len())?;
+        for piece in pieces {
+            left.push(alloc, piece.behind(front))?;
+        }
+        Ok(left)
+    }
+
+    /// A part of it, with its pieces.
+    pub fn part(&self, alloc: Global, part: Span) -> Result<Edit, NoMemory>
+        ensures { IfOk result (λ e. e ≡ at_place self.now part) }
+    {
+        let text = Text::of(alloc, at_place(self.bytes(), part))?;
+        let pieces = self.pieces_behind(alloc, part.from)?;
+        Ok(Edit { text, pieces })
+    }
+
+    /// A part of it: the place where it stands among the bytes received, if it was taken from there in one piece.
+    pub fn placed(&self, alloc: Global, received: &[u8], part: Span) -> Result<HeldValue, NoMemory>
+        ensures { IfOk result (λ v. value_of received.now v ≡ at_place self.now part) }
+    {
+        let bytes = at_place(self.bytes(), part);
+        match self.place_of(part) {
+            Some(place) if at_place(received, place) == bytes => Ok(HeldValue::Received(place)),
+            _ => Ok(HeldValue::Edited(Edit::of(Text::of(alloc, bytes)?))),
+        }
+    }
+}

@@ -4,6 +4,7 @@ pub mod Pairs
 pub mod WordLaws
 pub mod Absorbed
 pub mod ByName
+mod FoundLaws
 pub mod HashLaws
 pub mod HeardLaws
 pub mod Indexing
@@ -14,5 +15,6 @@ pub mod Masked
 pub mod MaskLaws
 pub mod PrefixLaws
 pub mod PrefixWalk
+mod SchemeLaws
 pub mod TableLaws
 mod Worked

@@ -11,7 +11,9 @@ pub mod Passed
 pub mod Peers
 pub mod Privacy
 -- What private functions cite.
+pub mod Found
 pub mod Hashes
 pub mod Indexes
 pub mod Places
+pub mod Schemes
 pub mod Written

@@ -1,10 +1,14 @@
 //! Who a message says that its sender is (RFC 3325).
 ghost use Rattle.std.specs.Prelude.{◌≡◌, IfOk};
-ghost use Rattle.mmtel_trust.specs.Asserted.{is_of_scheme, first_uri, asserted};
+ghost use Rattle.mmtel_lex.specs.Reading.{uri_of};
+ghost use Rattle.mmtel_lex.specs.UriRefs.{uri_seen};
+ghost use Rattle.mmtel_message.specs.Values.{values_of};
+ghost use Rattle.mmtel_trust.specs.Asserted.{is_of_scheme, first_uri, asserted, asserted_values, or_no_uri, uri_in};
+ghost use Rattle.mmtel_trust.specs.Schemes.{of_scheme};
 
-use crate::reading::uri_in;
-use mmtel_lex::{NoMemory, Text, Uri};
-use mmtel_message::Msg;
+use mmtel_lex::{NoMemory, Uri, UriRef, name_addr_ref, uri_ref};
+use mmtel_message::{Mode, Msg, next_part};
+use mmtel_scan::{Class, trim};
 use std::alloc::Global;
 
 /// The schemes of identities.
@@ -25,33 +29,70 @@ pub struct Identities {
     pub tel: Option<Uri>,
 }
 
-fn is_of_scheme(scheme: Scheme, uri: &Uri) -> bool
-    ensures { result ≡ is_of_scheme scheme uri.now }
+fn is_of_scheme(scheme: Scheme, uri: &UriRef<'_>) -> bool
+    ensures { result ≡ is_of_scheme scheme (uri_seen uri.now) }
 {
     match uri {
-        Uri::Sip { .. } => match scheme {
+        UriRef::Sip { .. } => match scheme {
             Scheme::Sip => true,
             Scheme::Tel => false,
         },
-        Uri::Tel { .. } => match scheme {
+        UriRef::Tel { .. } => match scheme {
             Scheme::Sip => false,
             Scheme::Tel => true,
         },
     }
 }
 
-/// The first URI of the scheme among the values.
-fn first_uri(alloc: Global, scheme: Scheme, values: &[Text]) -> Result<Option<Uri>, NoMemory>
-    ensures { IfOk result (λ u. u ≡ first_uri scheme values.now) }
+/// The URI that the bytes spell, where it is of the scheme.
+fn uri_of_scheme(alloc: Global, scheme: Scheme, bytes: &[u8]) -> Result<Option<Uri>, NoMemory>
+    ensures { IfOk result (λ u. u ≡ of_scheme scheme (or_no_uri (uri_of bytes.now))) }
 {
-    for value in values {
-        match uri_in(alloc, value.bytes())? {
-            None => {}
-            Some(uri) => {
-                if is_of_scheme(scheme, &uri) {
-                    return Ok(Some(uri));
-                }
+    match uri_ref(bytes) {
+        Err(_) => Ok(None),
+        Ok(uri) => {
+            if !is_of_scheme(scheme, &uri) {
+                return Ok(None);
             }
+            Ok(Some(uri.owned(alloc)?))
+        }
+    }
+}
+
+/// The URI of a name-addr, where it is of the scheme.
+fn first_of_value(alloc: Global, scheme: Scheme, value: &[u8]) -> Result<Option<Uri>, NoMemory>
+    ensures { IfOk result (λ u. u ≡ of_scheme scheme (uri_in value.now)) }
+{
+    match name_addr_ref(value) {
+        None => Ok(None),
+        Some(name) => uri_of_scheme(alloc, scheme, name.uri),
+    }
+}
+
+/// The first URI of the scheme among the values of a line.
+fn first_of_line(alloc: Global, scheme: Scheme, values: &[u8]) -> Result<Option<Uri>, NoMemory>
+    ensures { IfOk result (λ u. u ≡ first_uri scheme (values_of values.now)) }
+{
+    let mut rest = Some(values);
+    'values: while let Some(more) = rest {
+        let (value, after) = next_part(Mode::Plain, more);
+        match first_of_value(alloc, scheme, trim(Class::Blank, value))? {
+            Some(uri) => return Ok(Some(uri)),
+            None => {}
+        }
+        rest = after;
+    }
+    Ok(None)
+}
+
+/// The first URI of the scheme among the asserted ones.
+fn first_uri(alloc: Global, scheme: Scheme, m: &Msg) -> Result<Option<Uri>, NoMemory>
+    ensures { IfOk result (λ u. u ≡ first_uri scheme (asserted_values m.now.lines)) }
+{
+    for values in m.values_in(b"P-Asserted-Identity") {
+        match first_of_line(alloc, scheme, values)? {
+            Some(uri) => return Ok(Some(uri)),
+            None => {}
         }
     }
     Ok(None)
@@ -72,8 +113,12 @@ pub fn asserted(alloc: Global, m: &Msg, trusted: bool) -> Result<Identities, NoM
             tel: None,
         });
     }
-    let values = m.values(alloc, b"P-Asserted-Identity")?;
-    let sip = first_uri(alloc, Scheme::Sip, values.items())?;
-    let tel = first_uri(alloc, Scheme::Tel, values.items())?;
-    Ok(Identities { sip, tel })
+    let sip = first_uri(alloc, Scheme::Sip, m)?;
+    match first_uri(alloc, Scheme::Tel, m) {
+        Err(error) => {
+            drop(sip);
+            Err(error)
+        }
+        Ok(tel) => Ok(Identities { sip, tel }),
+    }
 }

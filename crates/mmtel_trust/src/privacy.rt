@@ -1,78 +1,21 @@
 //! The words of Privacy (RFC 3323 §4.2).
-ghost use Rattle.std.specs.Prelude.{if◌then◌else◌, codes, [], ◌≡◌, ◌∷◌, ◌++◌, ◌<◌, length, drop, IfOk, OnOk, IfSome};
-ghost use Rattle.std.specs.List.{list_any, flat_map};
-ghost use Rattle.std.specs.Option.{option_copied};
-ghost use Rattle.std.specs.Str.{str_eq_ignore_ascii_case};
-ghost use Rattle.mmtel_message.specs.Message.{line_values};
-ghost use Rattle.mmtel_message.specs.Values.{parts, rest_parts, values_in};
+ghost use Rattle.std.specs.Prelude.{if◌then◌else◌, codes, [], ◌≡◌, ◌++◌, drop, IfOk, OnOk};
+ghost use Rattle.std.specs.List.{flat_map};
+ghost use Rattle.mmtel_message.specs.Values.{values_in};
 ghost use Rattle.mmtel_message.specs.declared.values.Mode.TheVariants.{Words};
+ghost use Rattle.mmtel_trust.specs.Found.{with_word, with_words};
 ghost use Rattle.mmtel_trust.specs.Privacy.{words, has_word, wants, restricted_text};
 ghost use Rattle.mmtel_trust.specs.Written.{kept_word};
 
 use crate::texts::is;
 use mmtel_lex::{NoMemory, Text};
-use mmtel_message::{Lines, Msg, has_line, is_named};
-use mmtel_scan::{Class, part, trim};
+use mmtel_message::{Mode, Msg, next_part};
+use mmtel_scan::{Class, trim};
 use mmtel_types::PrivacySet;
 use std::alloc::Global;
 
-/// The first word, blanks around it included, and what follows its `;`, where there is more.
-fn next_word(bytes: &[u8]) -> (&[u8], Option<&[u8]>)
-    ensures words { parts Words bytes.now ≡ result.0.now ∷ rest_parts Words (option_copied result.1) }
-    ensures shorter { IfSome result.1 (λ rest. length rest.now < length bytes.now) }
-{
-    match part(b';', bytes) {
-        None => (bytes, None),
-        Some((front, rest)) => (front, Some(rest)),
-    }
-}
-
-/// Whether the word is among those of a value.
-fn value_has(value: &[u8], word: &[u8]) -> bool
-    ensures { result ≡ list_any (λ v. str_eq_ignore_ascii_case v word.now) (values_in Words value.now) }
-{
-    let mut rest = Some(value);
-    'words: while let Some(more) = rest {
-        let (front, after) = next_word(more);
-        if is(trim(Class::Blank, front), word) {
-            return true;
-        }
-        rest = after;
-    }
-    false
-}
-
-fn line_has(name: &[u8], value: &[u8], word: &[u8]) -> bool
-    ensures { result ≡ list_any (λ v. str_eq_ignore_ascii_case v word.now) (line_values Words (codes "Privacy") (name.now, value.now)) }
-{
-    if !is_named(name, b"Privacy") {
-        return false;
-    }
-    value_has(value, word)
-}
-
-fn any_has(lines: &Lines<'_>, word: &[u8]) -> bool
-    ensures { result ≡
-        list_any (λ l. list_any (λ v. str_eq_ignore_ascii_case v word.now) (line_values Words (codes "Privacy") l)) lines.now.values }
-{
-    for i in 0..lines.len() {
-        let (name, value) = lines.at(i);
-        if line_has(name, value, word) {
-            return true;
-        }
-    }
-    false
-}
-
-/// Whether the word is among those of all Privacy lines.
-fn has_word(lines: &Lines<'_>, word: &[u8]) -> bool
-    ensures { result ≡ has_word word.now lines.now.values }
-{
-    any_has(lines, word)
-}
-
-/// Which words there are where there is no Privacy line.
-fn wants_nothing() -> PrivacySet
+/// Which words are found before any is looked at.
+fn nothing_found() -> PrivacySet
     ensures { result ≡ wants [] }
 {
     PrivacySet {
@@ -86,28 +29,44 @@ fn wants_nothing() -> PrivacySet
     }
 }
 
-fn wants_of(lines: &Lines<'_>) -> PrivacySet
-    ensures { result ≡ wants lines.now.values }
+/// The words found before, and what this one is.
+fn with_word(found: PrivacySet, word: &[u8]) -> PrivacySet
+    ensures { result ≡ with_word found word.now }
 {
-    if !has_line(b"Privacy", lines) {
-        return wants_nothing();
-    }
     PrivacySet {
-        header: has_word(lines, b"header"),
-        session: has_word(lines, b"session"),
-        user: has_word(lines, b"user"),
-        none: has_word(lines, b"none"),
-        critical: has_word(lines, b"critical"),
-        id: has_word(lines, b"id"),
-        history: has_word(lines, b"history"),
+        header: found.header || is(word, b"header"),
+        session: found.session || is(word, b"session"),
+        user: found.user || is(word, b"user"),
+        none: found.none || is(word, b"none"),
+        critical: found.critical || is(word, b"critical"),
+        id: found.id || is(word, b"id"),
+        history: found.history || is(word, b"history"),
     }
+}
+
+/// The words found before, and those of a value.
+fn with_value(found: PrivacySet, value: &[u8]) -> PrivacySet
+    ensures { result ≡ with_words found (values_in Words value.now) }
+{
+    let mut found = found;
+    let mut rest = Some(value);
+    'words: while let Some(more) = rest {
+        let (word, after) = next_part(Mode::Words, more);
+        found = with_word(found, trim(Class::Blank, word));
+        rest = after;
+    }
+    found
 }
 
 /// Which of the known words the Privacy lines of a message have (RFC 3323 §4.2), compared without case. It takes no memory.
 pub fn wants(m: &Msg) -> PrivacySet
     ensures words { result ≡ wants m.now.lines }
 {
-    wants_of(&m.lines())
+    let mut found = nothing_found();
+    for value in m.values_in(b"Privacy") {
+        found = with_value(found, value);
+    }
+    found
 }
 
 fn add_word(alloc: Global, out: &mut Text, word: &[u8]) -> Result<(), NoMemory>
@@ -125,36 +84,26 @@ fn add_value(alloc: Global, out: &mut Text, value: &[u8]) -> Result<(), NoMemory
 {
     let mut rest = Some(value);
     'words: while let Some(more) = rest {
-        let (front, after) = next_word(more);
-        add_word(alloc, out, trim(Class::Blank, front))?;
+        let (word, after) = next_part(Mode::Words, more);
+        add_word(alloc, out, trim(Class::Blank, word))?;
         rest = after;
     }
     Ok(())
 }
 
-fn add_line(alloc: Global, out: &mut Text, name: &[u8], value: &[u8]) -> Result<(), NoMemory>
-    ensures { OnOk result (out.new ≡ out.old ++ flat_map kept_word (line_values Words (codes "Privacy") (name.now, value.now))) }
+fn add_words(alloc: Global, out: &mut Text, m: &Msg) -> Result<(), NoMemory>
+    ensures { OnOk result (out.new ≡ out.old ++ flat_map kept_word (words m.now.lines)) }
 {
-    if !is_named(name, b"Privacy") {
-        return Ok(());
-    }
-    add_value(alloc, out, value)
-}
-
-fn add_words(alloc: Global, out: &mut Text, lines: &Lines<'_>) -> Result<(), NoMemory>
-    ensures { OnOk result (out.new ≡ out.old ++ flat_map kept_word (words lines.now.values)) }
-{
-    for i in 0..lines.len() {
-        let (name, value) = lines.at(i);
-        add_line(alloc, out, name, value)?;
+    for value in m.values_in(b"Privacy") {
+        add_value(alloc, out, value)?;
     }
     Ok(())
 }
 
-fn add_id(alloc: Global, out: &mut Text, lines: &Lines<'_>) -> Result<(), NoMemory>
-    ensures { OnOk result (out.new ≡ out.old ++ (if has_word (codes "id") lines.now.values then [] else codes ";id")) }
+fn add_id(alloc: Global, out: &mut Text, m: &Msg) -> Result<(), NoMemory>
+    ensures { OnOk result (out.new ≡ out.old ++ (if has_word (codes "id") m.now.lines then [] else codes ";id")) }
 {
-    if has_word(lines, b"id") {
+    if wants(m).id {
         return Ok(());
     }
     out.push(alloc, b";id")
@@ -162,12 +111,12 @@ fn add_id(alloc: Global, out: &mut Text, lines: &Lines<'_>) -> Result<(), NoMemo
 
 /// The words that are left, and `id`, each behind its `;`.
 #[tactic(auto, using(crate::proofs::WordLaws::behind_text))]
-fn separated(alloc: Global, lines: &Lines<'_>) -> Result<Text, NoMemory>
-    ensures { IfOk result (λ t. drop 1 t ≡ restricted_text lines.now.values) }
+fn separated(alloc: Global, m: &Msg) -> Result<Text, NoMemory>
+    ensures { IfOk result (λ t. drop 1 t ≡ restricted_text m.now.lines) }
 {
     let mut out = Text::new();
-    add_words(alloc, &mut out, lines)?;
-    add_id(alloc, &mut out, lines)?;
+    add_words(alloc, &mut out, m)?;
+    add_id(alloc, &mut out, m)?;
     Ok(out)
 }
 
@@ -181,10 +130,10 @@ fn without_first(alloc: Global, bytes: &[u8]) -> Result<Text, NoMemory>
 }
 
 /// What Privacy says of a restricted call towards a trusted peer: the words without `none`, and with `id`.
-pub fn restricted_text(alloc: Global, lines: &Lines<'_>) -> Result<Text, NoMemory>
-    ensures { IfOk result (λ t. t ≡ restricted_text lines.now.values) }
+pub fn restricted_text(alloc: Global, m: &Msg) -> Result<Text, NoMemory>
+    ensures { IfOk result (λ t. t ≡ restricted_text m.now.lines) }
 {
-    let out = separated(alloc, lines)?;
+    let out = separated(alloc, m)?;
     let text = without_first(alloc, out.bytes());
     drop(out);
     text

@@ -6,8 +6,8 @@ ghost use Rattle.mmtel_trust.specs.Asserted.{or_no_uri, uri_in};
 ghost use Rattle.mmtel_trust.specs.Passed.{display_and_uri, read_by};
 
 use mmtel_lex::{
-    LexFault, List, NameAddr, NoMemory, Text, Uri, UriFault, print_name_addr, read_name_addr,
-    read_uri,
+    LexFault, List, NameAddr, NoMemory, Text, Uri, UriFault, name_addr_ref, print_name_addr,
+    read_name_addr, read_uri,
 };
 use std::alloc::Global;
 
@@ -35,14 +35,9 @@ pub fn uri_of(alloc: Global, bytes: &[u8]) -> Result<Option<Uri>, NoMemory>
 pub fn uri_in(alloc: Global, value: &[u8]) -> Result<Option<Uri>, NoMemory>
     ensures exact { IfOk result (λ u. u ≡ uri_in value.now) }
 {
-    match read_name_addr(alloc, value) {
-        Ok(name) => {
-            let uri = uri_of(alloc, name.uri.bytes());
-            drop(name);
-            uri
-        }
-        Err(LexFault::Malformed) => Ok(None),
-        Err(LexFault::NoMemory) => Err(NoMemory),
+    match name_addr_ref(value) {
+        None => Ok(None),
+        Some(name) => uri_of(alloc, name.uri),
     }
 }
 

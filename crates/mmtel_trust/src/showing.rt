@@ -57,18 +57,18 @@ fn add_privacy(
     out: &mut List<Line>,
     f: Facing,
     to_trusted: bool,
-    lines: &Lines<'_>,
+    m: &Msg,
 ) -> Result<(), NoMemory>
-    ensures { OnOk result (out.new ≡ out.old ++ privacy_lines f to_trusted lines.now.values) }
+    ensures { OnOk result (out.new ≡ out.old ++ privacy_lines f to_trusted m.now.lines) }
 {
     if !to_trusted {
         return Ok(());
     }
     if f.restricted {
-        let words = restricted_text(alloc, lines)?;
+        let words = restricted_text(alloc, m)?;
         return add_line(alloc, out, b"Privacy", words);
     }
-    add_named(alloc, out, b"Privacy", lines)
+    add_named(alloc, out, b"Privacy", &m.lines())
 }
 
 /// Whether a line of the kind, with this value, is among the other lines that are passed.
@@ -221,7 +221,7 @@ fn shown_of(
     let lines = m.lines();
     let mut out = List::new();
     add_asserted(alloc, &mut out, f, to_trusted, &lines)?;
-    add_privacy(alloc, &mut out, f, to_trusted, &lines)?;
+    add_privacy(alloc, &mut out, f, to_trusted, m)?;
     add_row(alloc, &mut out, f, to_trusted, h, m.start())?;
     add_others(alloc, &mut out, f, to_trusted, &lines)?;
     Ok(out)

@@ -1,6 +1,6 @@
-use Rattle.mmtel_trust.proofs.LineWalks.{words_grow}
+use Rattle.std.proofs.Common.{refl}
+use Rattle.mmtel_trust.proofs.FoundLaws.{words_are}
 use Rattle.mmtel_trust.proofs.privacy.add_words.Goals as goal
 
-pub loop-i-preserved : goal.loop-i-preserved
-loop-i-preserved c =
-    words_grow c.args.lines.now.values c.loop-i.i (c.at.result.0.now, c.at.result.1.now) c.args.out.now c.loop-i.out _ c.at.ensures.last c.loop-i.invariant c.in_ok-add_line.ensures
+pub loop-value-init : goal.loop-value-init
+loop-value-init c = rw (c.into_iter-value-iterator.ensures.into_iter_gives, c.values_in-value-items.ensures, words_are c.args.m.now.lines) (tt, tt, refl)

@@ -19,7 +19,7 @@ use Rattle.mmtel_transaction.specs.Answers.{is_other}
 use Rattle.mmtel_transaction.specs.Indexes.{ack_mark, call_name, call_named, has_name, IsPlaceOf, name_cmp, named, twin_mark}
 use Rattle.mmtel_transaction.proofs.Changing.{hit_other, hit_own}
 use Rattle.mmtel_transaction.proofs.Having.{has_map_back}
-use Rattle.mmtel_transaction.proofs.Naming.{alike, between, not_before}
+use Rattle.mmtel_transaction.proofs.Naming.{alike, between, not_before, told_alike}
 
 -- whose call and CSeq are these
 abbrev pub call_mark : List ℕ → List ℕ → List ℕ → ℕ → Name
@@ -87,7 +87,7 @@ called_so : (x : Entry) → x.is_server ≡ true → call_name x ≡ Some (call_
 called_so x t = ap (λ c. cond c (Some (call_named x)) None) t
 
 same_call : (b s m : List ℕ) (n : ℕ) (x : Entry) → bytes_eq x.asked.call_id b ≡ true → bytes_eq x.asked.from_tag s ≡ true → (x.asked.number == n) ≡ true → bytes_eq x.asked.method m ≡ true → has_name (call_mark b s m n) (call_named x) ≡ true
-same_call b s m n x p q r t = and_from _ _ (and_from _ _ (and_from _ _ p q) t) r
+same_call b s m n x p q r t = and_from _ _ (and_from _ _ (and_from _ _ (and_from _ _ (told_alike x.asked.call_id b p) p) q) t) r
 
 -- of the ACK of a 2xx
 module _ (m : Head) where

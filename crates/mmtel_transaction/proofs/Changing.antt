@@ -73,8 +73,13 @@ last_of_four Less b c d i j q = absurd cc
 last_of_four Greater b c d i j q = absurd cc
 last_of_four Equal b c d i j q = last_key b c d i j q
 
+last_of_five : (o a b c d : Ordering) (i j : ℕ) → ordering_then o (ordering_then a (ordering_then b (ordering_then c (ordering_then d (nat_cmp i j))))) ≡ Equal → i ≡ j
+last_of_five Less a b c d i j q = absurd cc
+last_of_five Greater a b c d i j q = absurd cc
+last_of_five Equal a b c d i j q = last_of_four a b c d i j q
+
 pub name_key : (x y : Name) → name_cmp x y ≡ Equal → x.key ≡ y.key
-name_key x y q = last_of_four (slice_cmp nat_cmp x.id y.id) (slice_cmp nat_cmp x.from y.from) (slice_cmp nat_cmp x.method y.method) (nat_cmp x.number y.number) x.key y.key q
+name_key x y q = last_of_five (nat_cmp x.told y.told) (slice_cmp nat_cmp x.id y.id) (slice_cmp nat_cmp x.from y.from) (slice_cmp nat_cmp x.method y.method) (nat_cmp x.number y.number) x.key y.key q
 
 pub waits_key : (x y : Waits) → waits_cmp x y ≡ Equal → x.key ≡ y.key
 waits_key x y q = last_key (nat_cmp x.at y.at) (nat_cmp x.step y.step) (nat_cmp x.order y.order) x.key y.key q

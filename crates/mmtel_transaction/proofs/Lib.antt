@@ -22,6 +22,7 @@ mod Among
 mod Acknowledged
 mod HeadLines
 mod Naming
+mod Telling
 mod Changing
 mod Placing
 mod Reaching

@@ -20,10 +20,14 @@ use Rattle.mmtel_transaction.specs.declared.entries.Entry.{Entry}
 use Rattle.mmtel_transaction.specs.declared.names.Name.{Name}
 use Rattle.mmtel_transaction.specs.declared.names.Waits.{Waits}
 use Rattle.mmtel_transaction.specs.Answers.{is_client_named, is_server_named}
-use Rattle.mmtel_transaction.specs.Indexes.{client_name, client_named, has_name, name_cmp, named, server_name, server_named, waits_cmp}
+use Rattle.mmtel_transaction.specs.Indexes.{client_name, client_named, has_name, name_cmp, named, said_cmp, server_name, server_named, waits_cmp}
+use Rattle.mmtel_transaction.specs.Told.{told_of}
+
+said_total : IsTotalOrder said_cmp
+said_total = then_total (on_total (λ (x : Name). x.id) nat_list_cmp_total) (then_total (on_total (λ (x : Name). x.from) nat_list_cmp_total) (then_total (on_total (λ (x : Name). x.method) nat_list_cmp_total) (then_total (on_total (λ (x : Name). x.number) nat_cmp_total) (on_total (λ (x : Name). x.key) nat_cmp_total))))
 
 pub names_total : IsTotalOrder name_cmp
-names_total = then_total (on_total (λ (x : Name). x.id) nat_list_cmp_total) (then_total (on_total (λ (x : Name). x.from) nat_list_cmp_total) (then_total (on_total (λ (x : Name). x.method) nat_list_cmp_total) (then_total (on_total (λ (x : Name). x.number) nat_cmp_total) (on_total (λ (x : Name). x.key) nat_cmp_total))))
+names_total = then_total (on_total (λ (x : Name). x.told) nat_cmp_total) said_total
 
 pub waits_total : IsTotalOrder waits_cmp
 waits_total = then_total (on_total (λ (x : Waits). x.at) nat_cmp_total) (then_total (on_total (λ (x : Waits). x.step) nat_cmp_total) (then_total (on_total (λ (x : Waits). x.order) nat_cmp_total) (on_total (λ (x : Waits). x.key) nat_cmp_total)))
@@ -41,22 +45,25 @@ same_list (x ∷ xs) [] q = absurd cc
 same_list (x ∷ xs) (y ∷ ys) q = same_first x y xs ys (nat_cmp x y) refl q (same_list xs ys)
 
 -- of a mark and a later name: what does not come before the mark, and comes before the name, is alike
-decided : (a b c d k z : Ordering) → ordering_then a (ordering_then b (ordering_then c (ordering_then d k))) ≡ Less → is_lt (ordering_then a (ordering_then b (ordering_then c (ordering_then d z)))) ≡ false → (a ≡ Equal) × (b ≡ Equal) × (c ≡ Equal) × (d ≡ Equal) × (k ≡ Less)
-decided Less b c d k z l n = absurd cc
-decided Greater b c d k z l n = absurd cc
-decided Equal Less c d k z l n = absurd cc
-decided Equal Greater c d k z l n = absurd cc
-decided Equal Equal Less d k z l n = absurd cc
-decided Equal Equal Greater d k z l n = absurd cc
-decided Equal Equal Equal Less k z l n = absurd cc
-decided Equal Equal Equal Greater k z l n = absurd cc
-decided Equal Equal Equal Equal k z l n = (refl, refl, refl, refl, l)
+decided : (t a b c d k z : Ordering) → ordering_then t (ordering_then a (ordering_then b (ordering_then c (ordering_then d k)))) ≡ Less → is_lt (ordering_then t (ordering_then a (ordering_then b (ordering_then c (ordering_then d z))))) ≡ false → (t ≡ Equal) × (a ≡ Equal) × (b ≡ Equal) × (c ≡ Equal) × (d ≡ Equal) × (k ≡ Less)
+decided Less a b c d k z l n = absurd cc
+decided Greater a b c d k z l n = absurd cc
+decided Equal Less b c d k z l n = absurd cc
+decided Equal Greater b c d k z l n = absurd cc
+decided Equal Equal Less c d k z l n = absurd cc
+decided Equal Equal Greater c d k z l n = absurd cc
+decided Equal Equal Equal Less d k z l n = absurd cc
+decided Equal Equal Equal Greater d k z l n = absurd cc
+decided Equal Equal Equal Equal Less k z l n = absurd cc
+decided Equal Equal Equal Equal Greater k z l n = absurd cc
+decided Equal Equal Equal Equal Equal k z l n = (refl, refl, refl, refl, refl, l)
 
 module _ (b s m : List ℕ) (n : ℕ) where
   abbrev bound : Name
   bound = named b s m n 0
 
   pub record Alike (x : Name) : Type 0 where
+    pub told : x.told ≡ told_of b
     pub id : x.id ≡ b
     pub from : x.from ≡ s
     pub method : x.method ≡ m
@@ -64,18 +71,20 @@ module _ (b s m : List ℕ) (n : ℕ) where
 
   pub alike : (x : Name) → has_name bound x ≡ true → Alike x
   alike x h =
-      let o = and_parts (bytes_eq x.id b && bytes_eq x.from s && bytes_eq x.method m) (x.number == n) h in
-      let p = and_parts (bytes_eq x.id b && bytes_eq x.from s) (bytes_eq x.method m) o.0 in
-      let q = and_parts (bytes_eq x.id b) (bytes_eq x.from s) p.0 in
+      let o = and_parts ((x.told == told_of b) && bytes_eq x.id b && bytes_eq x.from s && bytes_eq x.method m) (x.number == n) h in
+      let p = and_parts ((x.told == told_of b) && bytes_eq x.id b && bytes_eq x.from s) (bytes_eq x.method m) o.0 in
+      let q = and_parts ((x.told == told_of b) && bytes_eq x.id b) (bytes_eq x.from s) p.0 in
+      let r = and_parts (x.told == told_of b) (bytes_eq x.id b) q.0 in
       record {
-        id = (bytes_eq-Decides x.id b).0 q.0;
+        told = eqb-true x.told (told_of b) r.0;
+        id = (bytes_eq-Decides x.id b).0 r.1;
         from = (bytes_eq-Decides x.from s).0 q.1;
         method = (bytes_eq-Decides x.method m).0 p.1;
         number = eqb-true x.number n o.1;
       }
 
-  pub hits : (x : Name) → x.id ≡ b → x.from ≡ s → x.method ≡ m → x.number ≡ n → has_name bound x ≡ true
-  hits x p q r t = and_from _ _ (and_from _ _ (and_from _ _ ((bytes_eq-Decides x.id b).1 p) ((bytes_eq-Decides x.from s).1 q)) ((bytes_eq-Decides x.method m).1 r)) (eq-eqb x.number n t)
+  pub hits : (x : Name) → x.told ≡ told_of b → x.id ≡ b → x.from ≡ s → x.method ≡ m → x.number ≡ n → has_name bound x ≡ true
+  hits x u p q r t = and_from _ _ (and_from _ _ (and_from _ _ (and_from _ _ (eq-eqb x.told (told_of b) u) ((bytes_eq-Decides x.id b).1 p)) ((bytes_eq-Decides x.from s).1 q)) ((bytes_eq-Decides x.method m).1 r)) (eq-eqb x.number n t)
 
   not_less : (k : ℕ) → is_lt (nat_cmp k 0) ≡ false
   not_less k = let w : nat_lt k 0 ≡ false = grind (arith, nat_tests) in rw w (either (nat_eq k 0))
@@ -84,25 +93,39 @@ module _ (b s m : List ℕ) (n : ℕ) where
       either true = refl
       either false = refl
 
-  same_parts : (a c d e k : Ordering) → a ≡ Equal → c ≡ Equal → d ≡ Equal → e ≡ Equal → is_lt k ≡ false → is_lt (ordering_then a (ordering_then c (ordering_then d (ordering_then e k)))) ≡ false
-  same_parts a c d e k p q r t l = rw (p, q, r, t) l
+  same_parts : (o a c d e k : Ordering) → o ≡ Equal → a ≡ Equal → c ≡ Equal → d ≡ Equal → e ≡ Equal → is_lt k ≡ false → is_lt (ordering_then o (ordering_then a (ordering_then c (ordering_then d (ordering_then e k))))) ≡ false
+  same_parts o a c d e k u p q r t l = rw (u, p, q, r, t) l
 
   pub not_before : (x : Name) → has_name bound x ≡ true → comes_before name_cmp bound x ≡ false
   not_before x h =
       let a = alike x h in
-      same_parts (slice_cmp nat_cmp x.id b) (slice_cmp nat_cmp x.from s) (slice_cmp nat_cmp x.method m) (nat_cmp x.number n) (nat_cmp x.key 0)
+      same_parts (nat_cmp x.told (told_of b)) (slice_cmp nat_cmp x.id b) (slice_cmp nat_cmp x.from s) (slice_cmp nat_cmp x.method m) (nat_cmp x.number n) (nat_cmp x.key 0)
+      (ap (λ y. nat_cmp y (told_of b)) a.told ∙ tied_itself nat_cmp_total (told_of b))
       (ap (λ y. slice_cmp nat_cmp y b) a.id ∙ tied_itself nat_list_cmp_total b)
       (ap (λ y. slice_cmp nat_cmp y s) a.from ∙ tied_itself nat_list_cmp_total s)
       (ap (λ y. slice_cmp nat_cmp y m) a.method ∙ tied_itself nat_list_cmp_total m)
       (ap (λ y. nat_cmp y n) a.number ∙ tied_itself nat_cmp_total n)
       (not_less x.key)
 
+  -- of one that is alike the bound says the same
+  as_bound : (x y : Name) → Alike x → name_cmp y x ≡ Less → ordering_then (nat_cmp y.told (told_of b)) (ordering_then (slice_cmp nat_cmp y.id b) (ordering_then (slice_cmp nat_cmp y.from s) (ordering_then (slice_cmp nat_cmp y.method m) (ordering_then (nat_cmp y.number n) (nat_cmp y.key x.key))))) ≡ Less
+  as_bound x y a l =
+      ap (λ z. ordering_then (nat_cmp y.told z) (ordering_then (slice_cmp nat_cmp y.id b) (ordering_then (slice_cmp nat_cmp y.from s) (ordering_then (slice_cmp nat_cmp y.method m) (ordering_then (nat_cmp y.number n) (nat_cmp y.key x.key)))))) (sym a.told)
+      ∙ (ap (λ z. ordering_then (nat_cmp y.told x.told) (ordering_then (slice_cmp nat_cmp y.id z) (ordering_then (slice_cmp nat_cmp y.from s) (ordering_then (slice_cmp nat_cmp y.method m) (ordering_then (nat_cmp y.number n) (nat_cmp y.key x.key)))))) (sym a.id)
+      ∙ (ap (λ z. ordering_then (nat_cmp y.told x.told) (ordering_then (slice_cmp nat_cmp y.id x.id) (ordering_then (slice_cmp nat_cmp y.from z) (ordering_then (slice_cmp nat_cmp y.method m) (ordering_then (nat_cmp y.number n) (nat_cmp y.key x.key)))))) (sym a.from)
+      ∙ (ap (λ z. ordering_then (nat_cmp y.told x.told) (ordering_then (slice_cmp nat_cmp y.id x.id) (ordering_then (slice_cmp nat_cmp y.from x.from) (ordering_then (slice_cmp nat_cmp y.method z) (ordering_then (nat_cmp y.number n) (nat_cmp y.key x.key)))))) (sym a.method)
+      ∙ (ap (λ z. ordering_then (nat_cmp y.told x.told) (ordering_then (slice_cmp nat_cmp y.id x.id) (ordering_then (slice_cmp nat_cmp y.from x.from) (ordering_then (slice_cmp nat_cmp y.method x.method) (ordering_then (nat_cmp y.number z) (nat_cmp y.key x.key)))))) (sym a.number) ∙ l))))
+
   pub between : (y x : Name) → comes_before name_cmp bound y ≡ false → has_name bound x ≡ true → name_cmp y x ≡ Less → (has_name bound y ≡ true) × (y.key < x.key)
   between y x t h l =
       let a = alike x h in
-      let l : ordering_then (slice_cmp nat_cmp y.id b) (ordering_then (slice_cmp nat_cmp y.from s) (ordering_then (slice_cmp nat_cmp y.method m) (ordering_then (nat_cmp y.number n) (nat_cmp y.key x.key)))) ≡ Less = rw (← a.id, ← a.from, ← a.method, ← a.number) l in
-      let d = decided (slice_cmp nat_cmp y.id b) (slice_cmp nat_cmp y.from s) (slice_cmp nat_cmp y.method m) (nat_cmp y.number n) (nat_cmp y.key x.key) (nat_cmp y.key 0) l t in
-      (hits y (same_list y.id b d.0) (same_list y.from s d.1) (same_list y.method m d.2) (ranked y.number n Equal (sym d.3)), ranked y.key x.key Less (sym d.4))
+      let l : ordering_then (nat_cmp y.told (told_of b)) (ordering_then (slice_cmp nat_cmp y.id b) (ordering_then (slice_cmp nat_cmp y.from s) (ordering_then (slice_cmp nat_cmp y.method m) (ordering_then (nat_cmp y.number n) (nat_cmp y.key x.key))))) ≡ Less = as_bound x y a l in
+      let d = decided (nat_cmp y.told (told_of b)) (slice_cmp nat_cmp y.id b) (slice_cmp nat_cmp y.from s) (slice_cmp nat_cmp y.method m) (nat_cmp y.number n) (nat_cmp y.key x.key) (nat_cmp y.key 0) l t in
+      (hits y (ranked y.told (told_of b) Equal (sym d.0)) (same_list y.id b d.1) (same_list y.from s d.2) (same_list y.method m d.3) (ranked y.number n Equal (sym d.4)), ranked y.key x.key Less (sym d.5))
+
+-- of equal bytes one number is told
+pub told_alike : (bytes others : List ℕ) → bytes_eq bytes others ≡ true → (told_of bytes == told_of others) ≡ true
+told_alike bytes others q = eq-eqb (told_of bytes) (told_of others) (ap told_of ((bytes_eq-Decides bytes others).0 q))
 
 -- of servers
 module _ (b s m : List ℕ) where
@@ -111,7 +134,7 @@ module _ (b s m : List ℕ) where
       let p = and_parts (e.is_server && bytes_eq e.asked.branch b && bytes_eq e.asked.sent_by s) (bytes_eq e.asked.method m) q in
       let r = and_parts (e.is_server && bytes_eq e.asked.branch b) (bytes_eq e.asked.sent_by s) p.0 in
       let t = and_parts e.is_server (bytes_eq e.asked.branch b) r.0 in
-      (server_named e, ap (λ c. cond c (Some (server_named e)) None) t.0, and_from _ _ (and_from _ _ (and_from _ _ t.1 r.1) p.1) refl)
+      (server_named e, ap (λ c. cond c (Some (server_named e)) None) t.0, and_from _ _ (and_from _ _ (and_from _ _ (and_from _ _ (told_alike e.asked.branch b t.1) t.1) r.1) p.1) refl)
 
   server_if : (e : Entry) (x : Name) (c : Bool) → e.is_server ≡ c → cond c (Some (server_named e)) None ≡ Some x → (e.is_server ≡ true) × (server_named e ≡ x)
   server_if e x true t q = (t, same_Some (server_named e) x q)
@@ -135,7 +158,7 @@ module _ (b m : List ℕ) where
   client_item e q =
       let p = and_parts (not e.is_server && bytes_eq e.asked.branch b) (bytes_eq e.asked.method m) q in
       let t = and_parts (not e.is_server) (bytes_eq e.asked.branch b) p.0 in
-      (client_named e, client_there e.is_server t.0, and_from _ _ (and_from _ _ (and_from _ _ t.1 refl) p.1) refl)
+      (client_named e, client_there e.is_server t.0, and_from _ _ (and_from _ _ (and_from _ _ (and_from _ _ (told_alike e.asked.branch b t.1) t.1) refl) p.1) refl)
     where
       client_there : (c : Bool) → not c ≡ true → cond c None (Some (client_named e)) ≡ Some (client_named e)
       client_there true n = absurd cc

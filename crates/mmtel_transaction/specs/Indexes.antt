@@ -9,6 +9,7 @@ use Rattle.std.specs.declared.cmp.Ordering.{Ordering}
 use Rattle.std.specs.List.Sorted.{IsPartitionPoint}
 use Rattle.mmtel_timers.specs.Shelves.{comes_before, IsIndex, Rises}
 use Rattle.mmtel_transaction.specs.Heads.{invite}
+use Rattle.mmtel_transaction.specs.Told.{told_of}
 use Rattle.mmtel_transaction.specs.Answers.{is_other}
 use Rattle.mmtel_transaction.specs.Deadlines.{deadline}
 use Rattle.mmtel_transaction.specs.declared.heads.Head.{Head}
@@ -17,26 +18,30 @@ use Rattle.mmtel_transaction.specs.declared.names.Name.{Name}
 use Rattle.mmtel_transaction.specs.declared.names.NameMark.{NameMark}
 use Rattle.mmtel_transaction.specs.declared.names.Waits.{Waits}
 
--- the order of names: by what they say, then by the order of opening
-abbrev pub name_cmp : Name → Name → Ordering
-name_cmp x y =
+-- the order of names by what they say, then by the order of opening
+abbrev pub said_cmp : Name → Name → Ordering
+said_cmp x y =
     ordering_then (slice_cmp nat_cmp x.id y.id)
     (ordering_then (slice_cmp nat_cmp x.from y.from)
     (ordering_then (slice_cmp nat_cmp x.method y.method) (ordering_then (nat_cmp x.number y.number) (nat_cmp x.key y.key))))
+
+-- the order of names: first by the numbers that are told from them, which takes one comparison where names are alike in many bytes
+abbrev pub name_cmp : Name → Name → Ordering
+name_cmp x y = ordering_then (nat_cmp x.told y.told) (said_cmp x y)
 
 -- the order in which deadlines fire
 abbrev pub waits_cmp : Waits → Waits → Ordering
 waits_cmp x y = ordering_then (nat_cmp x.at y.at) (ordering_then (nat_cmp x.step y.step) (ordering_then (nat_cmp x.order y.order) (nat_cmp x.key y.key)))
 
 abbrev pub named : List ℕ → List ℕ → List ℕ → ℕ → ℕ → Name
-named id from method number key = record { id = id; from = from; method = method; number = number; key = key }
+named id from method number key = record { told = told_of id; id = id; from = from; method = method; number = number; key = key }
 
 abbrev pub mark_name : NameMark → Name
-mark_name m = named m.id.now m.from.now m.method.now m.number m.key
+mark_name m = record { told = m.told; id = m.id.now; from = m.from.now; method = m.method.now; number = m.number; key = m.key }
 
 -- whether two names are alike, whatever their keys
 abbrev pub has_name : Name → Name → Bool
-has_name m x = bytes_eq x.id m.id && bytes_eq x.from m.from && bytes_eq x.method m.method && (x.number == m.number)
+has_name m x = (x.told == m.told) && bytes_eq x.id m.id && bytes_eq x.from m.from && bytes_eq x.method m.method && (x.number == m.number)
 
 -- by branch, sent-by and method
 abbrev pub server_named : Entry → Name

@@ -14,6 +14,7 @@ pub mod OnePeer
 pub mod Waiting
 pub mod Settling
 pub mod HeadsRead
+pub mod Told
 -- What private functions cite.
 pub mod Table
 pub mod Indexes

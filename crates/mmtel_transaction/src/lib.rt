@@ -16,6 +16,7 @@ mod transactions;
 mod words;
 
 pub use mmtel_scan::{List, NoMemory, Text};
+pub use names::told;
 pub use tokens::Tokens;
 pub use transactions::Transactions;
 pub use words::{Due, DueWord, Emit, Emits, HearFault, Heard, RoomWord, TKey};

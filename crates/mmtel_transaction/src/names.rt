@@ -2,7 +2,8 @@
 ghost use Rattle.std.specs.Prelude.{◌≡◌, IfOk, option_copied};
 ghost use Rattle.std.specs.Ordering.{ordering_then};
 ghost use Rattle.mmtel_timers.specs.Shelves.{answer, comes_before};
-ghost use Rattle.mmtel_transaction.specs.Indexes.{call_named, client_named, has_name, mark_name, name_cmp, server_named, waits, waits_cmp};
+ghost use Rattle.mmtel_transaction.specs.Indexes.{call_named, client_named, has_name, mark_name, name_cmp, named, said_cmp, server_named, waits, waits_cmp};
+ghost use Rattle.mmtel_transaction.specs.Told.{told_of};
 
 use crate::entries::{Entry, deadline_of};
 use mmtel_scan::{NoMemory, Text};
@@ -10,8 +11,23 @@ use mmtel_timers::Mark;
 use std::alloc::Global;
 use std::cmp::Ordering;
 
+/// A number that is told from bytes: equal ones have one number.
+pub fn told(bytes: &[u8]) -> u64
+    ensures { result ≡ told_of bytes.now }
+{
+    let mut sum = 0u64;
+    for byte in bytes {
+        sum = sum
+            .wrapping_mul(1_099_511_628_211)
+            .wrapping_add(u64::from(*byte));
+    }
+    sum
+}
+
 /// By what a message finds a transaction, and which transaction it is.
 pub struct Name {
+    /// The number that is told from the branch or the Call-ID, by which names are ordered first: most of them are alike in many bytes.
+    pub told: u64,
     /// The branch, or the Call-ID.
     pub id: Text,
     /// Whence the request came: the sent-by beside a branch, none of a client transaction, or the From tag beside a Call-ID.
@@ -26,6 +42,7 @@ pub struct Name {
 impl Drop for Name {
     fn drop(self) {
         let Name {
+            told: _,
             id: _,
             from: _,
             method: _,
@@ -38,6 +55,7 @@ impl Drop for Name {
 /// A name that is looked for: of those that are alike the first from a key on.
 #[derive(Clone, Copy)]
 pub struct NameMark<'a> {
+    pub told: u64,
     pub id: &'a [u8],
     pub from: &'a [u8],
     pub method: &'a [u8],
@@ -56,9 +74,25 @@ fn or_then(first: Ordering, then: Ordering) -> Ordering
     }
 }
 
-/// Whether a name comes before a mark, or after it.
-fn name_order(name: &Name, mark: &NameMark<'_>) -> Ordering
-    ensures { result ≡ name_cmp name.now (mark_name mark.now) }
+impl<'a> NameMark<'a> {
+    /// What is looked for by these parts of a name.
+    pub fn of(id: &'a [u8], from: &'a [u8], method: &'a [u8], number: u32, key: u64) -> NameMark<'a>
+        ensures { mark_name result ≡ named id.now from.now method.now number key }
+    {
+        NameMark {
+            told: told(id),
+            id,
+            from,
+            method,
+            number,
+            key,
+        }
+    }
+}
+
+/// Whether a name comes before a mark by what it says, or after it.
+fn said_order(name: &Name, mark: &NameMark<'_>) -> Ordering
+    ensures { result ≡ said_cmp name.now (mark_name mark.now) }
 {
     match name.id.bytes().cmp(mark.id) {
         Ordering::Less => Ordering::Less,
@@ -70,6 +104,17 @@ fn name_order(name: &Name, mark: &NameMark<'_>) -> Ordering
                 or_then(name.number.cmp(&mark.number), name.key.cmp(&mark.key)),
             ),
         ),
+    }
+}
+
+/// Whether a name comes before a mark, or after it.
+fn name_order(name: &Name, mark: &NameMark<'_>) -> Ordering
+    ensures { result ≡ name_cmp name.now (mark_name mark.now) }
+{
+    match name.told.cmp(&mark.told) {
+        Ordering::Less => Ordering::Less,
+        Ordering::Greater => Ordering::Greater,
+        Ordering::Equal => said_order(name, mark),
     }
 }
 
@@ -92,7 +137,8 @@ pub fn key_if(name: Option<&Name>, mark: &NameMark<'_>) -> Option<u64>
     match name {
         None => None,
         Some(name) => {
-            if name.id.bytes() == mark.id
+            if name.told == mark.told
+                && name.id.bytes() == mark.id
                 && name.from.bytes() == mark.from
                 && name.method.bytes() == mark.method
                 && name.number == mark.number
@@ -111,6 +157,7 @@ impl Name {
         ensures { mark_name result ≡ self.now }
     {
         NameMark {
+            told: self.told,
             id: self.id.bytes(),
             from: self.from.bytes(),
             method: self.method.bytes(),
@@ -128,6 +175,7 @@ impl Name {
         ensures name { IfOk result (λ name. name ≡ server_named e.now) }
     {
         Ok(Name {
+            told: told(e.asked.branch.bytes()),
             id: e.asked.branch.copied(alloc)?,
             from: e.asked.sent_by.copied(alloc)?,
             method: e.asked.method.copied(alloc)?,
@@ -145,6 +193,7 @@ impl Name {
         ensures name { IfOk result (λ name. name ≡ client_named e.now) }
     {
         Ok(Name {
+            told: told(e.asked.branch.bytes()),
             id: e.asked.branch.copied(alloc)?,
             from: Text::new(),
             method: e.asked.method.copied(alloc)?,
@@ -162,6 +211,7 @@ impl Name {
         ensures name { IfOk result (λ name. name ≡ call_named e.now) }
     {
         Ok(Name {
+            told: told(e.asked.call_id.bytes()),
             id: e.asked.call_id.copied(alloc)?,
             from: e.asked.from_tag.copied(alloc)?,
             method: e.asked.method.copied(alloc)?,

@@ -44,65 +44,65 @@ pub fn take_name<L: Ledger>(names: &mut Shelf<Name>, old: &NameMark<'_>, steps: 
 pub fn server_mark(e: &Entry) -> NameMark<'_>
     ensures { mark_name result ≡ server_named e.now }
 {
-    NameMark {
-        id: e.asked.branch.bytes(),
-        from: e.asked.sent_by.bytes(),
-        method: e.asked.method.bytes(),
-        number: 0,
-        key: e.key,
-    }
+    NameMark::of(
+        e.asked.branch.bytes(),
+        e.asked.sent_by.bytes(),
+        e.asked.method.bytes(),
+        0,
+        e.key,
+    )
 }
 
 /// The name of a client transaction.
 pub fn client_mark(e: &Entry) -> NameMark<'_>
     ensures { mark_name result ≡ client_named e.now }
 {
-    NameMark {
-        id: e.asked.branch.bytes(),
-        from: b"",
-        method: e.asked.method.bytes(),
-        number: 0,
-        key: e.key,
-    }
+    NameMark::of(
+        e.asked.branch.bytes(),
+        b"",
+        e.asked.method.bytes(),
+        0,
+        e.key,
+    )
 }
 
 /// The call and CSeq of the request of a server transaction.
 pub fn call_mark(e: &Entry) -> NameMark<'_>
     ensures { mark_name result ≡ call_named e.now }
 {
-    NameMark {
-        id: e.asked.call_id.bytes(),
-        from: e.asked.from_tag.bytes(),
-        method: e.asked.method.bytes(),
-        number: e.asked.number,
-        key: e.key,
-    }
+    NameMark::of(
+        e.asked.call_id.bytes(),
+        e.asked.from_tag.bytes(),
+        e.asked.method.bytes(),
+        e.asked.number,
+        e.key,
+    )
 }
 
 /// What stands before the names of all server transactions of the call and CSeq of this one.
 pub fn twin_name(e: &Entry) -> NameMark<'_>
     ensures { mark_name result ≡ twin_mark e.now }
 {
-    NameMark {
-        id: e.asked.call_id.bytes(),
-        from: e.asked.from_tag.bytes(),
-        method: e.asked.method.bytes(),
-        number: e.asked.number,
-        key: 0,
-    }
+    NameMark::of(
+        e.asked.call_id.bytes(),
+        e.asked.from_tag.bytes(),
+        e.asked.method.bytes(),
+        e.asked.number,
+        0,
+    )
 }
 
 /// What stands before the names of all INVITEs of whose 2xx this may be the ACK.
 pub fn ack_name(m: &Head) -> NameMark<'_>
     ensures { mark_name result ≡ ack_mark m.now }
 {
-    NameMark {
-        id: m.call_id.bytes(),
-        from: m.from_tag.bytes(),
-        method: b"INVITE",
-        number: m.number,
-        key: 0,
-    }
+    NameMark::of(
+        m.call_id.bytes(),
+        m.from_tag.bytes(),
+        b"INVITE",
+        m.number,
+        0,
+    )
 }
 
 /// The key of the name at a place, if it is like the one that is looked for.

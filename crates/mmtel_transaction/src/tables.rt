@@ -133,13 +133,7 @@ impl Tables {
         ensures cost { 2 ^ (steps.new - steps.old) ≤ 2 * servers self.now + 1 }
         ensures rise { steps.old ≤ steps.new }
     {
-        let mark = NameMark {
-            id: branch,
-            from: sent_by,
-            method,
-            number: 0,
-            key: 0,
-        };
+        let mark = NameMark::of(branch, sent_by, method, 0, 0);
         let sought = self.servers.seek(&mark, steps);
         key_if(sought.item, &mark)
     }
@@ -155,13 +149,7 @@ impl Tables {
         ensures cost { 2 ^ (steps.new - steps.old) ≤ 2 * clients self.now + 1 }
         ensures rise { steps.old ≤ steps.new }
     {
-        let mark = NameMark {
-            id: branch,
-            from: b"",
-            method,
-            number: 0,
-            key: 0,
-        };
+        let mark = NameMark::of(branch, b"", method, 0, 0);
         let sought = self.clients.seek(&mark, steps);
         key_if(sought.item, &mark)
     }

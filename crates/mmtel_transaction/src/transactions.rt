@@ -1,6 +1,7 @@
 //! The transactions.
 ghost use Rattle.std.specs.Prelude.{◌≡◌, [], ◌∷◌, ◌+◌, ◌-◌, ◌*◌, ◌^◌, ◌≤◌, ◌<◌, IfErr, IfOk, List, length, OnErr, OnOk, option_map, Some};
 ghost use Rattle.std.specs.List.{find};
+ghost use Rattle.mmtel_message.specs.Texts.{message_text};
 ghost use Rattle.mmtel_transaction.specs.Heads.{head_of};
 ghost use Rattle.mmtel_transaction.specs.Calls.{DidAck, DidAsk, DidBegin, DidReply, Done, live, opened};
 ghost use Rattle.mmtel_transaction.specs.Answers.{clients, fires, hear_says, hears, is_client_named, is_merged, is_server_named, key_of, next_due, part_of, peer_of};
@@ -17,10 +18,11 @@ use crate::table::{
 };
 use crate::words::{Due, HearFault, Heard, TKey};
 use mmtel_message::Msg;
-use mmtel_scan::NoMemory;
+use mmtel_scan::{NoMemory, Text};
 use mmtel_timers::Steps;
 use mmtel_types::{Moment, Peer};
 use std::alloc::Global;
+use std::mem;
 use std::sync::ledger::Ledger;
 
 /// The transactions of a server, which stand for the calls that were made of them.
@@ -34,6 +36,8 @@ pub struct Transactions {
     next: u64,
     /// The live transactions, the oldest first.
     entries: Entries,
+    /// The text of the message that was offered last, until it is handed out.
+    offered: Text,
 }
 
 impl Transactions {
@@ -46,6 +50,7 @@ impl Transactions {
             offers: 0,
             next: 0,
             entries: Entries::new(),
+            offered: Text::new(),
         }
     }
 
@@ -54,6 +59,16 @@ impl Transactions {
         ensures done { (h : List Done) → Stands self.old h → Stands self.new (DidBegin step ∷ h) }
     {
         self.step = step;
+    }
+
+    /// The text of the message that `ask`, `reply` or `ack` offered last, which goes out now; no bytes where it was handed out before. It takes no memory.
+    ///
+    /// A message is printed once: the transaction keeps a copy of this text.
+    pub fn take_offered(&mut self) -> Text
+        ensures text { result ≡ self.old.offered }
+        ensures stands { (h : List Done) → Stands self.old h → Stands self.new h }
+    {
+        mem::replace(&mut self.offered, Text::new())
     }
 
     /// A request is sent in a client transaction of its own, whose key is given.
@@ -70,18 +85,21 @@ impl Transactions {
         steps: &mut Steps<L>,
     ) -> Result<TKey, NoMemory>
         ensures done { IfOk result (λ key. MayOpen self.old self.new (λ h. DidAsk p m.now now ∷ h) (λ h. key ≡ tkey (length (opened h)))) }
+        ensures offered { OnOk result (self.new.offered ≡ message_text m.now) }
         ensures err { OnErr result ((h : List Done) → Stands self.old h → Stands self.new h) }
     {
         let asked = Head::of(alloc, m)?;
         let text = m.text(alloc)?;
+        let kept = text.copied(alloc)?;
         let key = self.next;
         self.entries.push(
             alloc,
-            asked_entry(self.step, self.offers, key, p, asked, text, now.ms()),
+            asked_entry(self.step, self.offers, key, p, asked, kept, now.ms()),
             steps,
         )?;
         self.offers = self.offers.saturating_add(1);
         self.next = self.next.saturating_add(1);
+        self.offered = text;
         Ok(TKey(key))
     }
 
@@ -99,13 +117,16 @@ impl Transactions {
         steps: &mut Steps<L>,
     ) -> Result<(), NoMemory>
         ensures done { OnOk result ((h : List Done) → Stands self.old h → Stands self.new (DidReply key.0 m.now now ∷ h)) }
+        ensures offered { OnOk result (self.new.offered ≡ message_text m.now) }
         ensures err { OnErr result ((h : List Done) → Stands self.old h → Stands self.new h) }
     {
         let said = status_and_tag(alloc, m)?;
         let text = m.text(alloc)?;
-        let change = reply_change(self.step, self.offers, said, text, now.ms());
+        let kept = text.copied(alloc)?;
+        let change = reply_change(self.step, self.offers, said, kept, now.ms());
         self.entries.settle(key.0, change, steps);
         self.offers = self.offers.saturating_add(1);
+        self.offered = text;
         Ok(())
     }
 
@@ -122,10 +143,13 @@ impl Transactions {
         steps: &mut Steps<L>,
     ) -> Result<(), NoMemory>
         ensures done { OnOk result ((h : List Done) → Stands self.old h → Stands self.new (DidAck key.0 m.now ∷ h)) }
+        ensures offered { OnOk result (self.new.offered ≡ message_text m.now) }
         ensures err { OnErr result ((h : List Done) → Stands self.old h → Stands self.new h) }
     {
         let text = m.text(alloc)?;
-        self.entries.settle(key.0, Change::Keep(text), steps);
+        let kept = text.copied(alloc)?;
+        self.entries.settle(key.0, Change::Keep(kept), steps);
+        self.offered = text;
         Ok(())
     }
 

@@ -10,17 +10,21 @@ use mmtel_types::{CallNo, Peer, RoomNo};
 #[derive(Clone, Copy, Debug, PartialEq, Eq, PartialOrd, Ord)]
 pub struct TKey(pub u64);
 
-/// What is due of a call, with the number of the attempt or 2xx, counted within the call, for which it was armed.
+/// What is due of a call, with the number of the attempt, reliable answer or 2xx, counted within the call, for which it was armed.
 ///
-/// A deadline whose attempt or 2xx no longer waits for it emits nothing.
+/// A deadline whose attempt, answer or 2xx no longer waits for it emits nothing.
 #[derive(Clone, Copy, Debug, PartialEq, Eq)]
 pub enum DueWord {
     /// The target did not answer in time.
     NoReply(u64),
+    /// No PRACK of a reliable provisional answer came (RFC 3262 §3).
+    NoPrack(u64),
     /// The longest time for which a call may ring is over.
     Cap(u64),
     /// No ACK of a 2xx came.
     NoAck(u64),
+    /// The session was not refreshed in the time that a 2xx gave it (RFC 4028 §10).
+    Expired(u64),
 }
 
 /// What is due of a room, with the number of the invitation or 2xx, counted within the room, for which it was armed.

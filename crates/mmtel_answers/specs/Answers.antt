@@ -1,6 +1,6 @@
 -- The responses that the server gives to what it heard: those of its own (RFC 3261 §8.2.6), and those that it relays from the other side of a call (§16.7). The first Via
 -- says where the request came from (§18.2.1).
-use Rattle.std.specs.Prelude.{ℕ, Some, List, [], ◌∷◌, codes}
+use Rattle.std.specs.Prelude.{ℕ, Bool, true, false, Some, List, [], ◌∷◌, codes}
 use Rattle.mmtel_message.specs.Message.{Line, Message}
 use Rattle.mmtel_message.specs.Phrases.{phrase_of}
 use Rattle.mmtel_message.specs.Responses.{Reply, response}
@@ -8,6 +8,7 @@ use Rattle.mmtel_message.specs.declared.messages.Start.{Start}
 use Rattle.mmtel_trust.specs.Digest.{HeardMessage}
 use Rattle.mmtel_types.specs.declared.addrs.Addr.{Addr}
 use Rattle.mmtel_answers.specs.Said.{Said, phrase_in, status_of}
+use Rattle.mmtel_answers.specs.declared.answers.FurtherMethods.{FurtherMethods}
 
 -- what a response of the server's own says, with this Contact where one is due: its tag in the dialog, the lines of History-Info that a 181 passes, the lines that are
 -- named for the status, and the body
@@ -36,6 +37,16 @@ relayed_answer contact m tag passed r = answer m (relayed_reply contact m.source
 abbrev pub retry_after : List Line
 retry_after = (codes "Retry-After", codes "5") ∷ []
 
+-- none beside the methods that the server always knows
+abbrev pub no_further_methods : FurtherMethods
+no_further_methods = record { reliable = false; mwi = false }
+
 -- the methods that the server knows (§20.5)
-abbrev pub allowed : List Line
-allowed = (codes "Allow", codes "INVITE, ACK, CANCEL, BYE, OPTIONS, REGISTER, REFER") ∷ []
+abbrev pub method_names : (reliable mwi : Bool) → List ℕ
+method_names false false = codes "INVITE, ACK, CANCEL, BYE, OPTIONS, REGISTER, REFER"
+method_names true false = codes "INVITE, ACK, CANCEL, BYE, OPTIONS, REGISTER, REFER, PRACK, UPDATE"
+method_names false true = codes "INVITE, ACK, CANCEL, BYE, OPTIONS, REGISTER, REFER, SUBSCRIBE"
+method_names true true = codes "INVITE, ACK, CANCEL, BYE, OPTIONS, REGISTER, REFER, PRACK, UPDATE, SUBSCRIBE"
+
+abbrev pub allowed : FurtherMethods → List Line
+allowed methods = (codes "Allow", method_names methods.reliable methods.mwi) ∷ []

@@ -2,7 +2,7 @@
 ghost use Rattle.std.specs.Prelude.{◌≡◌, IfOk, codes};
 ghost use Rattle.mmtel_message.specs.Addresses.{contact_text};
 ghost use Rattle.mmtel_message.specs.Message.{line};
-ghost use Rattle.mmtel_answers.specs.Answers.{allowed, own_answer, relayed_answer, retry_after};
+ghost use Rattle.mmtel_answers.specs.Answers.{allowed, method_names, own_answer, relayed_answer, retry_after};
 
 use crate::hearing::{Hearing, phrase_in, status_of};
 use mmtel_message::{Line, Msg, Reply, add_bytes, contact_text, phrase_of, response};
@@ -124,21 +124,39 @@ pub fn retry_after(alloc: Global) -> Result<List<Line>, NoMemory>
     Ok(lines)
 }
 
+/// Which methods the server knows beside those that it always knows.
+#[derive(Clone, Copy)]
+pub struct FurtherMethods {
+    /// PRACK (RFC 3262) and UPDATE (RFC 3311).
+    pub reliable: bool,
+    /// SUBSCRIBE, to waiting messages (RFC 3842).
+    pub mwi: bool,
+}
+
+/// The names of the methods that the server knows.
+fn method_names(methods: FurtherMethods) -> &'static [u8]
+    ensures { result.now ≡ method_names methods.reliable methods.mwi }
+{
+    match (methods.reliable, methods.mwi) {
+        (false, false) => b"INVITE, ACK, CANCEL, BYE, OPTIONS, REGISTER, REFER",
+        (true, false) => b"INVITE, ACK, CANCEL, BYE, OPTIONS, REGISTER, REFER, PRACK, UPDATE",
+        (false, true) => b"INVITE, ACK, CANCEL, BYE, OPTIONS, REGISTER, REFER, SUBSCRIBE",
+        (true, true) => {
+            b"INVITE, ACK, CANCEL, BYE, OPTIONS, REGISTER, REFER, PRACK, UPDATE, SUBSCRIBE"
+        }
+    }
+}
+
 /// The line of the methods that the server knows (RFC 3261 §20.5).
 ///
 /// # Errors
 ///
 /// Want of memory alone.
 #[tactic(auto, unfolding(mmtel_message::specs::Message::line))]
-pub fn allowed(alloc: Global) -> Result<List<Line>, NoMemory>
-    ensures lines { IfOk result (λ ls. ls ≡ allowed) }
+pub fn allowed(alloc: Global, methods: FurtherMethods) -> Result<List<Line>, NoMemory>
+    ensures lines { IfOk result (λ ls. ls ≡ allowed methods) }
 {
     let mut lines = List::new();
-    add_bytes(
-        alloc,
-        &mut lines,
-        b"Allow",
-        b"INVITE, ACK, CANCEL, BYE, OPTIONS, REGISTER, REFER",
-    )?;
+    add_bytes(alloc, &mut lines, b"Allow", method_names(methods))?;
     Ok(lines)
 }

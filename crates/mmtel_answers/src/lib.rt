@@ -8,7 +8,9 @@ mod hearing;
 mod laws;
 mod requests;
 
-pub use answers::{OwnResponse, allowed, own_answer, own_answer_at, relayed_answer, retry_after};
+pub use answers::{
+    FurtherMethods, OwnResponse, allowed, own_answer, own_answer_at, relayed_answer, retry_after,
+};
 pub use attempts::{Aim, bracketed, called, calling, dialogue_to, diverted_aim, first_aim, invite};
 pub use hearing::{Hearing, number_of, said_by_callee, status_of};
 pub use laws::{

@@ -6,7 +6,7 @@ ghost use Rattle.mmtel_leg.specs.Requests.{ack_of, request_of};
 ghost use Rattle.mmtel_answers.specs.Requests.{bare, bringing, cancel_of, final_ack_of, relaying, towards};
 
 use crate::hearing::{Hearing, hops_left};
-use mmtel_leg::{Dialogue, LegOf, Parts, Standing, numbered};
+use mmtel_leg::{Dialogue, InDialog, LegOf, Parts, Standing, numbered};
 use mmtel_message::{Line, Msg};
 use mmtel_scan::{List, NoMemory, Text};
 use mmtel_types::{Addr, Side};
@@ -76,9 +76,9 @@ pub fn own_request<P>(
 /// # Errors
 ///
 /// Want of memory alone; the leg is then as before.
-pub fn relayed_request<P>(
+pub fn relayed_request<P, S: InDialog>(
     alloc: Global,
-    leg: &mut LegOf<P, Standing>,
+    leg: &mut LegOf<P, S>,
     method: &[u8],
     sip: Addr,
     branch: &Text,

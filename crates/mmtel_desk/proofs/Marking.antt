@@ -1,11 +1,12 @@
 -- The index, through each change: each call, or each room, is found by each of its marks.
 use Rattle.std.proofs.Common.{◌≡◌, ℕ, zero, suc, ◌+◌, ◌<◌, ◌≤◌, Bool, true, false, not, cond, List, [], ◌∷◌, ◌++◌}
 use Rattle.std.proofs.Common.{length, get_or, Option, Some, None, refl, sym, ap, ◌∙◌, subst, arith, inl, inr, ◌⊎◌, drop, take}
+use Rattle.std.proofs.lemmas.Bool.{and_from, and_parts, eq-eqb, eqb-true}
 use Rattle.std.proofs.lemmas.Bool.Decides.{nat_tests}
 use Rattle.std.proofs.lemmas.Cmp.{nat_cmp_total, ranked, tied_itself}
 use Rattle.std.proofs.lemmas.List.{take_more}
 use Rattle.std.proofs.lemmas.Option.{none-some, same_Some}
-use Rattle.std.specs.Prelude.{◌||◌, ⊤, flat_map, is_some, nat_lt, position, remove, set, slice_get, IfSome}
+use Rattle.std.specs.Prelude.{◌||◌, ◌&&◌, ◌==◌, ⊤, filter, flat_map, is_some, nat_lt, position, remove, set, slice_get, IfSome}
 use Rattle.std.specs.BTreeSet.{contains}
 use Rattle.std.specs.BTreeMap.{is_at}
 use Rattle.std.specs.List.{AllByRecursion, list_any, position_or_len}
@@ -13,24 +14,11 @@ use Rattle.std.specs.Option.{option_map}
 use Rattle.std.specs.Ordering.{MatchOrdering, is_eq, is_gt, nat_cmp, ordering_then}
 use Rattle.std.specs.declared.cmp.Ordering.{Ordering}
 use Rattle.std.specs.declared.cmp.Ordering.TheVariants.{Less, Equal, Greater}
-use Rattle.mmtel_desk.specs.Marks.{AreBelow, AreMarked, Ascend, Has, Holds, HoldsAll, Unmarked, Written, holds, key_cmp, key_of, told_from, told_of, told_on}
+use Rattle.mmtel_desk.specs.Marks.{AreBelow, AreMarked, Ascend, Has, Holds, HoldsAll, Unmarked, Written, holds, is_same, key_cmp, key_of}
 use Rattle.mmtel_desk.specs.declared.index.Index.{Index}
 use Rattle.mmtel_desk.specs.declared.marks.Key.{Key}
 use Rattle.mmtel_desk.specs.declared.marks.Mark.{Mark}
 use Rattle.mmtel_desk.specs.declared.marks.Mark.TheVariants.{Asked, Heard, Named, Sent}
-
--- ---- a number told from bytes
-
-told_more : (bytes : List ℕ) (b : ℕ) → told_on (told_of bytes) b ≡ told_of (bytes ++ b ∷ [])
-told_more bytes b = go 0 bytes
-  where
-    go : (sum : ℕ) (bs : List ℕ) → told_on (told_from sum bs) b ≡ told_from sum (bs ++ b ∷ [])
-    go sum [] = refl
-    go sum (x ∷ xs) = go (told_on sum x) xs
-
-pub told_next : (bytes : List ℕ) (at sum b : ℕ) → at < length bytes → sum ≡ told_of (take at bytes) → b ≡ get_or bytes at 0 → told_on sum b ≡ told_of (take (at + 1) bytes)
-told_next bytes at sum b l so is =
-    ap (λ (n : ℕ). told_on n b) so ∙ (told_more (take at bytes) b ∙ sym (ap (λ (l : List ℕ). told_of l) (take_more bytes at 0 l ∙ ap (λ (y : ℕ). take at bytes ++ y ∷ []) (sym is))))
 
 -- ---- keys
 
@@ -127,19 +115,24 @@ module _ (m : Mark) (n : ℕ) (first : Key) where
       (subst (λ (t : ℕ). UpTo first.kind first.told first.owner (key_of m n).kind t n) (told_same m n)
       (subst (λ (c : ℕ). UpTo first.kind first.told first.owner (key_of m n).kind (key_of m n).told c) (owner_is m n) b)))
 
--- a key is held where one is missing, or where it stands there
-held : (index : Index) (q : Key) → (not index.is_whole || contains key_cmp index.keys q) ≡ true → Holds index q
+-- a key that goes is not held
+abbrev goes : Index → Key → Bool
+goes index q = list_any (is_same q) index.going.items
+
+-- a key is held where one is missing, or where it stands there and does not go
+held : (index : Index) (q : Key) → (not index.is_whole || (contains key_cmp index.keys q && not (goes index q))) ≡ true → Holds index q
 unfolding holds
 held index q e = e
 
-held_by : (index : Index) (q : Key) → Holds index q → (not index.is_whole || contains key_cmp index.keys q) ≡ true
+held_by : (index : Index) (q : Key) → Holds index q → (not index.is_whole || (contains key_cmp index.keys q && not (goes index q))) ≡ true
 unfolding holds
 held_by index q e = e
 
 -- what the range from a mark on says of the first of it
 module _ (index : Index) (m : Mark) (whole : index.is_whole ≡ true) (n : ℕ) (there : Holds index (key_of m n)) where
   kept_there : contains key_cmp index.keys (key_of m n) ≡ true
-  kept_there = ap (λ (w : Bool). not w || contains key_cmp index.keys (key_of m n)) (sym whole) ∙ held_by index (key_of m n) there
+  kept_there = (and_parts (contains key_cmp index.keys (key_of m n)) (not (goes index (key_of m n)))
+      (ap (λ (w : Bool). not w || (contains key_cmp index.keys (key_of m n) && not (goes index (key_of m n)))) (sym whole) ∙ held_by index (key_of m n) there)).0
 
   pub no_first : {G : Type 0} → ((q : Key) → (is_gt (key_cmp (key_of m 0) q) ≡ false) × ⊤ → contains key_cmp index.keys q ≡ false) → G
   no_first none = absurd (let e : true ≡ false = sym kept_there ∙ none (key_of m n) (in_reach m n, tt) in cc)
@@ -169,37 +162,139 @@ not_at m n q other = go (key_cmp (key_of m n) q) refl
     go Equal e = absurd (other (sym (same_owner (key_of m n) q e) ∙ owner_is m n))
     go Greater e = refl
 
-holds_on : (w v a b : Bool) → v ≡ w → (a ≡ true → b ≡ true) → (not w || a) ≡ true → (not v || b) ≡ true
-holds_on false v a b e f h = ap (λ x. not x || b) e
-holds_on true v a b e f h = ap (λ x. not x || b) e ∙ f h
+first_equal : (o p : Ordering) → ordering_then o p ≡ Equal → o ≡ Equal
+first_equal Less p e = absurd (let f : Less ≡ Equal = e in cc)
+first_equal Equal p e = refl
+first_equal Greater p e = absurd (let f : Greater ≡ Equal = e in cc)
 
-holds_so : (v b : Bool) → b ≡ true → (not v || b) ≡ true
-holds_so false b e = refl
-holds_so true b e = e
+-- keys that are one in order are the same
+one_key : (x q : Key) → key_cmp x q ≡ Equal → is_same q x ≡ true
+one_key x q e =
+    let rest = then_equal (nat_cmp x.kind q.kind) _ e in
+    let kind : x.kind ≡ q.kind = ranked x.kind q.kind Equal (sym (first_equal (nat_cmp x.kind q.kind) _ e)) in
+    let told : x.told ≡ q.told = ranked x.told q.told Equal (sym (first_equal (nat_cmp x.told q.told) _ rest)) in
+    and_from _ _ (and_from _ _ (eq-eqb q.kind x.kind (sym kind)) (eq-eqb q.told x.told (sym told))) (eq-eqb q.owner x.owner (sym (same_owner x q e)))
+
+pub same_at : (x q : Key) → is_same q x ≡ false → is_at (key_cmp x) q ≡ false
+same_at x q other = go (key_cmp x q) refl
+  where
+    go : (o : Ordering) → key_cmp x q ≡ o → is_eq o ≡ false
+    go Less e = refl
+    go Equal e = absurd (let f : true ≡ false = sym (one_key x q e) ∙ other in cc)
+    go Greater e = refl
+
+-- keys of two owners are two
+owners_differ : (x q : Key) → (q.owner ≡ x.owner → ⊥) → is_same q x ≡ false
+owners_differ x q other = go (is_same q x) refl
+  where
+    go : (b : Bool) → is_same q x ≡ b → is_same q x ≡ false
+    go true e = absurd (other (eqb-true q.owner x.owner (and_parts ((q.kind == x.kind) && (q.told == x.told)) (q.owner == x.owner) e).1))
+    go false e = e
+
+-- a key does not go where it is not among those that go and not the last of them
+neither : (a b : Bool) → (a || b) ≡ false → (a ≡ false) × (b ≡ false)
+neither true b e = absurd (let f : true ≡ false = e in cc)
+neither false b e = (refl, e)
+
+both_not : (a b : Bool) → a ≡ false → b ≡ false → (a || b) ≡ false
+both_not true b e f = absurd (let g : true ≡ false = e in cc)
+both_not false b e f = f
+
+pub last_goes : (k : Key) (ks : List Key) (x : Key) → list_any (is_same k) (ks ++ x ∷ []) ≡ false → (list_any (is_same k) ks ≡ false) × (is_same k x ≡ false)
+last_goes k [] x e = (refl, (neither (is_same k x) false e).0)
+last_goes k (y ∷ ks) x e =
+    let w = neither (is_same k y) (list_any (is_same k) (ks ++ x ∷ [])) e in
+    let v = last_goes k ks x w.1 in
+    (both_not (is_same k y) (list_any (is_same k) ks) w.0 v.0, v.1)
+
+stays_with : (k : Key) (ks : List Key) (x : Key) → list_any (is_same k) ks ≡ false → is_same k x ≡ false → list_any (is_same k) (ks ++ x ∷ []) ≡ false
+stays_with k [] x e f = both_not (is_same k x) false f refl
+stays_with k (y ∷ ks) x e f =
+    let w = neither (is_same k y) (list_any (is_same k) ks) e in
+    both_not (is_same k y) (list_any (is_same k) (ks ++ x ∷ [])) w.0 (stays_with k ks x w.1 f)
+
+module _ (x : Key) where
+  abbrev pub kept_of : List Key → List Key
+  kept_of ks = filter (λ k. not (is_same x k)) ks
+
+  -- what goes still where one key goes no more, went before
+  stays_in : (k : Key) (ks : List Key) → list_any (is_same k) ks ≡ false → list_any (is_same k) (kept_of ks) ≡ false
+  stays_in k [] e = refl
+  stays_in k (y ∷ ks) e = let w = neither (is_same k y) (list_any (is_same k) ks) e in go (is_same x y) w.0 (stays_in k ks w.1)
+    where
+      go : (b : Bool) → is_same k y ≡ false → list_any (is_same k) (kept_of ks) ≡ false → list_any (is_same k) (cond (not b) (y ∷ kept_of ks) (kept_of ks)) ≡ false
+      go true f rest = rest
+      go false f rest = both_not (is_same k y) (list_any (is_same k) (kept_of ks)) f rest
+
+  stays_itself : (ks : List Key) → list_any (is_same x) (kept_of ks) ≡ false
+  stays_itself [] = refl
+  stays_itself (y ∷ ks) = go (is_same x y) refl (stays_itself ks)
+    where
+      go : (b : Bool) → is_same x y ≡ b → list_any (is_same x) (kept_of ks) ≡ false → list_any (is_same x) (cond (not b) (y ∷ kept_of ks) (kept_of ks)) ≡ false
+      go true e rest = rest
+      go false e rest = both_not (is_same x y) (list_any (is_same x) (kept_of ks)) e rest
+
+-- held on, where what stood there and did not go still does
+module _ (old new : Index) (whole : new.is_whole ≡ old.is_whole) (q : Key) (stands : contains key_cmp old.keys q ≡ true → goes old q ≡ false → (contains key_cmp new.keys q ≡ true) × (goes new q ≡ false)) where
+  held_on : Holds old q → Holds new q
+  held_on h = held new q (go old.is_whole new.is_whole whole (held_by old q h))
+    where
+      not_true : (b : Bool) → not b ≡ true → b ≡ false
+      not_true true e = absurd (let f : false ≡ true = e in cc)
+      not_true false e = refl
+
+      go : (w v : Bool) → v ≡ w → (not w || (contains key_cmp old.keys q && not (goes old q))) ≡ true → (not v || (contains key_cmp new.keys q && not (goes new q))) ≡ true
+      go false v e h = ap (λ x. not x || (contains key_cmp new.keys q && not (goes new q))) e
+      go true v e h =
+          let w = and_parts (contains key_cmp old.keys q) (not (goes old q)) h in
+          let s = stands w.0 (not_true (goes old q) w.1) in
+          ap (λ x. not x || (contains key_cmp new.keys q && not (goes new q))) e ∙ and_from _ _ s.0 (ap not s.1)
+
+holds_so : (v b g : Bool) → b ≡ true → g ≡ false → (not v || (b && not g)) ≡ true
+holds_so false b g e f = refl
+holds_so true b g e f = and_from _ _ e (ap not f)
 
 either_way : (b : Bool) → cond b true true ≡ true
 either_way false = refl
 either_way true = refl
 
+-- what went is taken out
+pub taken_out : (old new : Index) (q : Key) → new.is_whole ≡ old.is_whole → new.going.items ≡ [] → ((k : Key) → contains key_cmp old.keys k ≡ true → goes old k ≡ false → contains key_cmp new.keys k ≡ true) → Holds old q → Holds new q
+taken_out old new q whole gone others h = held_on old new whole q (λ there stays. (others q there stays, ap (list_any (is_same q)) gone)) h
+
 module _ (m : Mark) (n : ℕ) (old new : Index) where
   pub put_in : (s : Bool) → new.is_whole ≡ old.is_whole → ((q : Key) → contains key_cmp new.keys q ≡ cond (is_at (key_cmp (key_of m n)) q) true (contains key_cmp old.keys q))
-      → contains key_cmp new.keys (key_of m n) ≡ true → Written s n (m ∷ []) old new
-  put_in s whole puts there = record {
+      → contains key_cmp new.keys (key_of m n) ≡ true → new.going.items ≡ kept_of (key_of m n) old.going.items → Written s n (m ∷ []) old new
+  put_in s whole puts there stay_on = record {
     others = λ q other h. stay q h;
     kept = λ e q h. stay q h;
     noted = λ e x has. elim has [
-      | inl f ↦ subst (λ (z : Mark). Holds new (key_of z n)) (sym f) (held new (key_of m n) (holds_so new.is_whole (contains key_cmp new.keys (key_of m n)) there))
+      | inl f ↦ subst (λ (z : Mark). Holds new (key_of z n)) (sym f)
+          (held new (key_of m n) (holds_so new.is_whole (contains key_cmp new.keys (key_of m n)) (goes new (key_of m n)) there (ap (list_any (is_same (key_of m n))) stay_on ∙ stays_itself (key_of m n) old.going.items)))
       | inr f ↦ absurd f
     ];
   }
     where
       stay : (q : Key) → Holds old q → Holds new q
-      stay q h = held new q (holds_on old.is_whole new.is_whole (contains key_cmp old.keys q) (contains key_cmp new.keys q) whole
-          (λ e. puts q ∙ (ap (λ (x : Bool). cond (is_at (key_cmp (key_of m n)) q) true x) e ∙ either_way (is_at (key_cmp (key_of m n)) q))) (held_by old q h))
+      stay q h = held_on old new whole q (λ e g. (
+        puts q ∙ (ap (λ (x : Bool). cond (is_at (key_cmp (key_of m n)) q) true x) e ∙ either_way (is_at (key_cmp (key_of m n)) q)),
+        ap (list_any (is_same q)) stay_on ∙ stays_in (key_of m n) q old.going.items g,
+      )) h
 
-  pub put_out : new.is_whole ≡ old.is_whole → ((q : Key) → is_at (key_cmp (key_of m n)) q ≡ false → contains key_cmp new.keys q ≡ contains key_cmp old.keys q) → Written false n (m ∷ []) old new
-  put_out whole takes = record {
-    others = λ q other h. held new q (holds_on old.is_whole new.is_whole (contains key_cmp old.keys q) (contains key_cmp new.keys q) whole (λ e. takes q (not_at m n q other) ∙ e) (held_by old q h));
+  -- a key goes from now on, or is taken out where there is no memory for that
+  pub goes_on : (mid : Index) → ((q : Key) → Holds old q → Holds mid q) → new.is_whole ≡ mid.is_whole → new.keys ≡ mid.keys → new.going.items ≡ mid.going.items ++ key_of m n ∷ [] → Written false n (m ∷ []) old new
+  goes_on mid before whole same more = record {
+    others = λ q other h. held_on mid new whole q (λ e g. (
+      ap (λ k. contains key_cmp k q) same ∙ e,
+      ap (list_any (is_same q)) more ∙ stays_with q mid.going.items (key_of m n) g (owners_differ (key_of m n) q (λ o. other (o ∙ owner_is m n))),
+    )) (before q h);
+    kept = λ e. absurd (let f : false ≡ true = e in cc);
+    noted = λ e. absurd (let f : false ≡ true = e in cc);
+  }
+
+  pub put_out : (mid : Index) → ((q : Key) → Holds old q → Holds mid q) → new.is_whole ≡ mid.is_whole → ((q : Key) → is_at (key_cmp (key_of m n)) q ≡ false → contains key_cmp new.keys q ≡ contains key_cmp mid.keys q) → new.going.items ≡ mid.going.items → Written false n (m ∷ []) old new
+  put_out mid before whole takes same = record {
+    others = λ q other h. held_on mid new whole q (λ e g. (takes q (not_at m n q other) ∙ e, ap (list_any (is_same q)) same ∙ g)) (before q h);
     kept = λ e. absurd (let f : false ≡ true = e in cc);
     noted = λ e. absurd (let f : false ≡ true = e in cc);
   }
@@ -212,7 +307,7 @@ module _ (m : Mark) (n : ℕ) (old new : Index) where
   }
     where
       all : (q : Key) → Holds new q
-      all q = held new q (ap (λ (w : Bool). not w || contains key_cmp new.keys q) whole)
+      all q = held new q (ap (λ (w : Bool). not w || (contains key_cmp new.keys q && not (goes new q))) whole)
 
 -- ---- several marks
 

@@ -1,5 +1,5 @@
--- Which INVITE of the server a response answers, by the branch behind its cookie (RFC 3261 §8.1.1.7, §17.1.3).
-use Rattle.std.specs.Prelude.{ℕ, Bool, false, if◌then◌else◌, Option, Some, None, List, [], ◌∷◌, codes}
+-- Which request of the server a response answers, by the branch behind its cookie (RFC 3261 §8.1.1.7, §17.1.3): of those whose answer is waited for, first of all its INVITEs.
+use Rattle.std.specs.Prelude.{ℕ, Bool, false, ◌||◌, if◌then◌else◌, Option, Some, None, List, [], ◌∷◌, codes}
 use Rattle.std.specs.Str.{bytes_eq}
 use Rattle.mmtel_scan.specs.Chain.{◌>>=◌}
 use Rattle.mmtel_scan.specs.Scanning.{after_text}
@@ -20,12 +20,13 @@ first_via (value ∷ values) = via_at value
 abbrev pub via_branch : Via → Option (List ℕ)
 via_branch via = param_value (codes "branch") via.params
 
-abbrev pub is_invite_method : List ℕ → Bool
-is_invite_method method = bytes_eq method (codes "INVITE")
+-- a call waits for the answer to an INVITE (§13), and for one that it relays to a PRACK (RFC 3262 §4) or an UPDATE (RFC 3311 §5.1)
+abbrev pub is_awaited_method : List ℕ → Bool
+is_awaited_method method = (bytes_eq method (codes "INVITE") || bytes_eq method (codes "PRACK")) || bytes_eq method (codes "UPDATE")
 
-abbrev pub of_invite : Option CSeq → Bool
-of_invite None = false
-of_invite (Some cseq) = is_invite_method cseq.method
+abbrev pub of_awaited : Option CSeq → Bool
+of_awaited None = false
+of_awaited (Some cseq) = is_awaited_method cseq.method
 
 abbrev pub behind : Option (List ℕ) → Option (List ℕ)
 behind branch = branch >>= behind_cookie
@@ -34,13 +35,13 @@ behind branch = branch >>= behind_cookie
 abbrev pub branch_in : List (List ℕ) → Option (List ℕ)
 branch_in vias = behind (first_via vias >>= via_branch)
 
-abbrev pub answers_invite : Option (List ℕ) → Bool
-answers_invite cseq = of_invite (cseq >>= cseq_at)
+abbrev pub answers_awaited : Option (List ℕ) → Bool
+answers_awaited cseq = of_awaited (cseq >>= cseq_at)
 
--- the branch of the INVITE that it answers; none where it answers another request
+-- the branch of the INVITE, PRACK or UPDATE that it answers; none where it answers another request
 unfoldable pub invite_answered : Said → Option (List ℕ)
-invite_answered m = if answers_invite m.heard.cseq then branch_in m.heard.vias else None
+invite_answered m = if answers_awaited m.heard.cseq then branch_in m.heard.vias else None
 
--- that of the INVITE that was given up
+-- that of the one that was given up
 abbrev pub invite_silent : (branch method : List ℕ) → Option (List ℕ)
-invite_silent branch method = if is_invite_method method then behind_cookie branch else None
+invite_silent branch method = if is_awaited_method method then behind_cookie branch else None

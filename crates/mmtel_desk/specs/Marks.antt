@@ -1,6 +1,7 @@
 -- By what a call or a room is found without asking each: numbers told from the branches of its INVITEs and from the server's tags of its dialogs, and its transactions. Equal
 -- ones are told by one number; others may be too, so who finds one by a mark asks it whether it is the one.
-use Rattle.std.specs.Prelude.{ℕ, ◌+◌, ◌*◌, ◌%◌, ◌^◌, ◌≡◌, ◌<◌, ◌≤◌, Bool, true, not, ◌||◌, List, [], ◌∷◌, ◌⊎◌, ⊤}
+use Rattle.std.specs.Prelude.{ℕ, ◌≡◌, ◌<◌, ◌≤◌, Bool, true, not, ◌||◌, ◌&&◌, ◌==◌, List, [], ◌∷◌, ◌⊎◌, ⊤}
+use Rattle.std.specs.List.{list_any}
 use Rattle.std.specs.Ordering.{nat_cmp, ordering_then}
 use Rattle.std.specs.declared.cmp.Ordering.{Ordering}
 use Rattle.std.specs.BTreeSet.{contains}
@@ -8,18 +9,6 @@ use Rattle.mmtel_desk.specs.declared.index.Index.{Index}
 use Rattle.mmtel_desk.specs.declared.marks.Key.{Key}
 use Rattle.mmtel_desk.specs.declared.marks.Mark.{Mark}
 use Rattle.mmtel_desk.specs.declared.marks.Mark.TheVariants.{Asked, Heard, Named, Sent}
-
--- ---- a number told from bytes
-
-abbrev pub told_on : ℕ → ℕ → ℕ
-told_on sum byte = ((sum * 1099511628211) % (2 ^ 64) + byte) % (2 ^ 64)
-
-abbrev pub told_from : ℕ → List ℕ → ℕ
-told_from sum [] = sum
-told_from sum (b ∷ bs) = told_from (told_on sum b) bs
-
-abbrev pub told_of : List ℕ → ℕ
-told_of bytes = told_from 0 bytes
 
 -- ---- marks as they are kept: by kind, by number, and by the number of their owner
 
@@ -32,9 +21,13 @@ key_of (Named told) owner = record { kind = 3; told = told; owner = owner }
 abbrev pub key_cmp : Key → Key → Ordering
 key_cmp x y = ordering_then (nat_cmp x.kind y.kind) (ordering_then (nat_cmp x.told y.told) (nat_cmp x.owner y.owner))
 
--- one that is no longer whole gives none away
+-- whether two keys are one
+abbrev pub is_same : Key → Key → Bool
+is_same x y = (x.kind == y.kind) && (x.told == y.told) && (x.owner == y.owner)
+
+-- a key that stands there is held as long as it does not go; an index that is no longer whole gives none away
 unfoldable pub holds : Index → Key → Bool
-holds index key = not index.is_whole || contains key_cmp index.keys key
+holds index key = not index.is_whole || (contains key_cmp index.keys key && not (list_any (is_same key) index.going.items))
 
 abbrev pub Holds : Index → Key → Type 0
 Holds index key = holds index key ≡ true

@@ -1,7 +1,7 @@
-//! Which INVITE a response answers.
+//! Which request a response answers, of those whose answer is waited for.
 ghost use Rattle.std.specs.Prelude.{◌≡◌, IfOk};
 ghost use Rattle.std.specs.Option.{option_copied};
-ghost use Rattle.mmtel_desk.specs.Invites.{answers_invite, behind, branch_in, first_via, invite_answered, invite_silent};
+ghost use Rattle.mmtel_desk.specs.Invites.{answers_awaited, behind, branch_in, first_via, invite_answered, invite_silent, is_awaited_method};
 
 use mmtel_answers::Hearing;
 use mmtel_message::{ViaRef, cseq_ref, via_ref};
@@ -39,15 +39,24 @@ fn branch_of(m: &Hearing) -> Option<&[u8]>
     }
 }
 
-/// Whether a response answers an INVITE.
-fn is_of_invite(m: &Hearing) -> bool
-    ensures { result ≡ answers_invite m.now.heard.cseq }
+/// Whether the answer to a request of the method is waited for: to an INVITE (RFC 3261 §13), and to a PRACK (RFC 3262 §4) or an UPDATE (RFC 3311 §5.1) that a call relays.
+fn is_awaited_method(method: &[u8]) -> bool
+    ensures { result ≡ is_awaited_method method.now }
+{
+    method == b"INVITE".as_slice()
+        || method == b"PRACK".as_slice()
+        || method == b"UPDATE".as_slice()
+}
+
+/// Whether a response answers a request whose answer is waited for.
+fn is_awaited_answer(m: &Hearing) -> bool
+    ensures { result ≡ answers_awaited m.now.heard.cseq }
 {
     match m.message.first(b"CSeq") {
         None => false,
         Some(value) => match cseq_ref(value) {
             None => false,
-            Some(cseq) => cseq.method() == b"INVITE".as_slice(),
+            Some(cseq) => is_awaited_method(cseq.method()),
         },
     }
 }
@@ -62,7 +71,7 @@ fn copied(alloc: Global, bytes: Option<&[u8]>) -> Result<Option<Text>, NoMemory>
     }
 }
 
-/// The branch, behind its cookie, of the INVITE that a response answers (RFC 3261 §17.1.3); None where it answers another request.
+/// The branch, behind its cookie, of the INVITE, PRACK or UPDATE that a response answers (RFC 3261 §17.1.3); None where it answers another request.
 ///
 /// # Errors
 ///
@@ -71,17 +80,17 @@ fn copied(alloc: Global, bytes: Option<&[u8]>) -> Result<Option<Text>, NoMemory>
 pub fn invite_answered(alloc: Global, m: &Hearing) -> Result<Option<Text>, NoMemory>
     ensures { IfOk result (λ branch. branch ≡ invite_answered m.now) }
 {
-    if is_of_invite(m) {
+    if is_awaited_answer(m) {
         return copied(alloc, branch_of(m));
     }
     Ok(None)
 }
 
-/// That of the INVITE that was given up, whose branch and method these are.
+/// That of the one that was given up, whose branch and method these are.
 pub fn invite_silent<'a>(branch: &'a [u8], method: &[u8]) -> Option<&'a [u8]>
     ensures { option_copied result ≡ invite_silent branch.now method.now }
 {
-    if method == b"INVITE".as_slice() {
+    if is_awaited_method(method) {
         return skip_text(b"z9hG4bK", branch);
     }
     None

@@ -21,5 +21,5 @@ pub use laws::{
     answers_have_heads, masked_requests_have_one_head, repeats_have_heads, requests_have_heads,
 };
 pub use loose::loose_at;
-pub use marks::{Mark, told};
+pub use marks::Mark;
 pub use offering::AttemptInvite;

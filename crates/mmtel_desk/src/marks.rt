@@ -1,6 +1,6 @@
 //! By what a call or a room is found without asking each: the branches and the transactions of its INVITEs, and the server's tags of its dialogs.
 ghost use Rattle.std.specs.Prelude.{◌≡◌};
-ghost use Rattle.mmtel_desk.specs.Marks.{key_of, told_of};
+ghost use Rattle.mmtel_desk.specs.Marks.{key_of};
 
 /// By what a call or a room is found. Of bytes a number is told, which others may have too: who finds one by a mark asks it whether it is the one.
 #[derive(Clone, Copy)]
@@ -54,17 +54,4 @@ impl Key {
             },
         }
     }
-}
-
-/// A number that is told from bytes: equal ones have one number.
-pub fn told(bytes: &[u8]) -> u64
-    ensures { result ≡ told_of bytes.now }
-{
-    let mut sum = 0u64;
-    for byte in bytes {
-        sum = sum
-            .wrapping_mul(1_099_511_628_211)
-            .wrapping_add(u64::from(*byte));
-    }
-    sum
 }

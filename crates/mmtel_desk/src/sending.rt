@@ -10,7 +10,7 @@ use mmtel_answers::{
     Hearing, OwnResponse, bare, own_ack, own_answer, own_answer_at, own_request, relayed_ack,
     relayed_answer, relayed_request,
 };
-use mmtel_leg::{Dialogue, LegOf, Standing};
+use mmtel_leg::{Dialogue, InDialog, LegOf, Standing};
 use mmtel_message::Line;
 use mmtel_scan::{List, NoMemory, Text};
 use mmtel_transaction::{Emit, TKey};
@@ -209,12 +209,12 @@ impl Desk {
     /// # Errors
     ///
     /// As of `ask_with`.
-    pub fn ask_for<P>(
+    pub fn ask_for<P, S: InDialog>(
         &mut self,
         alloc: Global,
         sip: Addr,
         method: &[u8],
-        leg: &mut LegOf<P, Standing>,
+        leg: &mut LegOf<P, S>,
         passed: &List<Line>,
         heard: &Hearing,
     ) -> Result<Text, NoMemory>

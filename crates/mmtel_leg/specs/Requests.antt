@@ -36,9 +36,10 @@ to_text Callee value (b ∷ tag) = tagged value (b ∷ tag)
 abbrev pub cseq_text : ℕ → List ℕ → List ℕ
 cseq_text number method = decimal number ++ 32 ∷ method
 
--- INVITE makes a dialog, and NOTIFY stands in one that a subscription made: each says where the server is reached (§12.1.1, RFC 6665 §4.2.2)
+-- INVITE makes a dialog, UPDATE refreshes its target, and NOTIFY stands in one that a subscription made: each says where the server is reached (§12.1.1, RFC 3311 §5.1,
+-- RFC 6665 §4.2.2)
 abbrev pub is_contacting : List ℕ → Bool
-is_contacting method = bytes_eq method (codes "INVITE") || bytes_eq method (codes "NOTIFY")
+is_contacting method = (bytes_eq method (codes "INVITE") || bytes_eq method (codes "UPDATE")) || bytes_eq method (codes "NOTIFY")
 
 -- Contact of such a request, unless the lines that are shown bring one of their own, as those of a conference room do
 abbrev pub contact_lines : List ℕ → Addr → List Line → List Line

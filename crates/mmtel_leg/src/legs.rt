@@ -25,6 +25,13 @@ pub struct Early;
 /// The state of a leg whose dialog is confirmed (RFC 3261 §12).
 pub struct Standing;
 
+/// The states of a leg that has a dialog, early or confirmed, in which requests can be made (RFC 3261 §12.2).
+pub trait InDialog {}
+
+impl InDialog for Early {}
+
+impl InDialog for Standing {}
+
 /// The side that asked for the call.
 pub struct OfCaller;
 
@@ -295,16 +302,9 @@ impl<P> LegOf<P, Early> {
     {
         self.met(remote)
     }
-
-    /// The other side's tag; no bytes where it gave none.
-    pub fn remote(&self) -> &[u8]
-        ensures tag { result.now ≡ self.now.dialogue.remote_tag }
-    {
-        self.dialogue.remote_tag.bytes()
-    }
 }
 
-impl<P> LegOf<P, Standing> {
+impl<P, S: InDialog> LegOf<P, S> {
     /// The other side's tag; no bytes where it gave none.
     pub fn remote(&self) -> &[u8]
         ensures tag { result.now ≡ self.now.dialogue.remote_tag }
@@ -315,7 +315,7 @@ impl<P> LegOf<P, Standing> {
     /// The next request in the dialog (RFC 3261 §12.2.1.1): to its target, by its route set, with the number after that of the last one.
     ///
     /// `sip` is the server's address, `hops` what Max-Forwards says, and `branch` what stands behind the cookie of the branch. The shown lines stand between CSeq and
-    /// Content-Length. An INVITE and a NOTIFY have the server's Contact before them, unless they bring one.
+    /// Content-Length. An INVITE, an UPDATE and a NOTIFY have the server's Contact before them, unless they bring one.
     ///
     /// # Errors
     ///
@@ -338,7 +338,9 @@ impl<P> LegOf<P, Standing> {
         let parts = Parts::of(sip, hops, branch, shown, body);
         self.dialogue.request(alloc, method, &parts)
     }
+}
 
+impl<P> LegOf<P, Standing> {
     /// The ACK of the last INVITE that the server sent in the dialog, a callee's first one among them: with that INVITE's number (RFC 3261 §13.2.2.4). Where it sent none,
     /// as to a caller who was asked nothing, there is nothing to acknowledge, and the number is 0. The other words are as of `request`.
     ///

@@ -18,7 +18,8 @@ pub use laws::{
     requests_name_their_dialog, tags_read_back, the_last_answer_decides, the_way_stays,
 };
 pub use legs::{
-    Asked, CalleeLeg, CallerLeg, Early, Ended, LegOf, OfCallee, OfCaller, Released, Standing,
+    Asked, CalleeLeg, CallerLeg, Early, Ended, InDialog, LegOf, OfCallee, OfCaller, Released,
+    Standing,
 };
 pub use names::DialogName;
 pub use remotes::Remote;

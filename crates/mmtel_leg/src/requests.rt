@@ -153,7 +153,9 @@ fn add_dialog(
 fn is_contacting(method: &[u8]) -> bool
     ensures { result ≡ is_contacting method.now }
 {
-    method == b"INVITE".as_slice() || method == b"NOTIFY".as_slice()
+    method == b"INVITE".as_slice()
+        || method == b"UPDATE".as_slice()
+        || method == b"NOTIFY".as_slice()
 }
 
 /// Whether one of the lines has the name.

@@ -1,15 +1,22 @@
-use Rattle.std.proofs.Common.{false, refl, subst}
+use Rattle.std.proofs.Common.{false, refl, subst, ap, ◌∙◌, ◌++◌, ◌∷◌, []}
 use Rattle.std.specs.BTreeSet.{UpdatesBy}
 use Rattle.mmtel_desk.specs.Marks.{key_cmp, key_of}
 use Rattle.mmtel_desk.specs.declared.index.Index.{Index}
 use Rattle.mmtel_desk.specs.declared.marks.Key.{Key}
-use Rattle.mmtel_desk.proofs.Marking.{put_out}
+use Rattle.mmtel_desk.proofs.Marking.{goes_on, put_out}
 use Rattle.mmtel_desk.proofs.index.Index.put_out.Goals as goal
 
-pub returns : goal.returns
-returns c =
-    let old = c.args.self.now in
-    let new : Index = record { keys = c.remove.new.self; is_whole = old.is_whole } in
-    let u : UpdatesBy key_cmp (key_cmp (key_of c.args.mark c.args.owner)) old.keys c.remove.new.self false =
-    subst (λ (k : Key). UpdatesBy key_cmp (key_cmp k) old.keys c.remove.new.self false) c.of-key.ensures c.remove.ensures.updates in
-    put_out c.args.mark c.args.owner old new refl u.2
+pub returns-in-Ok : goal.returns-in-Ok
+returns-in-Ok c =
+    let mid = c.take_out_others.new.self in
+    let new : Index = record { keys = mid.keys; going = c.push.new.self; is_whole = mid.is_whole } in
+    goes_on c.args.mark c.args.owner c.args.self.now new mid c.take_out_others.ensures refl refl
+    (c.in-Ok.ensures.items ∙ ap (λ (k : Key). mid.going.items ++ k ∷ []) c.of-key.ensures)
+
+pub returns-in-Err : goal.returns-in-Err
+returns-in-Err c =
+    let mid = c.take_out_others.new.self in
+    let new : Index = record { keys = c.remove.new.self; going = c.push.new.self; is_whole = mid.is_whole } in
+    let u : UpdatesBy key_cmp (key_cmp (key_of c.args.mark c.args.owner)) mid.keys c.remove.new.self false =
+    subst (λ (k : Key). UpdatesBy key_cmp (key_cmp k) mid.keys c.remove.new.self false) c.of-key.ensures c.remove.ensures.updates in
+    put_out c.args.mark c.args.owner c.args.self.now new mid c.take_out_others.ensures refl u.2 c.in-Err.ensures.items

@@ -2,7 +2,7 @@ use Rattle.std.proofs.Common.{◌≡◌, IfOk, ap, subst}
 use Rattle.mmtel_leg.specs.Legs.{Leg}
 use Rattle.mmtel_leg.specs.Requests.{Given, request_of}
 use Rattle.mmtel_leg.specs.declared.dialogues.Dialogue.{Dialogue}
-use Rattle.mmtel_leg.proofs.legs.LegOf+P+Standing.request.Goals as goal
+use Rattle.mmtel_leg.proofs.legs.LegOf.request.Goals as goal
 
 pub returns-clause-message : goal.returns-clause-message
 returns-clause-message g c =

@@ -13,7 +13,8 @@ use Rattle.mmtel_call.specs.declared.calls.Phase.TheVariants.{Lent, Offered, Ove
 use Rattle.mmtel_call.specs.declared.calls.Phase.{Phase}
 use Rattle.mmtel_desk.proofs.Marking.{has_left, has_right, none_found, passes}
 use Rattle.mmtel_desk.specs.Loose.{is_of}
-use Rattle.mmtel_desk.specs.Marks.{Has, told_of}
+use Rattle.mmtel_desk.specs.Marks.{Has}
+use Rattle.mmtel_transaction.specs.Told.{told_of}
 use Rattle.mmtel_desk.specs.declared.invitations.Invitation.{Invitation}
 use Rattle.mmtel_desk.specs.declared.marks.Mark.TheVariants.{Asked, Heard, Named, Sent}
 use Rattle.mmtel_leg.specs.declared.dialogues.Dialogue.{Dialogue}

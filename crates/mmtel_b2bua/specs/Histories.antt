@@ -61,13 +61,26 @@ pub record CallsView : Type 0 where
   pub home : List ℕ
   pub bound : ℕ
   pub country : Option (List ℕ)
+  pub reliable : Bool
+  pub timer : Bool
+  pub mwi : Bool
   pub table : Table
   -- memory was wanted in a step
   pub has_failed : Bool
 
 -- its configuration, with the peers and the accounts that each call on it is given
 abbrev pub site_of : CallsView → Peers → List AccountIdentity → Site
-site_of calls peers accounts = record { sip = calls.sip; home = calls.home; bound = calls.bound; country = calls.country; peers = peers; accounts = accounts }
+site_of calls peers accounts = record {
+  sip = calls.sip;
+  home = calls.home;
+  bound = calls.bound;
+  country = calls.country;
+  reliable = calls.reliable;
+  timer = calls.timer;
+  mwi = calls.mwi;
+  peers = peers;
+  accounts = accounts;
+}
 
 -- it stands for these deeds
 pub record Stands (peers : Peers) (accounts : List AccountIdentity) (calls : CallsView) (deeds : List Deed) : Type 0 where

@@ -4,7 +4,7 @@ use Rattle.mmtel_call.specs.declared.calls.Phase.TheVariants.{Lent, Offered, Ove
 use Rattle.mmtel_call.specs.declared.calls.Phase.{Phase}
 use Rattle.mmtel_call.specs.declared.calls.Taken.{Taken}
 use Rattle.mmtel_call.specs.Table.{current}
-use Rattle.mmtel_desk.specs.Marks.{told_of}
+use Rattle.mmtel_transaction.specs.Told.{told_of}
 use Rattle.mmtel_desk.specs.declared.invitations.Invitation.{Invitation}
 use Rattle.mmtel_desk.specs.declared.invitations.Loose.{Loose}
 use Rattle.mmtel_desk.specs.declared.marks.Mark.{Mark}

@@ -8,9 +8,9 @@ use crate::busy::account_of;
 use crate::call_table::CallTable;
 use crate::entries::{Entry, InviteKey};
 use mmtel_call::{Pair, Phase, Trial, TriedLeg};
-use mmtel_desk::{Mark, told};
+use mmtel_desk::Mark;
 use mmtel_leg::{DialogName, Released};
-use mmtel_transaction::TKey;
+use mmtel_transaction::{TKey, told};
 use mmtel_types::{Account, CallNo, Peer, Side};
 
 /// The side of a call that is offered whose dialog has this name.

@@ -8,9 +8,9 @@ ghost use Rattle.mmtel_b2bua.specs.Marks.{asked_marks, dialog_mark, dialog_marks
 
 use crate::entries::{Entry, InviteKey};
 use mmtel_call::{Phase, Stage, Taken, Tried, TriedLeg};
-use mmtel_desk::{Index, Invitation, Loose, Mark, told};
+use mmtel_desk::{Index, Invitation, Loose, Mark};
 use mmtel_leg::Dialogue;
-use mmtel_transaction::TKey;
+use mmtel_transaction::{TKey, told};
 use mmtel_types::CallNo;
 
 /// The call of this number is found by the client transaction of an INVITE, once that is known, from now on, or no more.

@@ -20,10 +20,10 @@ use mmtel_answers::Hearing;
 use mmtel_call::{Call, Signal as CallSignal};
 use mmtel_call_decisions::{Arrival, Present, Setting};
 use mmtel_call_laws::alike_calls_go_on_alike;
-use mmtel_desk::{Desk, Mark, file, invite_answered, invite_silent, told};
+use mmtel_desk::{Desk, Mark, file, invite_answered, invite_silent};
 use mmtel_message::is_method;
 use mmtel_scan::{List, NoMemory, Text};
-use mmtel_transaction::TKey;
+use mmtel_transaction::{TKey, told};
 use mmtel_types::{CallNo, Moment, Side};
 use std::alloc::Global;
 

@@ -33,12 +33,21 @@ use std::alloc::Global;
 use std::marker::Model;
 use std::mem;
 
-/// The calls of a server. They must be spent.
-pub struct Calls {
+/// What is configured of calls.
+#[derive(Drop)]
+struct Configuration {
     sip: Addr,
     home: Text,
     bound: u16,
     country: Option<Text>,
+    reliable: bool,
+    timer: bool,
+    mwi: bool,
+}
+
+/// The calls of a server. They must be spent.
+pub struct Calls {
+    configuration: Configuration,
     table: CallTable,
     has_failed: bool,
 }
@@ -50,15 +59,18 @@ impl Model for Calls {
     ghost Value = { CallsView };
 
     ghost view = { λ c. record {
-      sip = c.sip;
-      home = c.home;
-      bound = c.bound;
-      country = c.country;
+      sip = c.configuration.sip;
+      home = c.configuration.home;
+      bound = c.configuration.bound;
+      country = c.configuration.country;
+      reliable = c.configuration.reliable;
+      timer = c.configuration.timer;
+      mwi = c.configuration.mwi;
       table = c.table;
       has_failed = c.has_failed;
     } };
 
-    ghost invariant = { λ c. c.bound ≤ 16 };
+    ghost invariant = { λ c. c.configuration.bound ≤ 16 };
 }
 
 /// Whether a signal would open one call too many.
@@ -73,21 +85,31 @@ fn is_full(signal: &Signal, table: &CallTable) -> bool
 
 /// What each step is given: the configuration, the peers and the accounts.
 fn setting_of<'a>(
-    sip: Addr,
-    home: &'a Text,
-    bound: u16,
-    country: &'a Option<Text>,
+    configuration: &'a Configuration,
     peers: &'a PeerTable,
     accounts: &'a Accounts,
 ) -> Setting<'a>
-    requires { bound ≤ 16 }
-    ensures { result ≡ record { sip = sip; home = home.now; bound = bound; country = country.now; peers = peers.now; accounts = accounts.now } }
+    requires { configuration.now.bound ≤ 16 }
+    ensures { result ≡ record {
+      sip = configuration.now.sip;
+      home = configuration.now.home;
+      bound = configuration.now.bound;
+      country = configuration.now.country;
+      reliable = configuration.now.reliable;
+      timer = configuration.now.timer;
+      mwi = configuration.now.mwi;
+      peers = peers.now;
+      accounts = accounts.now;
+    } }
 {
     Setting {
-        sip,
-        home: home.bytes(),
-        bound,
-        country: country.as_ref(),
+        sip: configuration.sip,
+        home: configuration.home.bytes(),
+        bound: configuration.bound,
+        country: configuration.country.as_ref(),
+        reliable: configuration.reliable,
+        timer: configuration.timer,
+        mwi: configuration.mwi,
         peers,
         accounts,
     }
@@ -169,8 +191,8 @@ fn finish(
 }
 
 impl Calls {
-    /// No calls yet, for the home domain, the server's address, the bound on the diversions of a call (TS 24.604 §4.5.2.6), and the digits of the home country, where they
-    /// are known.
+    /// No calls yet, for the home domain, the server's address, the bound on the diversions of a call (TS 24.604 §4.5.2.6), the digits of the home country, where they are
+    /// known, and whether provisional answers are relayed reliably (RFC 3262) and sessions have timers (RFC 4028).
     ///
     /// # Errors
     ///
@@ -181,18 +203,44 @@ impl Calls {
         sip: Addr,
         bound: u16,
         country: Option<Text>,
+        reliable: bool,
+        timer: bool,
     ) -> Result<Calls, NoMemory>
         requires { bound ≤ 16 }
-        ensures { IfOk result (λ calls. calls ≡ record { sip = sip; home = home; bound = bound; country = country; table = no_calls; has_failed = false }) }
+        ensures { IfOk result (λ calls. calls ≡ record {
+          sip = sip;
+          home = home;
+          bound = bound;
+          country = country;
+          reliable = reliable;
+          timer = timer;
+          mwi = false;
+          table = no_calls;
+          has_failed = false;
+        }) }
     {
         Ok(Calls {
-            sip,
-            home,
-            bound,
-            country,
+            configuration: Configuration {
+                sip,
+                home,
+                bound,
+                country,
+                reliable,
+                timer,
+                mwi: false,
+            },
             table: CallTable::new(alloc),
             has_failed: false,
         })
+    }
+
+    /// The same calls, of a server that tells of waiting messages (RFC 3842) or of one that does not, as it is before: who asks by OPTIONS is told that it knows SUBSCRIBE.
+    pub fn with_mwi(self, mwi: bool) -> Calls
+        ensures { result ≡ record self { mwi = mwi } }
+    {
+        let mut calls = self;
+        calls.configuration.mwi = mwi;
+        calls
     }
 
     /// The calls hear a signal: the call that it is of takes its step by the step table of a call, or one is opened (RFC 3261 §12 to §15, TS 24.604 §4.5.2.6).
@@ -237,14 +285,7 @@ impl Calls {
         if is_full(&signal, &self.table) {
             return Err(CallFault::Full(signal));
         }
-        let setting = setting_of(
-            self.sip,
-            &self.home,
-            self.bound,
-            &self.country,
-            peers,
-            accounts,
-        );
+        let setting = setting_of(&self.configuration, peers, accounts);
         let step = Step {
             alloc,
             setting: &setting,
@@ -412,14 +453,7 @@ impl Calls {
         if self.has_failed {
             return Err(NoMemory);
         }
-        let setting = setting_of(
-            self.sip,
-            &self.home,
-            self.bound,
-            &self.country,
-            peers,
-            accounts,
-        );
+        let setting = setting_of(&self.configuration, peers, accounts);
         let finished = finish(&mut self.table, alloc, &setting, now, call, tokens);
         if finished.is_err() {
             self.has_failed = true;
@@ -430,15 +464,11 @@ impl Calls {
     /// Spends all calls, without rows. It takes no memory.
     pub fn give_up(self) {
         let Calls {
-            sip: _,
-            home,
-            bound: _,
-            country,
+            configuration,
             table,
             has_failed: _,
         } = self;
-        drop(home);
-        drop(country);
+        drop(configuration);
         table.give_up();
     }
 }

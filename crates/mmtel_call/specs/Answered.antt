@@ -77,8 +77,10 @@ unacknowledged site at x side c desk = over_stood at x c (bye_to site x side (ac
 -- the deadline is that of this 2xx
 abbrev pub is_due : Success → DueWord → Bool
 is_due success (due.NoReply number) = false
+is_due success (due.NoPrack number) = false
 is_due success (due.Cap number) = false
 is_due success (due.NoAck number) = number == success.number
+is_due success (due.Expired number) = false
 
 -- ---- BYE
 

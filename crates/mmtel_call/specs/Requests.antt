@@ -13,7 +13,7 @@ use Rattle.mmtel_message.specs.Faults.{is_method}
 use Rattle.mmtel_message.specs.Message.{Line}
 use Rattle.mmtel_transaction.specs.declared.words.TKey.{TKey}
 use Rattle.mmtel_call_decisions.specs.Requests.{number_of}
-use Rattle.mmtel_call_decisions.specs.Site.{Site}
+use Rattle.mmtel_call_decisions.specs.Site.{Site, further_methods}
 use Rattle.mmtel_call.specs.Calls.{Call}
 use Rattle.mmtel_call.specs.Sending.{replied_to}
 
@@ -48,6 +48,6 @@ unheard site c key m Unfinished desk = answered_to site c key m 500 retry_after 
 -- OPTIONS (§11.2), REFER, which only a room takes, and what is asked at the wrong time
 abbrev pub unlisted : Site → Call → TKey → Said → Desk → Desk
 unlisted site c key m desk =
-    if is_method (codes "OPTIONS") m.heard.start then answered_to site c key m 200 allowed desk
+    if is_method (codes "OPTIONS") m.heard.start then answered_to site c key m 200 (allowed (further_methods site)) desk
     else if is_method (codes "REFER") m.heard.start then replied_to site c key m 403 desk
     else replied_to site c key m 481 desk

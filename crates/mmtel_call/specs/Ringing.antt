@@ -148,8 +148,10 @@ timed_out site now x how c desk = goes_on site now x how None (left x c) (cancel
 -- of this attempt alone
 abbrev pub on_due : Site → Standing → Trial → DueWord → Call → Desk → Step
 on_due site now x (due.NoReply number) c desk = if number == x.attempt.number then timed_out site now x NoReply c desk else onward c desk
+on_due site now x (due.NoPrack number) c desk = onward c desk
 on_due site now x (due.Cap number) c desk = if number == x.attempt.number then timed_out site now x (end_by_time x.attempt.rang) c desk else onward c desk
 on_due site now x (due.NoAck number) c desk = onward c desk
+on_due site now x (due.Expired number) c desk = onward c desk
 
 -- ---- the caller gives up (§9.2, §15.1.2)
 

@@ -37,8 +37,10 @@ impl Success {
     {
         match what {
             DueWord::NoReply(_) => false,
+            DueWord::NoPrack(_) => false,
             DueWord::Cap(_) => false,
             DueWord::NoAck(number) => number == self.number,
+            DueWord::Expired(_) => false,
         }
     }
 }

@@ -354,7 +354,11 @@ impl Call {
                 let how = end_by_timeout(AttemptTimeout::LongestTime, x.attempt.rang);
                 self.time_out_offered(step, x, &how, desk)
             }
-            _ => {
+            DueWord::NoReply(_)
+            | DueWord::NoPrack(_)
+            | DueWord::Cap(_)
+            | DueWord::NoAck(_)
+            | DueWord::Expired(_) => {
                 self.put_phase(Phase::Offered(x));
                 Ok(())
             }

@@ -6,6 +6,7 @@ ghost use Rattle.mmtel_precedence.specs.Told.{told_due};
 ghost use Rattle.mmtel_call.specs.Diverting.{told_of};
 ghost use Rattle.mmtel_call.specs.Requests.{answered_to, unheard, unlisted};
 ghost use Rattle.mmtel_answers.specs.Answers.{allowed};
+ghost use Rattle.mmtel_call_decisions.specs.Site.{further_methods};
 ghost use Rattle.mmtel_call.specs.Sending.{relayed_to_caller, replied_to, told_caller};
 
 use crate::calls::Call;
@@ -191,9 +192,10 @@ impl Call {
         desk: &mut Desk,
     ) -> Result<(), NoMemory>
         ensures { OnOk result (desk.new
-            ≡ answered_to step.now.setting.now self.now key request.now 200 allowed desk.old) }
+            ≡ answered_to step.now.setting.now self.now key request.now 200
+            (allowed (further_methods step.now.setting.now)) desk.old) }
     {
-        let named = allowed(step.alloc)?;
+        let named = allowed(step.alloc, step.setting.further_methods())?;
         let answered = self.answer_to(step, key, request, 200, &named, desk);
         drop(named);
         answered

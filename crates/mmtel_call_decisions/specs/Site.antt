@@ -1,5 +1,6 @@
 -- What each step of a call is given: the server's configuration, and how things stand then.
 use Rattle.std.specs.Prelude.{ℕ, ◌==◌, ◌-◌, ◌^◌, min, Bool, List, Option, count_by}
+use Rattle.mmtel_answers.specs.declared.answers.FurtherMethods.{FurtherMethods}
 use Rattle.mmtel_precedence.specs.Calls.{Standing}
 use Rattle.mmtel_sheet_values.specs.View.{end_in, sheet_in}
 use Rattle.mmtel_trust.specs.Peers.{Peers, is_trusted}
@@ -16,9 +17,18 @@ pub record Site : Type 0 where
   pub home : List ℕ
   pub bound : ℕ
   pub country : Option (List ℕ)
+  -- whether provisional answers are relayed reliably (RFC 3262, RFC 3311), and whether sessions have timers (RFC 4028)
+  pub reliable : Bool
+  pub timer : Bool
+  -- whether the server tells of waiting messages (RFC 3842)
+  pub mwi : Bool
   -- whom it speaks with, and whom it serves
   pub peers : Peers
   pub accounts : List AccountIdentity
+
+-- the methods that it knows beside those that it always knows
+abbrev pub further_methods : Site → FurtherMethods
+further_methods site = record { reliable = site.reliable; mwi = site.mwi }
 
 abbrev pub trusts : Site → Peer → Bool
 trusts site peer = is_trusted peer site.peers.known

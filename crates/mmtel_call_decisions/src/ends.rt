@@ -61,6 +61,7 @@ fn handed_on(cause: Cause) -> Option<u16>
         Cause::Merged => None,
         Cause::Full => None,
         Cause::Ended => None,
+        Cause::Unacknowledged => None,
     }
 }
 

@@ -1,6 +1,9 @@
 //! What each step of a call is given.
+ghost use Rattle.std.specs.Prelude.{◌≡◌};
+ghost use Rattle.mmtel_call_decisions.specs.Site.{further_methods};
 
 use crate::busy::Busy;
+use mmtel_answers::FurtherMethods;
 use mmtel_scan::Text;
 use mmtel_sheet_values::SheetView;
 use mmtel_trust::{Accounts, PeerTable};
@@ -18,6 +21,12 @@ pub struct Setting<'a> {
     pub bound: u16,
     /// The digits of the home country, where they are known.
     pub country: Option<&'a Text>,
+    /// Whether provisional answers are relayed reliably, and UPDATE is known (RFC 3262, RFC 3311).
+    pub reliable: bool,
+    /// Whether sessions have timers (RFC 4028).
+    pub timer: bool,
+    /// Whether the server tells of waiting messages (RFC 3842).
+    pub mwi: bool,
     /// The peers and the routes to them.
     pub peers: &'a PeerTable,
     /// The accounts by their identities.
@@ -36,11 +45,26 @@ impl<'a> Model for Setting<'a> {
       home = s.home.now;
       bound = s.bound;
       country = option_copied s.country;
+      reliable = s.reliable;
+      timer = s.timer;
+      mwi = s.mwi;
       peers = s.peers.now;
       accounts = s.accounts.now;
     } };
 
     ghost invariant = { λ s. s.bound ≤ 16 };
+}
+
+impl<'a> Setting<'a> {
+    /// The methods that the server knows beside those that it always knows.
+    pub fn further_methods(&self) -> FurtherMethods
+        ensures { result ≡ further_methods self.now }
+    {
+        FurtherMethods {
+            reliable: self.reliable,
+            mwi: self.mwi,
+        }
+    }
 }
 
 /// How things stand at a step.

@@ -180,9 +180,11 @@ due-fares : (P : Type 0) (site : Site) (now : Standing) (x : Trial) (what : DueW
     Fares P site now x (offered x c) desk (end_by_deadline x what) (on_due site now x what (offered x c) desk)
 due-fares P site now x (due.NoReply number) c desk =
     fares-if P site now x (offered x c) desk (number == x.attempt.number) _ _ _ _ (timed P site now x NoReply c desk no-reply-unanswered) (stays P site now x c desk)
+due-fares P site now x (due.NoPrack number) c desk = stays P site now x c desk
 due-fares P site now x (due.Cap number) c desk =
     fares-if P site now x (offered x c) desk (number == x.attempt.number) _ _ _ _ (timed P site now x (end_by_time x.attempt.rang) c desk (time-unanswered x.attempt.rang)) (stays P site now x c desk)
 due-fares P site now x (due.NoAck number) c desk = stays P site now x c desk
+due-fares P site now x (due.Expired number) c desk = stays P site now x c desk
 
 gone-quiet : (P : Type 0) (site : Site) (now : Standing) (x : Trial) (c : Call) (desk : Desk) (its rang : Bool) (branch : List ℕ) →
     Fares P site now x (offered x c) desk (if its && not rang then Some (NotReachable 408) else None)

@@ -41,7 +41,7 @@ use Rattle.mmtel_types.specs.declared.sides.Side.TheVariants.{Caller, Callee}
 use Rattle.mmtel_call_decisions.specs.Decisions.{decided_after, decided_at, handed_on, is_status, peer_for, service_at, target_of}
 use Rattle.mmtel_call_decisions.specs.Opening.{first_of, refusal_of}
 use Rattle.mmtel_call_decisions.specs.Requests.{is_same_side}
-use Rattle.mmtel_call_decisions.specs.Site.{Site}
+use Rattle.mmtel_call_decisions.specs.Site.{Site, further_methods}
 use Rattle.mmtel_call_decisions.specs.declared.openings.Service.{Service}
 use Rattle.mmtel_call.specs.Answered.{acked_and_left, acknowledges, at_stage, bye_to, leg_of, with_leg}
 use Rattle.mmtel_call.specs.Closing.{Step, onward, over, over_stood, with_past}
@@ -139,7 +139,7 @@ unseen-unheard key site c asked m Unfinished desk e = unseen-reply key asked _ d
 
 unseen-unlisted : (key : TKey) (site : Site) (c : Call) (asked : TKey) (m : Said) (desk : Desk) → (asked.0 == key.0) ≡ false → IsUnseen key desk (unlisted site c asked m desk)
 unseen-unlisted key site c asked m desk e =
-    adds-if key desk (is_method (codes "OPTIONS") m.heard.start) (answered_to site c asked m 200 allowed desk) (if is_method (codes "REFER") m.heard.start then replied_to site c asked m 403 desk else replied_to site c asked m 481 desk) [] (unseen-reply key asked _ desk e)
+    adds-if key desk (is_method (codes "OPTIONS") m.heard.start) (answered_to site c asked m 200 (allowed (further_methods site)) desk) (if is_method (codes "REFER") m.heard.start then replied_to site c asked m 403 desk else replied_to site c asked m 481 desk) [] (unseen-reply key asked _ desk e)
     (adds-if key desk (is_method (codes "REFER") m.heard.start) (replied_to site c asked m 403 desk) (replied_to site c asked m 481 desk) [] (unseen-reply key asked _ desk e) (unseen-reply key asked _ desk e))
 
 -- ---- an INVITE that the call does not wait on
@@ -528,7 +528,7 @@ unheard-answers key site c asked m Unfinished desk = a-reply key asked _ desk
 
 unlisted-answers : (key : TKey) (site : Site) (c : Call) (asked : TKey) (m : Said) (desk : Desk) → Answers key desk (unlisted site c asked m desk)
 unlisted-answers key site c asked m desk =
-    answers-if key desk (is_method (codes "OPTIONS") m.heard.start) (answered_to site c asked m 200 allowed desk) (if is_method (codes "REFER") m.heard.start then replied_to site c asked m 403 desk else replied_to site c asked m 481 desk) (a-reply key asked _ desk)
+    answers-if key desk (is_method (codes "OPTIONS") m.heard.start) (answered_to site c asked m 200 (allowed (further_methods site)) desk) (if is_method (codes "REFER") m.heard.start then replied_to site c asked m 403 desk else replied_to site c asked m 481 desk) (a-reply key asked _ desk)
     (answers-if key desk (is_method (codes "REFER") m.heard.start) (replied_to site c asked m 403 desk) (replied_to site c asked m 481 desk) (a-reply key asked _ desk) (a-reply key asked _ desk))
 
 gives-up-answers : (key : TKey) (site : Site) (at : ℕ) (x : Trial) (asked : TKey) (m : Said) (c : Call) (desk : Desk) →

@@ -27,7 +27,7 @@ use Rattle.mmtel_trust.specs.Digest.{HeardMessage}
 use Rattle.mmtel_types.specs.declared.addrs.Addr.{Addr}
 use Rattle.mmtel_types.specs.declared.sides.Side.TheVariants.{Callee}
 use Rattle.mmtel_answers.specs.Answers.{allowed}
-use Rattle.mmtel_call_decisions.specs.Site.{Site}
+use Rattle.mmtel_call_decisions.specs.Site.{Site, further_methods}
 use Rattle.mmtel_call.specs.Closing.{Step}
 use Rattle.mmtel_call.specs.Leaving.{acked_again, answered_at, answered_loose, answered_other, answered_taken, answered_taken_at, as_loose, is_fork, is_success, is_taken, is_talking}
 use Rattle.mmtel_call.specs.Requests.{answered_to, unheard, unlisted}
@@ -125,7 +125,7 @@ quiet-unheard key site c asked m Unfinished desk e = quiet-reply key asked _ _ _
 
 pub quiet-unlisted : (key : TKey) (site : Site) (c : Call) (asked : TKey) (m : Said) (desk : Desk) → (asked.0 == key.0) ≡ false → Quiet key desk (unlisted site c asked m desk)
 quiet-unlisted key site c asked m desk e =
-    quiet-if key desk (is_method (codes "OPTIONS") m.heard.start) (answered_to site c asked m 200 allowed desk) (if is_method (codes "REFER") m.heard.start then replied_to site c asked m 403 desk else replied_to site c asked m 481 desk) (quiet-reply key asked _ _ _ desk e)
+    quiet-if key desk (is_method (codes "OPTIONS") m.heard.start) (answered_to site c asked m 200 (allowed (further_methods site)) desk) (if is_method (codes "REFER") m.heard.start then replied_to site c asked m 403 desk else replied_to site c asked m 481 desk) (quiet-reply key asked _ _ _ desk e)
     (quiet-if key desk (is_method (codes "REFER") m.heard.start) (replied_to site c asked m 403 desk) (replied_to site c asked m 481 desk) (quiet-reply key asked _ _ _ desk e) (quiet-reply key asked _ _ _ desk e))
 
 -- ---- an INVITE that the call does not wait on

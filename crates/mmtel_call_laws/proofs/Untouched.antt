@@ -19,7 +19,7 @@ use Rattle.mmtel_transaction.specs.declared.words.TKey.{TKey}
 use Rattle.mmtel_trust.specs.Digest.{HeardMessage}
 use Rattle.mmtel_types.specs.declared.addrs.Addr.{Addr}
 use Rattle.mmtel_types.specs.declared.sides.Side.TheVariants.{Callee}
-use Rattle.mmtel_call_decisions.specs.Site.{Site}
+use Rattle.mmtel_call_decisions.specs.Site.{Site, further_methods}
 use Rattle.mmtel_call.specs.Closing.{Step, onward}
 use Rattle.mmtel_call.specs.Leaving.{acked_again, answered_at, answered_loose, answered_other, answered_taken, answered_taken_at, as_loose, is_fork, is_success, is_taken, is_talking, without_key, without_silent}
 use Rattle.mmtel_call.specs.Requests.{answered_to, unheard, unlisted}
@@ -55,7 +55,7 @@ unheard-rows site c key m Unfinished desk = refl
 
 pub unlisted-rows : (site : Site) (c : Call) (key : TKey) (m : Said) (desk : Desk) → (unlisted site c key m desk).rows ≡ desk.rows
 unlisted-rows site c key m desk =
-    if-rows (is_method (codes "OPTIONS") m.heard.start) (answered_to site c key m 200 allowed desk) (if is_method (codes "REFER") m.heard.start then replied_to site c key m 403 desk else replied_to site c key m 481 desk) desk.rows refl
+    if-rows (is_method (codes "OPTIONS") m.heard.start) (answered_to site c key m 200 (allowed (further_methods site)) desk) (if is_method (codes "REFER") m.heard.start then replied_to site c key m 403 desk else replied_to site c key m 481 desk) desk.rows refl
     (if-rows (is_method (codes "REFER") m.heard.start) (replied_to site c key m 403 desk) (replied_to site c key m 481 desk) desk.rows refl refl)
 
 -- ---- an INVITE that the call does not wait on

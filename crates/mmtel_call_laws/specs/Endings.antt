@@ -41,8 +41,10 @@ end_by_silence x (Some branch) = if is_its x branch && not x.attempt.rang then e
 -- the no-reply time, or the longest time, of this attempt
 abbrev pub end_by_deadline : Trial → DueWord → Option End
 end_by_deadline x (due.NoReply number) = if number == x.attempt.number then end_by events.NoReplyTime x.attempt.rang else None
+end_by_deadline x (due.NoPrack number) = None
 end_by_deadline x (due.Cap number) = if number == x.attempt.number then end_by events.LongestTime x.attempt.rang else None
 end_by_deadline x (due.NoAck number) = None
+end_by_deadline x (due.Expired number) = None
 
 -- the BYE of the caller, where it is in order
 abbrev pub end_by_request : Trial → Side → Said → Option End

@@ -32,6 +32,9 @@ draft_of said = record {
   factory = first_said factory_in said;
   bound = first_said bound_in said;
   country = first_said country_in said;
+  reliable = false;
+  timer = false;
+  mwi = false;
   mixer = first_said mixer_in said;
   store = first_said store_in said;
 }

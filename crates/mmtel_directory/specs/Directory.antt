@@ -364,17 +364,19 @@ first_of (x ∷ xs) = Some x
 abbrev pub first_said : {A : Type 0} → (Line → List A) → List Line → Option A
 first_said part said = first_of (flat_map part said)
 
--- the directory of a server with this address and this home domain
+-- the directory of a server with this address and this home domain; no line switches an extension on
 abbrev pub directory_with : Addr → List ℕ → List Line → Directory
 directory_with sip home said = record {
   sip = sip;
   web = unwrap_or (first_said web_in said) usual_web;
   home = home;
   peers = table_of said;
-  names = record { accounts = flat_map identities_in said; operator = first_said operator_in said };
+  names = record { accounts = flat_map identities_in said; operator = first_said operator_in said; mwi = false };
   factory = first_said factory_in said;
   bound = unwrap_or (first_said bound_in said) usual_bound;
   country = first_said country_in said;
+  reliable = false;
+  timer = false;
   mixer = unwrap_or (first_said mixer_in said) usual_mixer;
   store = unwrap_or (first_said store_in said) usual_store;
 }

@@ -25,6 +25,9 @@ empty_draft = record {
   factory = None;
   bound = None;
   country = None;
+  reliable = false;
+  timer = false;
+  mwi = false;
   mixer = None;
   store = None;
 }
@@ -74,10 +77,12 @@ directory_in sip home draft = record {
   web = unwrap_or draft.web usual_web;
   home = home;
   peers = draft.peers;
-  names = record { accounts = draft.accounts; operator = draft.operator };
+  names = record { accounts = draft.accounts; operator = draft.operator; mwi = draft.mwi };
   factory = draft.factory;
   bound = unwrap_or draft.bound usual_bound;
   country = draft.country;
+  reliable = draft.reliable;
+  timer = draft.timer;
   mixer = unwrap_or draft.mixer usual_mixer;
   store = unwrap_or draft.store usual_store;
 }

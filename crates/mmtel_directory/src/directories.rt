@@ -21,6 +21,8 @@ pub struct WebDirectory {
     pub accounts: Accounts,
     /// The operator, who may ask for the charging rows; where there is none, nobody may.
     pub operator: Option<Uri>,
+    /// Whether the server tells of waiting messages (TS 24.606, RFC 3842).
+    pub mwi: bool,
 }
 
 /// What a configuration says of the server and of those it speaks with.
@@ -42,6 +44,10 @@ pub struct Directory {
     pub bound: u16,
     /// The digits of the home country: a number with other digits behind its `+` is abroad. Where there are none, no number is.
     pub country: Option<Text>,
+    /// Whether provisional answers are relayed reliably, and UPDATE is known (RFC 3262, RFC 3311).
+    pub reliable: bool,
+    /// Whether sessions have timers (RFC 4028).
+    pub timer: bool,
     /// Where the mixer of rooms takes media.
     pub mixer: Mixer,
     /// The name of the store, to which the keeper is bound.

@@ -28,6 +28,9 @@ pub struct Draft {
     factory: Option<Uri>,
     bound: Option<u16>,
     country: Option<Text>,
+    reliable: bool,
+    timer: bool,
+    mwi: bool,
     mixer: Option<Mixer>,
     store: Option<Text>,
 }
@@ -110,6 +113,9 @@ impl Draft {
             factory: None,
             bound: None,
             country: None,
+            reliable: false,
+            timer: false,
+            mwi: false,
             mixer: None,
             store: None,
         }
@@ -217,10 +223,13 @@ impl Draft {
                 names: WebDirectory {
                     accounts: self.accounts,
                     operator: self.operator,
+                    mwi: self.mwi,
                 },
                 factory: self.factory,
                 bound: self.bound.unwrap_or(DIVERSIONS_DEFAULT),
                 country: self.country,
+                reliable: self.reliable,
+                timer: self.timer,
                 mixer: mixer_or_usual(self.mixer),
                 store: store_or_usual(alloc, self.store)?,
             }),

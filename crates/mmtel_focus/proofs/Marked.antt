@@ -4,7 +4,8 @@ use Rattle.std.proofs.lemmas.Slice.Eq.{bytes_eq-Decides}
 use Rattle.std.specs.Prelude.{◌&&◌, is_some, position}
 use Rattle.std.specs.Str.{bytes_eq}
 use Rattle.mmtel_desk.proofs.Marking.{any_passes, passes}
-use Rattle.mmtel_desk.specs.Marks.{Has, told_of}
+use Rattle.mmtel_desk.specs.Marks.{Has}
+use Rattle.mmtel_transaction.specs.Told.{told_of}
 use Rattle.mmtel_desk.specs.declared.marks.Mark.TheVariants.{Named, Sent}
 use Rattle.mmtel_focus.specs.Marks.{marks_of, seat_marks, sent_marks}
 use Rattle.mmtel_focus.specs.Names.{has_dialog, has_name, is_named, number_at}

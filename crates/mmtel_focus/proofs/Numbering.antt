@@ -110,13 +110,13 @@ module _ (site : Site) (now : ℕ) where
   heard_keeps : (key : TKey) (m : Said) (place : ℕ) (seat : Seat) (s : Step) → Keeps s (on_heard site now key m place seat s)
   heard_keeps key m place seat s =
       let none : Step = refused site key m 481 place seat s in
-      let options : Step = if is_method (codes "OPTIONS") m.heard.start then answered_with site key m 200 allowed place seat s else none in
+      let options : Step = if is_method (codes "OPTIONS") m.heard.start then answered_with site key m 200 (allowed site.methods) place seat s else none in
       let refer : Step = if is_method (codes "REFER") m.heard.start then on_referral site now key m (referral_in m.heard.refer_to) place seat s else options in
       let bye : Step = if is_method (codes "BYE") m.heard.start then on_bye site now key m place seat s else refer in
       if_keeps (is_method (codes "INVITE") m.heard.start) s (on_invite site now key m place seat s) bye (invite_keeps key m place seat s)
       (if_keeps (is_method (codes "BYE") m.heard.start) s (on_bye site now key m place seat s) refer (bye_keeps key m place seat s)
       (if_keeps (is_method (codes "REFER") m.heard.start) s (on_referral site now key m (referral_in m.heard.refer_to) place seat s) options (referral_keeps key m (referral_in m.heard.refer_to) place seat s)
-      (if_keeps (is_method (codes "OPTIONS") m.heard.start) s (answered_with site key m 200 allowed place seat s) none refl refl)))
+      (if_keeps (is_method (codes "OPTIONS") m.heard.start) s (answered_with site key m 200 (allowed site.methods) place seat s) none refl refl)))
 
   hearing_keeps : (key : TKey) (m : Said) (r : Result (Unit {0}) DialogueFault) (place : ℕ) (seat : Seat) (s : Step) → Keeps s (on_hearing site now key m r place seat s)
   hearing_keeps key m (Err (OldCSeq last)) place seat s = refl

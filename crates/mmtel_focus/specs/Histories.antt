@@ -1,6 +1,7 @@
 -- A table of rooms and all that was done on it. What a table is after deeds is told from the list of the deeds alone.
 use Rattle.std.specs.Prelude.{ℕ, ◌≡◌, Bool, true, false, Option, List, [], ◌∷◌, ◌++◌, drop}
 use Rattle.mmtel_answers.specs.Said.{Said}
+use Rattle.mmtel_answers.specs.declared.answers.FurtherMethods.{FurtherMethods}
 use Rattle.mmtel_leg.specs.Legs.{Leg}
 use Rattle.mmtel_leg.specs.declared.legs.Released.{Released}
 use Rattle.mmtel_leg.specs.declared.legs.Released.TheVariants as released
@@ -127,13 +128,14 @@ table_after site (deed ∷ deeds) = did site deed (table_after site deeds)
 pub record RoomsView : Type 0 where
   pub sip : Addr
   pub mixer : Mixer
+  pub methods : FurtherMethods
   pub table : Table
   -- memory was wanted in a step
   pub has_failed : Bool
 
 -- its configuration, with the peers and the accounts that each call on it is given
 abbrev pub site_of : RoomsView → Peers → List AccountIdentity → Site
-site_of rooms peers accounts = record { sip = rooms.sip; mixer = rooms.mixer; peers = peers; accounts = accounts }
+site_of rooms peers accounts = record { sip = rooms.sip; mixer = rooms.mixer; methods = rooms.methods; peers = peers; accounts = accounts }
 
 -- it stands for these deeds
 pub record Stands (peers : Peers) (accounts : List AccountIdentity) (rooms : RoomsView) (deeds : List Deed) : Type 0 where

@@ -1,7 +1,8 @@
 -- By what a room is found without asking each: numbers told from the branches of the INVITEs to its seats and from the server's tags of their dialogs; and the rooms that are
 -- live, as they are kept.
 use Rattle.std.specs.Prelude.{ℕ, Option, Some, None, List, [], ◌∷◌, flat_map}
-use Rattle.mmtel_desk.specs.Marks.{AreMarked, Ascend, told_of}
+use Rattle.mmtel_desk.specs.Marks.{AreMarked, Ascend}
+use Rattle.mmtel_transaction.specs.Told.{told_of}
 use Rattle.mmtel_desk.specs.declared.index.Index.{Index}
 use Rattle.mmtel_desk.specs.declared.marks.Mark.{Mark}
 use Rattle.mmtel_desk.specs.declared.marks.Mark.TheVariants.{Named, Sent}

@@ -74,7 +74,7 @@ on_heard site now key m place seat s =
     if is_method (codes "INVITE") m.heard.start then on_invite site now key m place seat s
     else if is_method (codes "BYE") m.heard.start then on_bye site now key m place seat s
     else if is_method (codes "REFER") m.heard.start then on_referral site now key m (referral_in m.heard.refer_to) place seat s
-    else if is_method (codes "OPTIONS") m.heard.start then answered_with site key m 200 allowed place seat s
+    else if is_method (codes "OPTIONS") m.heard.start then answered_with site key m 200 (allowed site.methods) place seat s
     else refused site key m 481 place seat s
 
 -- ---- whether it is heard

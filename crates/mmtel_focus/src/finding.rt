@@ -5,9 +5,10 @@ ghost use Rattle.mmtel_focus.specs.Names.{found, found_in, has_dialog, is_named,
 
 use crate::live::LiveRooms;
 use crate::rooms::Room;
-use mmtel_desk::{Mark, told};
+use mmtel_desk::Mark;
 use mmtel_leg::DialogName;
 use mmtel_seats::Seat;
+use mmtel_transaction::told;
 use mmtel_types::RoomNo;
 
 /// Whether somebody is seated there whose dialog has these names.

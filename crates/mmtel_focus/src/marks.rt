@@ -4,8 +4,9 @@ ghost use Rattle.mmtel_desk.specs.Marks.{Written};
 ghost use Rattle.mmtel_focus.specs.Marks.{branch_of, marks_of, seat_marks, sent_marks};
 
 use crate::rooms::Room;
-use mmtel_desk::{Index, Mark, told};
+use mmtel_desk::{Index, Mark};
 use mmtel_seats::{Invite, Seat};
+use mmtel_transaction::told;
 
 /// The branch of the server's INVITE to a seat.
 fn branch_of(invite: &Invite) -> &[u8]

@@ -12,12 +12,10 @@ use crate::live::{LiveRooms, give_up_room};
 use crate::rooms::Room;
 use crate::signals::{LentSignal, RoomSignal};
 use mmtel_answers::Hearing;
-use mmtel_desk::{
-    Loose, Mark, drop_at, file, invite_answered, invite_silent, loose_at, loose_of, told,
-};
+use mmtel_desk::{Loose, Mark, drop_at, file, invite_answered, invite_silent, loose_at, loose_of};
 use mmtel_scan::{List, NoMemory};
 use mmtel_seats::{self as seats, Effects, Seat, Step};
-use mmtel_transaction::TKey;
+use mmtel_transaction::{TKey, told};
 use mmtel_types::{Addr, RoomNo};
 use std::alloc::Global;
 

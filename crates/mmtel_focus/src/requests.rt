@@ -264,11 +264,13 @@ impl Room {
         effects: &mut Effects,
     ) -> Result<(), NoMemory>
         requires { place < length self.now.seats }
-        ensures room { (at_seat (answered_with step.now.setting key request.now 200 allowed) place (in_step self.now effects.old)).room ≡ self.now }
+        ensures room { (at_seat (answered_with step.now.setting key request.now 200
+            (allowed step.now.setting.methods)) place (in_step self.now effects.old)).room ≡ self.now }
         ensures effects { OnOk result (effects.new
-            ≡ (at_seat (answered_with step.now.setting key request.now 200 allowed) place (in_step self.now effects.old)).effects) }
+            ≡ (at_seat (answered_with step.now.setting key request.now 200
+            (allowed step.now.setting.methods)) place (in_step self.now effects.old)).effects) }
     {
-        let named = allowed(step.alloc)?;
+        let named = allowed(step.alloc, step.setting.methods)?;
         let named = named.items();
         let tag = self.seats[place].tag();
         answer_with(step, key, request, tag, 200, named, &mut effects.desk)

@@ -1,5 +1,6 @@
 //! The table of rooms.
 ghost use Rattle.std.specs.Prelude.{◌≡◌, ◌≤◌, ◌++◌, ◌∷◌, false, List, IfOk, OnOk, length};
+ghost use Rattle.mmtel_answers.specs.Answers.{no_further_methods};
 ghost use Rattle.mmtel_trust.specs.Peers.{Peers};
 ghost use Rattle.mmtel_trust.specs.declared.accounts.AccountIdentity.{AccountIdentity};
 ghost use Rattle.mmtel_focus.specs.Histories.{Deed, Drops, Stands, no_tokens, site_of, table_after};
@@ -12,6 +13,7 @@ mod parting;
 
 use crate::finding;
 use crate::live::LiveRooms;
+use mmtel_answers::FurtherMethods;
 use mmtel_charging::{Row, drop_first};
 use mmtel_desk::Loose;
 use mmtel_leg::DialogName;
@@ -29,6 +31,7 @@ use std::mem;
 pub struct Rooms {
     sip: Addr,
     mixer: Mixer,
+    methods: FurtherMethods,
     live: LiveRooms,
     loose: List<Loose>,
     rows: List<Row>,
@@ -43,6 +46,7 @@ impl Model for Rooms {
     ghost view = { λ r. record {
       sip = r.sip;
       mixer = r.mixer;
+      methods = r.methods;
       table = record { live = r.live.items; opened = r.live.opened; loose = r.loose; rows = r.rows };
       has_failed = r.has_failed;
     } };
@@ -63,16 +67,29 @@ impl Rooms {
     /// Want of memory alone.
     pub fn new(alloc: Global, mixer: Mixer, sip: Addr) -> Result<Rooms, NoMemory>
         ensures rooms { IfOk result (λ rooms. rooms
-            ≡ record { sip = sip; mixer = mixer; table = no_rooms; has_failed = false }) }
+            ≡ record { sip = sip; mixer = mixer; methods = no_further_methods; table = no_rooms; has_failed = false }) }
     {
         Ok(Rooms {
             sip,
             mixer,
+            methods: FurtherMethods {
+                reliable: false,
+                mwi: false,
+            },
             live: LiveRooms::new(alloc),
             loose: List::new(),
             rows: List::new(),
             has_failed: false,
         })
+    }
+
+    /// The same rooms, of a server that knows these methods beside those that it always knows: who asks by OPTIONS is told of them.
+    pub fn with_methods(self, methods: FurtherMethods) -> Rooms
+        ensures { result ≡ record self { methods = methods } }
+    {
+        let mut rooms = self;
+        rooms.methods = methods;
+        rooms
     }
 
     /// What a step of the rooms is given, where these are the peers and the accounts, and this is the moment.
@@ -89,6 +106,7 @@ impl Rooms {
         let setting = Setting {
             sip: self.sip,
             mixer: self.mixer,
+            methods: self.methods,
             peers,
             accounts,
         };
@@ -176,6 +194,7 @@ impl Rooms {
         let Rooms {
             sip: _,
             mixer: _,
+            methods: _,
             live,
             loose,
             rows,

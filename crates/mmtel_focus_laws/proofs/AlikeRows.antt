@@ -247,8 +247,8 @@ module _ (heads : Heads) (site : Site) (keys : TKey → Bool) where
         let n : Said = p.other.said in
         let last : Step = refused site key m 481 place v s in
         let last' : Step = refused site key n 481 place w r in
-        let options : Step = if is_method (codes "OPTIONS") m.heard.start then answered_with site key m 200 allowed place v s else last in
-        let options' : Step = if is_method (codes "OPTIONS") n.heard.start then answered_with site key n 200 allowed place w r else last' in
+        let options : Step = if is_method (codes "OPTIONS") m.heard.start then answered_with site key m 200 (allowed site.methods) place v s else last in
+        let options' : Step = if is_method (codes "OPTIONS") n.heard.start then answered_with site key n 200 (allowed site.methods) place w r else last' in
         let refer : Step = on_referral site now key m (referral_in m.heard.refer_to) place v s in
         let refer' : Step = on_referral site now key n (referral_in n.heard.refer_to) place w r in
         let byes : Step = if is_method (codes "REFER") m.heard.start then refer else options in
@@ -257,8 +257,8 @@ module _ (heads : Heads) (site : Site) (keys : TKey → Bool) where
         (on_invite site now key n place w r) (if is_method (codes "BYE") n.heard.start then on_bye site now key n place w r else byes') (method_same (codes "INVITE")) (invite-rows place v w s r e a)
         (if-rows heads site keys (is_method (codes "BYE") m.heard.start) (is_method (codes "BYE") n.heard.start) (on_bye site now key m place v s) byes (on_bye site now key n place w r) byes' (method_same (codes "BYE")) (bye-rows place v w s r e a)
         (if-rows heads site keys (is_method (codes "REFER") m.heard.start) (is_method (codes "REFER") n.heard.start) refer options refer' options' (method_same (codes "REFER")) (refer-rows place v w s r e a)
-        (if-rows heads site keys (is_method (codes "OPTIONS") m.heard.start) (is_method (codes "OPTIONS") n.heard.start) (answered_with site key m 200 allowed place v s) last (answered_with site key n 200 allowed place w r) last' (method_same (codes "OPTIONS"))
-        (answered_with-rows 200 allowed place v w s r e a) (refused-rows 481 place v w s r e a))))
+        (if-rows heads site keys (is_method (codes "OPTIONS") m.heard.start) (is_method (codes "OPTIONS") n.heard.start) (answered_with site key m 200 (allowed site.methods) place v s) last (answered_with site key n 200 (allowed site.methods) place w r) last' (method_same (codes "OPTIONS"))
+        (answered_with-rows 200 (allowed site.methods) place v w s r e a) (refused-rows 481 place v w s r e a))))
 
     unheard-rows : (fault : DialogueFault) → Row (unheard site key p.one.said fault) (unheard site key p.other.said fault)
     unheard-rows (OldCSeq last) place v w s r e a = refused-rows 500 place v w s r e a

@@ -25,7 +25,7 @@ use Rattle.mmtel_focus.specs.Seats.{is_seat, is_seated, told_to}
 use Rattle.mmtel_focus.specs.Seats as seats
 use Rattle.mmtel_focus.specs.Site.{Site}
 use Rattle.mmtel_focus.specs.Table.{Moved, Stepped, Table, access, answered_at, answered_by, answered_loose, asks, beside, closed, closed_at, heard_by, heard_in, heard_of, hears, is_asked, is_loose_key, is_provisional, is_room, joined, left, left_at, left_in, next_room, notified, place_of, put_at, referred, room_left, room_left_at, seat_left, silenced_at, silenced_by, stays_at, stays_in, stepped_at, stepped_in, taken, through, unmoved, without, without_at, without_seat}
-use Rattle.mmtel_desk.specs.Invites.{answers_invite, branch_in, invite_answered, invite_silent}
+use Rattle.mmtel_desk.specs.Invites.{answers_awaited, branch_in, invite_answered, invite_silent}
 use Rattle.mmtel_focus.specs.Texts.{own_status}
 use Rattle.mmtel_focus.specs.declared.faults.RoomFault.{RoomFault}
 use Rattle.mmtel_seats.specs.declared.effects.Effects.{Effects}
@@ -238,7 +238,7 @@ module _ (heads : Heads) (site : Site) (keys : TKey → Bool) where
 
   branch_same : (p : Pair) → AreAlike p → invite_answered p.one.said ≡ invite_answered p.other.said
   unfolding invite_answered
-  branch_same p said = ap (λ (m : Said). if answers_invite m.heard.cseq then branch_in m.heard.vias else None) said
+  branch_same p said = ap (λ (m : Said). if answers_awaited m.heard.cseq then branch_in m.heard.vias else None) said
 
   taken-alike : (now : ℕ) (z : Signals) (x y : Table) (e k : Effects) → AreHeard T z x y → AreRooms x.live y.live → AreLoose x.loose y.loose → AlikeEffects T e k →
       AlikeMoved T (taken site now (one_signal z) x.live x.loose e) (taken site now (other_signal z) y.live y.loose k)

@@ -121,15 +121,15 @@ heard_books at site key m place seat s e p =
     (goes_on at s (on_invite site at key m place seat s) (invite_books at site key m place seat s e p))
     (ends_if at (is_method (codes "BYE") m.heard.start) s (on_bye site at key m place seat s) third (bye_books at site key m place seat s e p)
     (ends_if at (is_method (codes "REFER") m.heard.start) s referred fourth (goes_on at s referred (referral_books at site key m (referral_in m.heard.refer_to) place seat s e p))
-    (ends_if at (is_method (codes "OPTIONS") m.heard.start) s (answered_with site key m 200 allowed place seat s) (refused site key m 481 place seat s)
-    (goes_on at s (answered_with site key m 200 allowed place seat s) (answered_books at site key m 200 allowed place seat s e p))
+    (ends_if at (is_method (codes "OPTIONS") m.heard.start) s (answered_with site key m 200 (allowed site.methods) place seat s) (refused site key m 481 place seat s)
+    (goes_on at s (answered_with site key m 200 (allowed site.methods) place seat s) (answered_books at site key m 200 (allowed site.methods) place seat s e p))
     (ends_refused at site key m 481 place seat s e p))))
   where
     referred : Step
     referred = on_referral site at key m (referral_in m.heard.refer_to) place seat s
 
     fourth : Step
-    fourth = if is_method (codes "OPTIONS") m.heard.start then answered_with site key m 200 allowed place seat s else refused site key m 481 place seat s
+    fourth = if is_method (codes "OPTIONS") m.heard.start then answered_with site key m 200 (allowed site.methods) place seat s else refused site key m 481 place seat s
 
     third : Step
     third = if is_method (codes "REFER") m.heard.start then referred else fourth

@@ -59,7 +59,7 @@ use Rattle.mmtel_call_laws.specs.Heads.Kept.{IsCleanDialogue}
 use Rattle.mmtel_call_laws.proofs.Heads.Building.{response_clean}
 use Rattle.mmtel_call_laws.proofs.Heads.Going.{called_clean}
 use Rattle.mmtel_call_laws.proofs.Heads.Hearing.{IsCleanHeard}
-use Rattle.mmtel_call_laws.proofs.Heads.Keeping.{once_clean}
+use Rattle.mmtel_call_laws.proofs.Heads.Keeping.{allowed_clean, once_clean}
 use Rattle.mmtel_call_laws.proofs.Heads.Reading.{name_text_clean}
 use Rattle.mmtel_call_laws.proofs.Heads.Sending.{IsCleanInvitation, IsCleanRemote, ack_text_clean, acked_clean, answered_clean, asked_clean, cancelled_clean, each_append, emit_clean, final_acked_clean, met_clean, phrase_clean, remote_clean, replied_clean, token_clean}
 use Rattle.mmtel_focus_laws.proofs.CleanSteps.{IsCleanHere, IsCleanInvite, IsCleanParty, IsCleanRoom, IsCleanSeat, IsCleanStep, KeepsClean, at_seat_clean, closed_with_clean, dismissed_clean, if_step, left_clean, put_clean, told_by_clean, told_to_clean, with_desk_clean, with_leg_clean}
@@ -209,14 +209,14 @@ heard_row site at key m h place seat s e is =
     if_step (is_method (codes "INVITE") m.heard.start) (on_invite site at key m place seat s) other (invite_clean site at key m h place seat s e is)
     (if_step (is_method (codes "BYE") m.heard.start) (on_bye site at key m place seat s) third (bye_row site at key m h place seat s e is)
     (if_step (is_method (codes "REFER") m.heard.start) referred fourth (referral_row site at key m (referral_in m.heard.refer_to) h (referral_clean m.heard.refer_to) place seat s e is)
-    (if_step (is_method (codes "OPTIONS") m.heard.start) (answered_with site key m 200 allowed place seat s) (refused site key m 481 place seat s)
-    (with_lines_clean site key m 200 allowed h refl place seat s e is) (refused_clean site key m 481 h place seat s e is))))
+    (if_step (is_method (codes "OPTIONS") m.heard.start) (answered_with site key m 200 (allowed site.methods) place seat s) (refused site key m 481 place seat s)
+    (with_lines_clean site key m 200 (allowed site.methods) h (allowed_clean site.methods) place seat s e is) (refused_clean site key m 481 h place seat s e is))))
   where
     referred : Step
     referred = on_referral site at key m (referral_in m.heard.refer_to) place seat s
 
     fourth : Step
-    fourth = if is_method (codes "OPTIONS") m.heard.start then answered_with site key m 200 allowed place seat s else refused site key m 481 place seat s
+    fourth = if is_method (codes "OPTIONS") m.heard.start then answered_with site key m 200 (allowed site.methods) place seat s else refused site key m 481 place seat s
 
     third : Step
     third = if is_method (codes "REFER") m.heard.start then referred else fourth

@@ -33,7 +33,17 @@ use Rattle.mmtel_focus_laws.specs.Parts.{trust_of, trusts}
 
 -- the configuration as calls have it, of which the peers alone are asked
 abbrev pub as_calls : Site → calls.Site
-as_calls site = record { sip = site.sip; home = []; bound = 0; country = None; peers = site.peers; accounts = [] }
+as_calls site = record {
+  sip = site.sip;
+  home = [];
+  bound = 0;
+  country = None;
+  reliable = false;
+  timer = false;
+  mwi = false;
+  peers = site.peers;
+  accounts = [];
+}
 
 module _ (heads : Heads) (site : Site) (keys : TKey → Bool) where
   abbrev T : Trust

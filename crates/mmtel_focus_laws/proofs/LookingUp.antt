@@ -13,13 +13,11 @@ use Rattle.mmtel_leg.specs.declared.legs.Released.{Released}
 use Rattle.mmtel_lex.specs.Grammar.{uri_text}
 use Rattle.mmtel_lex.specs.declared.values.Uri.{Uri}
 use Rattle.mmtel_message.specs.Faults.{is_method}
-use Rattle.mmtel_sdp.specs.declared.values.Mixer.{Mixer}
 use Rattle.mmtel_transaction.specs.declared.words.RoomWord.{RoomWord}
 use Rattle.mmtel_transaction.specs.declared.words.RoomWord.TheVariants as due
 use Rattle.mmtel_transaction.specs.declared.words.TKey.{TKey}
-use Rattle.mmtel_trust.specs.Peers.{Peers, route_of}
+use Rattle.mmtel_trust.specs.Peers.{route_of}
 use Rattle.mmtel_trust.specs.declared.accounts.AccountIdentity.{AccountIdentity}
-use Rattle.mmtel_types.specs.declared.addrs.Addr.{Addr}
 use Rattle.mmtel_types.specs.declared.numbers.Account.{Account}
 use Rattle.mmtel_types.specs.declared.numbers.Peer.{Peer}
 use Rattle.mmtel_types.specs.declared.numbers.RoomNo.{RoomNo}
@@ -136,7 +134,7 @@ module _ (site : Site) (accounts : List AccountIdentity) where
   heard-same : (now : ℕ) (key : TKey) (m : Said) (place : ℕ) (v : Seat) (s : Step) → RefersAlike site far m → on_heard site now key m place v s ≡ on_heard far now key m place v s
   heard-same now key m place v s e =
       let last : Step = refused site key m 481 place v s in
-      let options : Step = if is_method (codes "OPTIONS") m.heard.start then answered_with site key m 200 allowed place v s else last in
+      let options : Step = if is_method (codes "OPTIONS") m.heard.start then answered_with site key m 200 (allowed site.methods) place v s else last in
       let refer : Site → Step = λ z. on_referral z now key m (referral_in m.heard.refer_to) place v s in
       let bye : Site → Step = λ z. on_bye z now key m place v s in
       let invite : Step = on_invite site now key m place v s in
@@ -329,10 +327,7 @@ module _ (site : Site) (accounts : List AccountIdentity) where
 -- ---- any two such configurations
 
 whole : (one other : Site) → EqualButForAccounts one other → record one { accounts = other.accounts } ≡ other
-whole one other e =
-    ap (λ (v : Addr). record one { sip = v; accounts = other.accounts }) e.sip
-    ∙ (ap (λ (v : Mixer). record other { mixer = v; peers = one.peers }) e.mixer
-    ∙ ap (λ (v : Peers). record other { peers = v }) e.peers)
+whole one other e = λ i. record { sip = e.sip i; mixer = e.mixer i; methods = e.methods i; peers = e.peers i; accounts = other.accounts }
 
 signal-whole : (one other : Site) (x : RoomSignal) → SignalLooksAlike one other x → SignalLooksAlike one (record one { accounts = other.accounts }) x
 signal-whole one other (signal.Request room seat key request) a = a
@@ -380,6 +375,6 @@ deed-looks site (histories.Drops count) = tt
 
 pub one_is_alike : OneIsAlike
 one_is_alike = record {
-  equal = λ site. record { sip = refl; mixer = refl; peers = refl };
+  equal = λ site. record { sip = refl; mixer = refl; methods = refl; peers = refl };
   looks = λ site deed. deed-looks site deed;
 }

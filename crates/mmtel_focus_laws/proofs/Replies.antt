@@ -223,14 +223,14 @@ module _ (own : ℕ → Bool) where
       if_step (is_method (codes "INVITE") m.heard.start) (on_invite site at key m place seat s) other (invite_in site at key m h place seat s is)
       (if_step (is_method (codes "BYE") m.heard.start) (on_bye site at key m place seat s) third (bye_row site at key m h place seat s is)
       (if_step (is_method (codes "REFER") m.heard.start) referred_to fourth (referral_row site at key m (referral_in m.heard.refer_to) h place seat s is)
-      (if_step (is_method (codes "OPTIONS") m.heard.start) (answered_with site key m 200 allowed place seat s) (refused site key m 481 place seat s)
-      (with_lines_in site key m 200 allowed h place seat s is) (refused_in site key m 481 h place seat s is))))
+      (if_step (is_method (codes "OPTIONS") m.heard.start) (answered_with site key m 200 (allowed site.methods) place seat s) (refused site key m 481 place seat s)
+      (with_lines_in site key m 200 (allowed site.methods) h place seat s is) (refused_in site key m 481 h place seat s is))))
     where
       referred_to : Step
       referred_to = on_referral site at key m (referral_in m.heard.refer_to) place seat s
 
       fourth : Step
-      fourth = if is_method (codes "OPTIONS") m.heard.start then answered_with site key m 200 allowed place seat s else refused site key m 481 place seat s
+      fourth = if is_method (codes "OPTIONS") m.heard.start then answered_with site key m 200 (allowed site.methods) place seat s else refused site key m 481 place seat s
 
       third : Step
       third = if is_method (codes "REFER") m.heard.start then referred_to else fourth

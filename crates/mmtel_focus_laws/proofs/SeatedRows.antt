@@ -305,10 +305,10 @@ module _ (P : Place → Type 0) (at : ℕ) where
       where
         by : (b : Bool) → is_method (codes "REFER") m.heard.start ≡ b →
             Holds (if b then on_referral site at key m (referral_in m.heard.refer_to) place seat s
-            else if is_method (codes "OPTIONS") m.heard.start then answered_with site key m 200 allowed place seat s
+            else if is_method (codes "OPTIONS") m.heard.start then answered_with site key m 200 (allowed site.methods) place seat s
             else refused site key m 481 place seat s)
         by true refer = referral_holds key m (referral_in m.heard.refer_to) (λ uri same. gives uri refer same) place seat s e is h
-        by false refer = if_holds (is_method (codes "OPTIONS") m.heard.start) (answered_with site key m 200 allowed place seat s) (refused site key m 481 place seat s) h h
+        by false refer = if_holds (is_method (codes "OPTIONS") m.heard.start) (answered_with site key m 200 (allowed site.methods) place seat s) (refused site key m 481 place seat s) h h
 
     fault_holds : (key : TKey) (m : Said) (fault : DialogueFault) → Keeps (unheard site key m fault)
     fault_holds key m (OldCSeq last) place seat s e h = h

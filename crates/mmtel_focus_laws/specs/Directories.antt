@@ -17,6 +17,7 @@ use Rattle.mmtel_trust.specs.Accounts.{account_of}
 pub record EqualButForAccounts (one other : Site) : Type 0 where
   pub sip : one.sip ≡ other.sip
   pub mixer : one.mixer ≡ other.mixer
+  pub methods : one.methods ≡ other.methods
   pub peers : one.peers ≡ other.peers
 
 -- ---- look-ups

@@ -1,5 +1,6 @@
 //! What each step of a room is given.
 
+use mmtel_answers::FurtherMethods;
 use mmtel_sdp::Mixer;
 use mmtel_trust::{Accounts, PeerTable};
 use mmtel_types::{Addr, Moment};
@@ -13,6 +14,8 @@ pub struct Setting<'a> {
     pub sip: Addr,
     /// Where the mixer takes media.
     pub mixer: Mixer,
+    /// The methods that the server knows beside those that it always knows.
+    pub methods: FurtherMethods,
     /// The peers and the routes to them.
     pub peers: &'a PeerTable,
     /// The accounts by their identities.
@@ -24,7 +27,13 @@ impl<'a> Model for Setting<'a> {
 
     ghost Value = { Site };
 
-    ghost view = { λ s. record { sip = s.sip; mixer = s.mixer; peers = s.peers.now; accounts = s.accounts.now } };
+    ghost view = { λ s. record {
+      sip = s.sip;
+      mixer = s.mixer;
+      methods = s.methods;
+      peers = s.peers.now;
+      accounts = s.accounts.now;
+    } };
 }
 
 /// What each step of a room is given beside what it hears. It is read and never changed.

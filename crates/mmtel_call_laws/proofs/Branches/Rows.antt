@@ -82,7 +82,7 @@ use Rattle.mmtel_types.specs.declared.causes.Cause.TheVariants as causes
 use Rattle.mmtel_types.specs.declared.numbers.Peer.{Peer}
 use Rattle.mmtel_types.specs.declared.sides.Side.{Side}
 use Rattle.mmtel_types.specs.declared.sides.Side.TheVariants.{Caller, Callee}
-use Rattle.mmtel_call_laws.specs.Branches.Sent.{AreNumbered, CallWasSent, Each, InvitationWasSent, IsInvite, IsNoInvite, IsNumbered, LooseWasSent, OthersWereSent, PhaseWasSent, StageWasSent, TakenWasSent}
+use Rattle.mmtel_call_laws.specs.Branches.Sent.{AreNumbered, CallWasSent, Each, InvitationWasSent, IsInvite, IsNotAwaited, IsNumbered, LooseWasSent, OthersWereSent, PhaseWasSent, StageWasSent, TakenWasSent}
 
 -- ---- each of a list
 
@@ -163,7 +163,7 @@ module _ (sent : List ℕ → Peer → Type 0) (site : Site) (text : List ℕ) (
 
   invite_last : (from high next : ℕ) (peer : Peer) (m : Message Start) (out : List Emit) → high < next → IsInvite site.sip (token_text text next) m → AreNumbered site.sip text from high out →
       AreNumbered site.sip text from next (out ++ emit.Ask peer m ∷ [])
-  invite_last from high next peer m [] lt is are = (next, inr (omega (arith, lt, are), is), omega arith)
+  invite_last from high next peer m [] lt is are = (next, inr (omega (arith, lt, are), record { method = codes "INVITE"; waited_for = refl; request = is }), omega arith)
   invite_last from high next peer m (x ∷ out) lt is are = (are.0, are.1, invite_last are.0 high next peer m out lt is are.2)
 
   emit_in : (e : Emit) (desk : Desk) → IsQuiet e → Counted desk → Counted (emitted e desk)
@@ -193,13 +193,13 @@ module _ (sent : List ℕ → Peer → Type 0) (site : Site) (text : List ℕ) (
   if_desk true one two e f = e
   if_desk false one two e f = f
 
-  -- ---- what is asked and is no INVITE
+  -- ---- what is asked and has no answer that is waited for
 
-  no_bye : (d : Dialogue) (number : ℕ) (given : Given) → IsNoInvite (numbered d number (codes "BYE") given)
+  no_bye : (d : Dialogue) (number : ℕ) (given : Given) → IsNotAwaited (numbered d number (codes "BYE") given)
   no_bye d number given None = refl
   no_bye d number given (Some five) = refl
 
-  no_cancel : (d : Dialogue) (number : ℕ) (given : Given) → IsNoInvite (numbered d number (codes "CANCEL") given)
+  no_cancel : (d : Dialogue) (number : ℕ) (given : Given) → IsNotAwaited (numbered d number (codes "CANCEL") given)
   no_cancel d number given None = refl
   no_cancel d number given (Some five) = refl
 
@@ -424,10 +424,12 @@ module _ (sent : List ℕ → Peer → Type 0) (site : Site) (text : List ℕ) (
   due_row now x (due.NoReply number) c desk t k had =
       if_good (number == x.attempt.number) (timed_out site now x NoReply (offered_call x c) desk) (onward (offered_call x c) desk)
       (timed_out_good now x NoReply (offered_call x c) desk t k had) (onward_good (offered_call x c) desk t k had)
+  due_row now x (due.NoPrack number) c desk t k had = onward_good (offered_call x c) desk t k had
   due_row now x (due.Cap number) c desk t k had =
       if_good (number == x.attempt.number) (timed_out site now x (end_by_time x.attempt.rang) (offered_call x c) desk) (onward (offered_call x c) desk)
       (timed_out_good now x (end_by_time x.attempt.rang) (offered_call x c) desk t k had) (onward_good (offered_call x c) desk t k had)
   due_row now x (due.NoAck number) c desk t k had = onward_good (offered_call x c) desk t k had
+  due_row now x (due.Expired number) c desk t k had = onward_good (offered_call x c) desk t k had
 
   given_up_good : (at : ℕ) (x : Trial) (c : Call) (desk : Desk) → AtTrial x → Others c → Counted desk → Good (given_up site at x c desk)
   given_up_good at x c desk t k had =

@@ -1,9 +1,10 @@
 -- What a call keeps is clean, and what it shows of what it keeps.
-use Rattle.std.proofs.Common.{◌==◌, Bool, true, false, ℕ, List, [], Option, Some, None, refl}
+use Rattle.std.proofs.Common.{◌==◌, Bool, true, false, ℕ, List, [], ◌∷◌, Option, Some, None, refl}
 use Rattle.std.specs.Option.{option_or}
 use Rattle.std.specs.Prelude.{IfSome, codes, if◌then◌else◌}
-use Rattle.mmtel_answers.specs.Answers.{allowed, retry_after}
+use Rattle.mmtel_answers.specs.Answers.{allowed, method_names, retry_after}
 use Rattle.mmtel_answers.specs.Said.{Said, status_of}
+use Rattle.mmtel_answers.specs.declared.answers.FurtherMethods.{FurtherMethods}
 use Rattle.mmtel_charging.specs.Meters.{Noted}
 use Rattle.mmtel_desk.specs.Invitations.{is_cancellable, once_cancelled, with_early}
 use Rattle.mmtel_desk.specs.declared.desks.Desk.{Desk}
@@ -26,7 +27,7 @@ use Rattle.mmtel_types.specs.declared.sides.Side.TheVariants.{Callee}
 use Rattle.mmtel_trust.specs.Passed.{history_lines}
 use Rattle.mmtel_call_decisions.specs.Diverted.{Diverted}
 use Rattle.mmtel_call_decisions.specs.Showing.{facing, list_for, masks_all, shown_to, told_list}
-use Rattle.mmtel_call_decisions.specs.Site.{Site, trusts}
+use Rattle.mmtel_call_decisions.specs.Site.{Site, further_methods, trusts}
 use Rattle.mmtel_call_decisions.specs.declared.openings.Opening.{Opening}
 use Rattle.mmtel_call_decisions.specs.declared.openings.Service.{Service}
 use Rattle.mmtel_call.specs.declared.calls.Stage.TheVariants.{Answered, Asking, Parting, Talking}
@@ -179,6 +180,16 @@ relayed_to_caller_clean acks site c service m desk k is had =
 pub answered_to_clean : (acks : List Acked) (site : Site) (c : Call) (key : TKey) (m : Said) (code : ℕ) (named : List Line) (desk : Desk) → IsKept acks c → IsCleanHeard m.heard → AreCleanLines named → IsCleanDesk acks desk → IsCleanDesk acks (answered_to site c key m code named desk)
 answered_to_clean acks site c key m code named desk k is e had = answered_clean acks site.sip key m c.opening.tag code [] named [] desk is k.opening_in.tag_in refl e had
 
+-- the methods that a server tells of, whichever it knows
+allowed_by : (reliable mwi : Bool) → AreCleanLines ((codes "Allow", method_names reliable mwi) ∷ [])
+allowed_by false false = refl
+allowed_by true false = refl
+allowed_by false true = refl
+allowed_by true true = refl
+
+pub allowed_clean : (methods : FurtherMethods) → AreCleanLines (allowed methods)
+allowed_clean methods = allowed_by methods.reliable methods.mwi
+
 pub unheard_clean : (acks : List Acked) (site : Site) (c : Call) (key : TKey) (m : Said) (fault : DialogueFault) (desk : Desk) → IsKept acks c → IsCleanHeard m.heard → IsCleanDesk acks desk → IsCleanDesk acks (unheard site c key m fault desk)
 unheard_clean acks site c key m (OldCSeq last) desk k is had = replied_to_clean acks site c key m 500 desk k is had
 unheard_clean acks site c key m Pending desk k is had = replied_to_clean acks site c key m 491 desk k is had
@@ -186,6 +197,6 @@ unheard_clean acks site c key m Unfinished desk k is had = answered_to_clean ack
 
 pub unlisted_clean : (acks : List Acked) (site : Site) (c : Call) (key : TKey) (m : Said) (desk : Desk) → IsKept acks c → IsCleanHeard m.heard → IsCleanDesk acks desk → IsCleanDesk acks (unlisted site c key m desk)
 unlisted_clean acks site c key m desk k is had =
-    if_desk acks (is_method (codes "OPTIONS") m.heard.start) (answered_to site c key m 200 allowed desk) (if is_method (codes "REFER") m.heard.start then replied_to site c key m 403 desk else replied_to site c key m 481 desk)
-    (answered_to_clean acks site c key m 200 allowed desk k is refl had)
+    if_desk acks (is_method (codes "OPTIONS") m.heard.start) (answered_to site c key m 200 (allowed (further_methods site)) desk) (if is_method (codes "REFER") m.heard.start then replied_to site c key m 403 desk else replied_to site c key m 481 desk)
+    (answered_to_clean acks site c key m 200 (allowed (further_methods site)) desk k is (allowed_clean (further_methods site)) had)
     (if_desk acks (is_method (codes "REFER") m.heard.start) (replied_to site c key m 403 desk) (replied_to site c key m 481 desk) (replied_to_clean acks site c key m 403 desk k is had) (replied_to_clean acks site c key m 481 desk k is had))

@@ -139,10 +139,12 @@ pub due_row : (acks : List Acked) (site : Site) (now : Standing) (x : Trial) (wh
 due_row acks site now x (due.NoReply number) c desk good t k had =
     if_step acks (number == x.attempt.number) (timed_out site now x NoReply (offered_call x c) desk) (onward (offered_call x c) desk)
     (timed_out_clean acks site now x NoReply (offered_call x c) desk good t tt k had) (onward_clean acks (offered_call x c) desk k t had)
+due_row acks site now x (due.NoPrack number) c desk good t k had = onward_clean acks (offered_call x c) desk k t had
 due_row acks site now x (due.Cap number) c desk good t k had =
     if_step acks (number == x.attempt.number) (timed_out site now x (end_by_time x.attempt.rang) (offered_call x c) desk) (onward (offered_call x c) desk)
     (timed_out_clean acks site now x (end_by_time x.attempt.rang) (offered_call x c) desk good t (time_ends x.attempt.rang) k had) (onward_clean acks (offered_call x c) desk k t had)
 due_row acks site now x (due.NoAck number) c desk good t k had = onward_clean acks (offered_call x c) desk k t had
+due_row acks site now x (due.Expired number) c desk good t k had = onward_clean acks (offered_call x c) desk k t had
 
 -- ---- the caller gives up
 

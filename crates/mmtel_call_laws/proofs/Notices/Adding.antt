@@ -27,7 +27,7 @@ use Rattle.mmtel_transaction.specs.declared.words.TKey.{TKey}
 use Rattle.mmtel_trust.specs.Digest.{HeardMessage}
 use Rattle.mmtel_types.specs.declared.addrs.Addr.{Addr}
 use Rattle.mmtel_types.specs.declared.sides.Side.TheVariants.{Callee}
-use Rattle.mmtel_call_decisions.specs.Site.{Site}
+use Rattle.mmtel_call_decisions.specs.Site.{Site, further_methods}
 use Rattle.mmtel_call.specs.Closing.{Step}
 use Rattle.mmtel_call.specs.Leaving.{acked_again, answered_at, answered_loose, answered_other, answered_taken, answered_taken_at, as_loose, is_fork, is_success, is_taken, is_talking}
 use Rattle.mmtel_call.specs.Requests.{answered_to, unheard, unlisted}
@@ -147,7 +147,7 @@ silent-unheard key site c asked m Unfinished desk = silent-reply key asked _ _ _
 
 pub silent-unlisted : (key : TKey) (site : Site) (c : Call) (asked : TKey) (m : Said) (desk : Desk) → IsSilent key desk (unlisted site c asked m desk)
 silent-unlisted key site c asked m desk =
-    adds-if key desk (is_method (codes "OPTIONS") m.heard.start) (answered_to site c asked m 200 allowed desk) (if is_method (codes "REFER") m.heard.start then replied_to site c asked m 403 desk else replied_to site c asked m 481 desk) [] (silent-reply key asked _ _ _ desk refl)
+    adds-if key desk (is_method (codes "OPTIONS") m.heard.start) (answered_to site c asked m 200 (allowed (further_methods site)) desk) (if is_method (codes "REFER") m.heard.start then replied_to site c asked m 403 desk else replied_to site c asked m 481 desk) [] (silent-reply key asked _ _ _ desk refl)
     (adds-if key desk (is_method (codes "REFER") m.heard.start) (replied_to site c asked m 403 desk) (replied_to site c asked m 481 desk) [] (silent-reply key asked _ _ _ desk refl) (silent-reply key asked _ _ _ desk refl))
 
 -- ---- an INVITE that the call does not wait on

@@ -125,9 +125,11 @@ timed site now x how c desk final = Goes how refl None (left x (offered x c)) (c
 
 due-hears : (site : Site) (now : Standing) (x : Trial) (what : DueWord) (c : Call) (desk : Desk) → Hears false site now x (offered x c) desk (end_by_deadline x what) (on_due site now x what (offered x c) desk)
 due-hears site now x (due.NoReply number) c desk = hears-if false site now x (offered x c) desk (number == x.attempt.number) _ _ _ _ (timed site now x NoReply c desk tt) (waits false site now x c desk)
+due-hears site now x (due.NoPrack number) c desk = waits false site now x c desk
 due-hears site now x (due.Cap number) c desk =
     hears-if false site now x (offered x c) desk (number == x.attempt.number) _ _ _ _ (timed site now x (end_by_time x.attempt.rang) c desk (time-final x.attempt.rang)) (waits false site now x c desk)
 due-hears site now x (due.NoAck number) c desk = waits false site now x c desk
+due-hears site now x (due.Expired number) c desk = waits false site now x c desk
 
 gone-quiet : (site : Site) (now : Standing) (x : Trial) (c : Call) (desk : Desk) (its rang : Bool) (branch : List ℕ) →
     Hears false site now x (offered x c) desk (if its && not rang then Some (NotReachable 408) else None)

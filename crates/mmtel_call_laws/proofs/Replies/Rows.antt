@@ -285,10 +285,12 @@ module _ (own : ℕ → Bool) (site : Site) where
   due_row now x (due.NoReply number) c desk k had =
       if_good (number == x.attempt.number) (timed_out site now x NoReply (offered_call x c) desk) (onward (offered_call x c) desk)
       (timed_out_good now x NoReply (offered_call x c) desk k had) (onward_good (offered_call x c) desk tt k had)
+  due_row now x (due.NoPrack number) c desk k had = onward_good (offered_call x c) desk tt k had
   due_row now x (due.Cap number) c desk k had =
       if_good (number == x.attempt.number) (timed_out site now x (end_by_time x.attempt.rang) (offered_call x c) desk) (onward (offered_call x c) desk)
       (timed_out_good now x (end_by_time x.attempt.rang) (offered_call x c) desk k had) (onward_good (offered_call x c) desk tt k had)
   due_row now x (due.NoAck number) c desk k had = onward_good (offered_call x c) desk tt k had
+  due_row now x (due.Expired number) c desk k had = onward_good (offered_call x c) desk tt k had
 
   given_up_good : (at : ℕ) (x : Trial) (c : Call) (desk : Desk) → Opens c → Replied desk → Good (given_up site at x c desk)
   given_up_good at x c desk k had =

@@ -115,7 +115,7 @@ signals_alike site role (signal.Ended key) = tt
 
 pub one_is_alike : OneIsAlike
 one_is_alike = record {
-  equal = λ site. record { sip = refl; home = refl; bound = refl; country = refl; peers = refl };
+  equal = λ site. record { sip = refl; home = refl; bound = refl; country = refl; reliable = refl; timer = refl; mwi = refl; peers = refl };
   lead = λ records site sheet is forward does. refl;
   signals = λ site role x. signals_alike site role x;
   arrives = λ site a. refl;

@@ -106,10 +106,12 @@ module _ (heads : Heads) (law : VerdictsSeeAnswersAlone) (records : List Sheet) 
   dues-alike who x (due.NoReply number) c one other can its a =
       step-if T (number == x.attempt.number) (timed_out site now (public_trial known x) NoReply (public_call known who c) one) (onward (public_call known who c) one) (timed_out site now x NoReply c other) (onward c other)
       (times-alike who x NoReply c one other can its a) (on-alike heads site keys who c one other a)
+  dues-alike who x (due.NoPrack number) c one other can its a = on-alike heads site keys who c one other a
   dues-alike who x (due.Cap number) c one other can its a =
       step-if T (number == x.attempt.number) (timed_out site now (public_trial known x) (end_by_time x.attempt.rang) (public_call known who c) one) (onward (public_call known who c) one) (timed_out site now x (end_by_time x.attempt.rang) c other) (onward c other)
       (times-alike who x (end_by_time x.attempt.rang) c one other can its a) (on-alike heads site keys who c one other a)
   dues-alike who x (due.NoAck number) c one other can its a = on-alike heads site keys who c one other a
+  dues-alike who x (due.Expired number) c one other can its a = on-alike heads site keys who c one other a
 
 pub answers_while_offered : Heads → VerdictsSeeAnswersAlone → AnswersWhileOffered
 answers_while_offered heads law records site keys now who x key role m code c one other can its is a = answers-alike heads law records site keys now who x key role m code c one other can its is a

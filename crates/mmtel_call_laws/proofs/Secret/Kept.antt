@@ -172,9 +172,11 @@ module _ (request : TKey → Said → Type 0) (service : Option Service → Type
 
     offered-due : (x : Trial) (what : DueWord) (c : Call) (desk : Desk) → Holds c.phase → Keeps (on_due site now x what c desk)
     offered-due x (due.NoReply number) c desk h = keep-if (number == x.attempt.number) (timed_out site now x NoReply c desk) (onward c desk) (goes-keeps x NoReply None (left x c) (cancelled_attempt site x desk)) h
+    offered-due x (due.NoPrack number) c desk h = h
     offered-due x (due.Cap number) c desk h =
         keep-if (number == x.attempt.number) (timed_out site now x (end_by_time x.attempt.rang) c desk) (onward c desk) (goes-keeps x (end_by_time x.attempt.rang) None (left x c) (cancelled_attempt site x desk)) h
     offered-due x (due.NoAck number) c desk h = h
+    offered-due x (due.Expired number) c desk h = h
 
     -- ---- once it is answered
 

@@ -30,9 +30,7 @@ use Rattle.mmtel_transaction.specs.declared.words.DueWord.{DueWord}
 use Rattle.mmtel_transaction.specs.declared.words.DueWord.TheVariants as due
 use Rattle.mmtel_transaction.specs.declared.words.TKey.{TKey}
 use Rattle.mmtel_trust.specs.Accounts.{account_of}
-use Rattle.mmtel_trust.specs.Peers.{Peers}
 use Rattle.mmtel_trust.specs.declared.accounts.AccountIdentity.{AccountIdentity}
-use Rattle.mmtel_types.specs.declared.addrs.Addr.{Addr}
 use Rattle.mmtel_types.specs.declared.causes.Cause.{Cause}
 use Rattle.mmtel_types.specs.declared.causes.Cause.TheVariants as causes
 use Rattle.mmtel_types.specs.declared.numbers.Account.{Account}
@@ -388,8 +386,10 @@ module _ (records : List Sheet) (site : Site) (accounts : List AccountIdentity) 
 
   offered-due : (x : Trial) (what : DueWord) (c : Call) (desk : Desk) → ServiceIsAsked records x.attempt.service → on_due site now x what c desk ≡ on_due far2 now x what c desk
   offered-due x (due.NoReply number) c desk its = ap (λ (s : Step). cond (number == x.attempt.number) s (onward c desk)) (times-same x NoReply c desk its tt)
+  offered-due x (due.NoPrack number) c desk its = refl
   offered-due x (due.Cap number) c desk its = ap (λ (s : Step). cond (number == x.attempt.number) s (onward c desk)) (times-same x (end_by_time x.attempt.rang) c desk its (time-looks x.attempt.rang))
   offered-due x (due.NoAck number) c desk its = refl
+  offered-due x (due.Expired number) c desk its = refl
 
   -- ---- by phase
 
@@ -447,12 +447,17 @@ module _ (records : List Sheet) (site : Site) (accounts : List AccountIdentity) 
 -- ---- any two such configurations
 
 whole : (one other : Site) → EqualButForAccounts one other → record one { accounts = other.accounts } ≡ other
-whole one other e =
-    ap (λ (v : Addr). record one { sip = v; accounts = other.accounts }) e.sip
-    ∙ (ap (λ (v : List ℕ). record one { sip = other.sip; home = v; accounts = other.accounts }) e.home
-    ∙ (ap (λ (v : ℕ). record other { bound = v; country = one.country; peers = one.peers }) e.bound
-    ∙ (ap (λ (v : Option (List ℕ)). record other { country = v; peers = one.peers }) e.country
-    ∙ ap (λ (v : Peers). record other { peers = v }) e.peers)))
+whole one other e = λ i. record {
+  sip = e.sip i;
+  home = e.home i;
+  bound = e.bound i;
+  country = e.country i;
+  reliable = e.reliable i;
+  timer = e.timer i;
+  mwi = e.mwi i;
+  peers = e.peers i;
+  accounts = other.accounts;
+}
 
 phase-leads : (p : Phase) (one other : Site) (m : Said) → PhaseLeads p one other m → PhaseLeads p one (record one { accounts = other.accounts }) m
 phase-leads (Offered x) one other m a = a

@@ -27,7 +27,7 @@ use Rattle.mmtel_types.specs.declared.sides.Side.TheVariants.{Caller, Callee}
 use Rattle.mmtel_call_decisions.specs.Requests.{is_same_side}
 use Rattle.mmtel_call_decisions.specs.Rows.{rows_by}
 use Rattle.mmtel_call_decisions.specs.Showing.{masks_all, shown_to}
-use Rattle.mmtel_call_decisions.specs.Site.{Site, trusts}
+use Rattle.mmtel_call_decisions.specs.Site.{Site, further_methods, trusts}
 use Rattle.mmtel_call.specs.Answered.{acked_and_left, at_stage, bye_before_ack, bye_to, leg_of, shown_across}
 use Rattle.mmtel_call.specs.declared.calls.Call.{Call}
 use Rattle.mmtel_call.specs.declared.calls.Pair.{Pair}
@@ -90,9 +90,9 @@ module _ (heads : Heads) (site : Site) (keys : TKey → Bool) where
   unlisted-alike who c key role m x y asked a =
       let d : Call = public_call known who c in
       let n : Said = without_private role m in
-      if-alike T (is_method (codes "OPTIONS") m.heard.start) (answered_to site d key n 200 allowed x) (cond (is_method (codes "REFER") m.heard.start) (replied_to site d key n 403 x) (replied_to site d key n 481 x))
-      (answered_to site c key m 200 allowed y) (cond (is_method (codes "REFER") m.heard.start) (replied_to site c key m 403 y) (replied_to site c key m 481 y))
-      (own-answer c key (private_places role m.heard) m 200 allowed x y asked a)
+      if-alike T (is_method (codes "OPTIONS") m.heard.start) (answered_to site d key n 200 (allowed (further_methods site)) x) (cond (is_method (codes "REFER") m.heard.start) (replied_to site d key n 403 x) (replied_to site d key n 481 x))
+      (answered_to site c key m 200 (allowed (further_methods site)) y) (cond (is_method (codes "REFER") m.heard.start) (replied_to site c key m 403 y) (replied_to site c key m 481 y))
+      (own-answer c key (private_places role m.heard) m 200 (allowed (further_methods site)) x y asked a)
       (if-alike T (is_method (codes "REFER") m.heard.start) (replied_to site d key n 403 x) (replied_to site d key n 481 x) (replied_to site c key m 403 y) (replied_to site c key m 481 y)
       (own-reply c key (private_places role m.heard) m 403 x y asked a) (own-reply c key (private_places role m.heard) m 481 x y asked a))
 

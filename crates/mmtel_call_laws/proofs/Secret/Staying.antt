@@ -115,8 +115,10 @@ module _ (site : Site) (now : Standing) where
 
   offered-due : (x : Trial) (what : DueWord) (c : Call) (desk : Desk) → Keeps c.opening (on_due site now x what c desk)
   offered-due x (due.NoReply number) c desk = keep-if c.opening _ _ _ (goes-stays x NoReply None _ _) refl
+  offered-due x (due.NoPrack number) c desk = refl
   offered-due x (due.Cap number) c desk = keep-if c.opening _ _ _ (goes-stays x (end_by_time x.attempt.rang) None _ _) refl
   offered-due x (due.NoAck number) c desk = refl
+  offered-due x (due.Expired number) c desk = refl
 
   -- ---- once it is answered
 

@@ -175,8 +175,10 @@ module _ (site : Site) (now : Standing) (x : Trial) (c : Call) (before : Desk) w
 
   due_passes : (what : DueWord) (desk : Desk) → So desk → Does Last false (end_by_deadline x what) (on_due site now x what (offered x c) desk)
   due_passes (due.NoReply number) desk had = does_either Last (number == x.attempt.number) _ _ _ _ (timed NoReply desk had) (stays desk had)
+  due_passes (due.NoPrack number) desk had = stays desk had
   due_passes (due.Cap number) desk had = does_either Last (number == x.attempt.number) _ _ _ _ (timed (end_by_time x.attempt.rang) desk had) (stays desk had)
   due_passes (due.NoAck number) desk had = stays desk had
+  due_passes (due.Expired number) desk had = stays desk had
 
   gone_quiet : (its rang : Bool) (branch : List ℕ) (desk : Desk) → So desk →
       Does Last false (if its && not rang then Some (NotReachable 408) else None)

@@ -21,7 +21,7 @@ use Rattle.mmtel_transaction.specs.declared.words.TKey.{TKey}
 use Rattle.mmtel_trust.specs.Digest.{HeardMessage}
 use Rattle.mmtel_types.specs.declared.numbers.CallNo.{CallNo}
 use Rattle.mmtel_types.specs.declared.sides.Side.TheVariants.{Callee}
-use Rattle.mmtel_call_decisions.specs.Site.{Site}
+use Rattle.mmtel_call_decisions.specs.Site.{Site, further_methods}
 use Rattle.mmtel_call_decisions.specs.declared.openings.Service.{Service}
 use Rattle.mmtel_call.specs.Closing.{Step}
 use Rattle.mmtel_call.specs.Leaving.{acked_again, answered_at, answered_loose, answered_other, answered_taken, answered_taken_at, as_loose, is_fork, is_success, is_taken, is_talking}
@@ -64,7 +64,7 @@ module _ (site : Site) (own : CallNo) (before : Desk) where
 
   pub unlisted_unseen : (c : Call) (key : TKey) (m : Said) (desk : Desk) → Unseen desk → Unseen (unlisted site c key m desk)
   unlisted_unseen c key m desk had =
-      if_unseen (is_method (codes "OPTIONS") m.heard.start) (answered_to site c key m 200 allowed desk) (if is_method (codes "REFER") m.heard.start then replied_to site c key m 403 desk else replied_to site c key m 481 desk)
+      if_unseen (is_method (codes "OPTIONS") m.heard.start) (answered_to site c key m 200 (allowed (further_methods site)) desk) (if is_method (codes "REFER") m.heard.start then replied_to site c key m 403 desk else replied_to site c key m 481 desk)
       (adds_quiet site.sip own before desk _ [] refl had)
       (if_unseen (is_method (codes "REFER") m.heard.start) (replied_to site c key m 403 desk) (replied_to site c key m 481 desk) (replied_unseen c key m 403 desk had) (replied_unseen c key m 481 desk had))
 

@@ -178,9 +178,11 @@ module _ (x : Trial) (since : ℕ) (rung : Option ℕ) (same : x.attempt.rang �
   deadline_ends : (what : DueWord) → ends_by_deadline seen what ≡ end_by_deadline x what
   deadline_ends (due.NoReply number) =
       (λ i. if any_same number x.attempt.number since (its_time x) rung i then end_by events.NoReplyTime (sym same i) else None)
+  deadline_ends (due.NoPrack number) = refl
   deadline_ends (due.Cap number) =
       (λ i. if any_same number x.attempt.number since (its_time x) rung i then end_by events.LongestTime (sym same i) else None)
   deadline_ends (due.NoAck number) = refl
+  deadline_ends (due.Expired number) = refl
 
   answer_ends : (m : Said) (branch : Option (List ℕ)) → ends_by_answer seen m branch ≡ end_by_answer x m branch
   answer_ends m None = refl

@@ -46,8 +46,10 @@ marked_append (x ∷ xs) ys = ap (λ l. uri_marked x ++ l) (marked_append xs ys)
 
 deadline_marked : (b : Bool) (what : DueWord) (at : ℕ) → [] ≡ uris_marked (if b then mark_of_deadline what at else [])
 deadline_marked true (due.NoReply number) at = refl
+deadline_marked true (due.NoPrack number) at = refl
 deadline_marked true (due.Cap number) at = refl
 deadline_marked true (due.NoAck number) at = refl
+deadline_marked true (due.Expired number) at = refl
 deadline_marked false what at = refl
 
 final_shown : (its low success : Bool) (code : ℕ) → uris_in (if its then (if low then [] else if success then shown.Accepted ∷ [] else shown.Refused code ∷ []) else []) ≡ []

@@ -1,5 +1,5 @@
--- Which INVITEs were sent, and to whom; and that the INVITEs of a call are of these (RFC 3261 §8.1.1.7, §13.2.1, §17.1.3).
-use Rattle.std.specs.Prelude.{◌≡◌, ◌<◌, ◌≤◌, ◌⊎◌, ℕ, false, List, [], ◌∷◌, Option, codes}
+-- Which requests whose answer is waited for were sent, INVITEs above all, and to whom; and that the INVITEs of a call are of these (RFC 3261 §8.1.1.7, §13.2.1, §17.1.3).
+use Rattle.std.specs.Prelude.{◌≡◌, ◌<◌, ◌≤◌, ◌⊎◌, ℕ, true, false, List, [], ◌∷◌, Option, codes}
 use Rattle.mmtel_call.specs.Answered.{leg_of}
 use Rattle.mmtel_call.specs.declared.calls.Call.{Call}
 use Rattle.mmtel_call.specs.declared.calls.Pair.{Pair}
@@ -8,6 +8,7 @@ use Rattle.mmtel_call.specs.declared.calls.Phase.TheVariants.{Lent, Offered, Ove
 use Rattle.mmtel_call.specs.declared.calls.Stage.{Stage}
 use Rattle.mmtel_call.specs.declared.calls.Stage.TheVariants.{Answered, Asking, Parting, Talking}
 use Rattle.mmtel_call.specs.declared.calls.Taken.{Taken}
+use Rattle.mmtel_desk.specs.Invites.{is_awaited_method}
 use Rattle.mmtel_desk.specs.declared.invitations.Invitation.{Invitation}
 use Rattle.mmtel_desk.specs.declared.invitations.Loose.{Loose}
 use Rattle.mmtel_leg.specs.Requests.{Given, numbered}
@@ -16,7 +17,7 @@ use Rattle.mmtel_message.specs.Message.{Message}
 use Rattle.mmtel_message.specs.declared.fields.Five.{Five}
 use Rattle.mmtel_message.specs.declared.messages.Start.{Start}
 use Rattle.mmtel_scan.specs.Numbers.{token_text}
-use Rattle.mmtel_transaction.specs.Heads.{head_with, is_invite}
+use Rattle.mmtel_transaction.specs.Heads.{head_with}
 use Rattle.mmtel_transaction.specs.declared.words.Emit.{Emit}
 use Rattle.mmtel_transaction.specs.declared.words.Emit.TheVariants as emit
 use Rattle.mmtel_types.specs.Sides.{other_of}
@@ -26,18 +27,28 @@ pub use Rattle.mmtel_call_laws.specs.Heads.Emits.{Each}
 
 -- ---- what is asked
 
--- the server's INVITE of this branch, in a dialog
-pub record IsInvite (sip : Addr) (branch : List ℕ) (m : Message Start) : Type 0 where
+-- the server's request of this method and this branch, in a dialog
+pub record IsRequest (method : List ℕ) (sip : Addr) (branch : List ℕ) (m : Message Start) : Type 0 where
   pub dialogue : Dialogue
   pub number : ℕ
   pub given : Given
-  pub is : m ≡ numbered dialogue number (codes "INVITE") given
+  pub is : m ≡ numbered dialogue number method given
   pub from_there : given.sip ≡ sip
   pub has_it : given.branch ≡ branch
 
--- it is no INVITE, and answers none
-abbrev pub IsNoInvite : Message Start → Type 0
-IsNoInvite m = (five : Option Five) → is_invite (head_with m.start five) ≡ false
+-- its INVITE of this branch
+abbrev pub IsInvite : Addr → (branch : List ℕ) → Message Start → Type 0
+IsInvite sip branch m = IsRequest (codes "INVITE") sip branch m
+
+-- its INVITE, PRACK or UPDATE of this branch
+pub record IsAwaited (sip : Addr) (branch : List ℕ) (m : Message Start) : Type 0 where
+  pub method : List ℕ
+  pub waited_for : is_awaited_method method ≡ true
+  pub request : IsRequest method sip branch m
+
+-- it is no such request, and answers none
+abbrev pub IsNotAwaited : Message Start → Type 0
+IsNotAwaited m = (five : Option Five) → is_awaited_method (head_with m.start five).method ≡ false
 
 -- what is asked of peers, of all that goes out
 abbrev pub asks_in : List Emit → List (Peer × Message Start)
@@ -90,16 +101,16 @@ pub record CallWasSent (sent : List ℕ → Peer → Type 0) (c : Call) : Type 0
 
 -- ---- each that goes out has a number of its own
 
--- between these numbers: an INVITE has the token of the greater one, and for all else they are equal
+-- between these numbers: a request whose answer is waited for has the token of the greater one, and for all else they are equal
 abbrev pub IsNumbered : Addr → (token : List ℕ) → (low next : ℕ) → Emit → Type 0
-IsNumbered sip token low next (emit.Ask peer m) = ((low ≡ next) × IsNoInvite m) ⊎ ((low < next) × IsInvite sip (token_text token next) m)
+IsNumbered sip token low next (emit.Ask peer m) = ((low ≡ next) × IsNotAwaited m) ⊎ ((low < next) × IsAwaited sip (token_text token next) m)
 IsNumbered sip token low next (emit.Reply key m) = low ≡ next
 IsNumbered sip token low next (emit.Plain peer text) = low ≡ next
 IsNumbered sip token low next (emit.Ack key m) = low ≡ next
 IsNumbered sip token low next (emit.Arm call what at) = low ≡ next
 IsNumbered sip token low next (emit.ArmSeat room seat what at) = low ≡ next
 
--- the numbers of INVITEs rise, from above the lower of these numbers to the greater one
+-- the numbers of these requests rise, from above the lower of these numbers to the greater one
 abbrev pub AreNumbered : Addr → (token : List ℕ) → (low high : ℕ) → List Emit → Type 0
 AreNumbered sip token low high [] = low ≤ high
 AreNumbered sip token low high (e ∷ out) = (next : ℕ) × IsNumbered sip token low next e × AreNumbered sip token next high out

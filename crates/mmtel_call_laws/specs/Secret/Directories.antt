@@ -43,6 +43,9 @@ pub record EqualButForAccounts (one other : Site) : Type 0 where
   pub home : one.home ≡ other.home
   pub bound : one.bound ≡ other.bound
   pub country : one.country ≡ other.country
+  pub reliable : one.reliable ≡ other.reliable
+  pub timer : one.timer ≡ other.timer
+  pub mwi : one.mwi ≡ other.mwi
   pub peers : one.peers ≡ other.peers
 
 -- ---- look-ups

@@ -40,8 +40,10 @@ deadlines_of number time since rung = record { what = due.Cap number; at = since
 -- the number of a deadline
 abbrev pub number_of_deadline : DueWord → ℕ
 number_of_deadline (due.NoReply number) = number
+number_of_deadline (due.NoPrack number) = number
 number_of_deadline (due.Cap number) = number
 number_of_deadline (due.NoAck number) = number
+number_of_deadline (due.Expired number) = number
 
 -- the attempt is the one that is on its way, where the configuration has this bound on diversions, and the record of the target's account this no-reply time
 pub record IsOnItsWay (bound : ℕ) (time : Option ℕ) (x : Trial) (w : Watch) : Type 0 where

@@ -50,8 +50,10 @@ branch_of sip m = unwrap_or (after_text (via_text sip []) (field (codes "Via") m
 -- the no-reply time and the longest time are those of an attempt
 abbrev pub mark_of_deadline : DueWord → (at : ℕ) → List Mark
 mark_of_deadline (due.NoReply number) at = Armed (due.NoReply number) at ∷ []
+mark_of_deadline (due.NoPrack number) at = []
 mark_of_deadline (due.Cap number) at = Armed (due.Cap number) at ∷ []
 mark_of_deadline (due.NoAck number) at = []
+mark_of_deadline (due.Expired number) at = []
 
 -- where the call has this number
 abbrev pub mark_of : Addr → CallNo → Emit → List Mark
@@ -175,16 +177,20 @@ ends_by_silence g (Some branch) = if bytes_eq g.branch branch && not (rang g) th
 -- a deadline that has the number of one that went out for it
 abbrev pub carries : ℕ → DueWord → Bool
 carries number (due.NoReply other) = number == other
+carries number (due.NoPrack other) = false
 carries number (due.Cap other) = number == other
 carries number (due.NoAck other) = false
+carries number (due.Expired other) = false
 
 abbrev pub is_armed : ℕ → List Deadline → Bool
 is_armed number armed = list_any (λ deadline. carries number deadline.what) armed
 
 abbrev pub ends_by_deadline : Going → DueWord → Option End
 ends_by_deadline g (due.NoReply number) = if is_armed number g.armed then end_by events.NoReplyTime (rang g) else None
+ends_by_deadline g (due.NoPrack number) = None
 ends_by_deadline g (due.Cap number) = if is_armed number g.armed then end_by events.LongestTime (rang g) else None
 ends_by_deadline g (due.NoAck number) = None
+ends_by_deadline g (due.Expired number) = None
 
 -- the BYE of the caller, where it is in order
 abbrev pub ends_by_request : (last : Option ℕ) → Going → Side → Said → Option End

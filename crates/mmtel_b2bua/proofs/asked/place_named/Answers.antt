@@ -3,7 +3,8 @@ use Rattle.mmtel_b2bua.specs.Names.{has_side, side_named}
 use Rattle.mmtel_b2bua.specs.Kept.{unboxed}
 use Rattle.mmtel_b2bua.specs.Marks.{marks_of}
 use Rattle.mmtel_desk.proofs.Marking.{place_fits, place_found}
-use Rattle.mmtel_desk.specs.Marks.{Unmarked, told_of}
+use Rattle.mmtel_desk.specs.Marks.{Unmarked}
+use Rattle.mmtel_transaction.specs.Told.{told_of}
 use Rattle.mmtel_desk.specs.declared.marks.Mark.TheVariants.{Named}
 use Rattle.mmtel_b2bua.proofs.Finding.{named_marked}
 use Rattle.mmtel_b2bua.proofs.Keeping.{position_boxes}

@@ -1,5 +1,6 @@
 use Rattle.std.proofs.Common.{ℕ, [], ◌∷◌, subst, List, ap, ◌∙◌}
-use Rattle.mmtel_desk.specs.Marks.{Written, told_of}
+use Rattle.mmtel_desk.specs.Marks.{Written}
+use Rattle.mmtel_transaction.specs.Told.{told_of}
 use Rattle.mmtel_desk.specs.declared.marks.Mark.TheVariants.{Named}
 use Rattle.mmtel_b2bua.proofs.marks.put_dialog.Goals as goal
 

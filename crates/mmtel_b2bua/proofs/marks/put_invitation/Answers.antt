@@ -1,6 +1,7 @@
 use Rattle.std.proofs.Common.{ℕ, [], ◌∷◌, subst, List, ap, ◌∙◌}
 use Rattle.mmtel_b2bua.specs.Marks.{heard_marks}
-use Rattle.mmtel_desk.specs.Marks.{Written, told_of}
+use Rattle.mmtel_desk.specs.Marks.{Written}
+use Rattle.mmtel_transaction.specs.Told.{told_of}
 use Rattle.mmtel_desk.specs.declared.marks.Mark.TheVariants.{Sent}
 use Rattle.mmtel_desk.proofs.Marking.{joined}
 use Rattle.mmtel_b2bua.proofs.marks.put_invitation.Goals as goal

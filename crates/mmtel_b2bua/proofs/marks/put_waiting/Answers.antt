@@ -1,7 +1,8 @@
 use Rattle.std.proofs.Common.{ℕ, Option, [], ◌∷◌, subst, List, ap, ◌∙◌}
 use Rattle.mmtel_desk.specs.declared.invitations.Invitation.{Invitation}
 use Rattle.mmtel_b2bua.specs.Marks.{waiting_marks}
-use Rattle.mmtel_desk.specs.Marks.{Written, told_of}
+use Rattle.mmtel_desk.specs.Marks.{Written}
+use Rattle.mmtel_transaction.specs.Told.{told_of}
 use Rattle.mmtel_desk.specs.declared.marks.Mark.TheVariants.{Sent}
 use Rattle.mmtel_desk.proofs.Marking.{none_written}
 use Rattle.mmtel_b2bua.proofs.marks.put_waiting.Goals as goal

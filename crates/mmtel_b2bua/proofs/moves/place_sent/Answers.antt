@@ -4,7 +4,8 @@ use Rattle.mmtel_b2bua.specs.Entries.{sent_it}
 use Rattle.mmtel_b2bua.specs.Kept.{unboxed}
 use Rattle.mmtel_b2bua.specs.Marks.{marks_of}
 use Rattle.mmtel_desk.proofs.Marking.{place_fits, place_found}
-use Rattle.mmtel_desk.specs.Marks.{Has, Unmarked, told_of}
+use Rattle.mmtel_desk.specs.Marks.{Has, Unmarked}
+use Rattle.mmtel_transaction.specs.Told.{told_of}
 use Rattle.mmtel_desk.specs.declared.marks.Mark.TheVariants.{Sent}
 use Rattle.mmtel_b2bua.proofs.Finding.{none_sent, sent_marked}
 use Rattle.mmtel_b2bua.proofs.Keeping.{position_boxes}

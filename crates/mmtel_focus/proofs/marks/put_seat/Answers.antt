@@ -1,6 +1,7 @@
 use Rattle.std.proofs.Common.{◌∷◌, [], ℕ, ap, subst, ◌∙◌, List}
 use Rattle.mmtel_desk.proofs.Marking.{joined}
-use Rattle.mmtel_desk.specs.Marks.{Written, told_of}
+use Rattle.mmtel_desk.specs.Marks.{Written}
+use Rattle.mmtel_transaction.specs.Told.{told_of}
 use Rattle.mmtel_desk.specs.declared.marks.Mark.TheVariants.{Named}
 use Rattle.mmtel_focus.specs.Marks.{sent_marks}
 use Rattle.mmtel_focus.specs.Seats.{tag_of}

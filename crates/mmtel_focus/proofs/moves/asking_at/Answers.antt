@@ -1,6 +1,7 @@
 use Rattle.std.proofs.Common.{ℕ, subst, take}
 use Rattle.mmtel_desk.proofs.Marking.{place_fits, place_found}
-use Rattle.mmtel_desk.specs.Marks.{Unmarked, told_of}
+use Rattle.mmtel_desk.specs.Marks.{Unmarked}
+use Rattle.mmtel_transaction.specs.Told.{told_of}
 use Rattle.mmtel_desk.specs.declared.marks.Mark.TheVariants.{Sent}
 use Rattle.mmtel_focus.specs.Marks.{marks_of}
 use Rattle.mmtel_focus.specs.Table.{asks}

@@ -1,9 +1,10 @@
 //! What may be done with a request that opens a transaction, and what is answered to it.
 ghost use Rattle.std.specs.Prelude.{◌≡◌, IfOk};
-ghost use Rattle.mmtel_run.specs.Answers.{allowing, plainly};
+ghost use Rattle.mmtel_run.specs.Answers.{allowing, further_methods, plainly};
 ghost use Rattle.mmtel_intake.specs.Courses.{answer_in};
 
-use mmtel_answers::allowed;
+use mmtel_answers::{FurtherMethods, allowed};
+use mmtel_directory::Directory;
 use mmtel_message::Line;
 use mmtel_scan::{List, NoMemory};
 use mmtel_types::{Account, CallNo, RoomNo, Side};
@@ -84,11 +85,21 @@ pub fn plainly(code: u16) -> Answer
     }
 }
 
-/// An answer with the methods that the server knows (RFC 3261 §20.5).
-pub fn allowing(alloc: Global, code: u16) -> Result<Answer, NoMemory>
-    ensures { IfOk result (λ answer. answer_in answer ≡ allowing code) }
+/// The methods that a server of this configuration knows beside those that it always knows.
+pub fn further_methods(directory: &Directory) -> FurtherMethods
+    ensures methods { result ≡ further_methods directory.now }
 {
-    let named = allowed(alloc)?;
+    FurtherMethods {
+        reliable: directory.reliable,
+        mwi: directory.names.mwi,
+    }
+}
+
+/// An answer with the methods that the server knows (RFC 3261 §20.5).
+pub fn allowing(alloc: Global, directory: &Directory, code: u16) -> Result<Answer, NoMemory>
+    ensures { IfOk result (λ answer. answer_in answer ≡ allowing directory.now code) }
+{
+    let named = allowed(alloc, further_methods(directory))?;
     Ok(Answer { code, named })
 }
 

@@ -162,7 +162,7 @@ fn by_method(
 {
     let start = request.message.start();
     if is_method(b"OPTIONS", start) {
-        Ok(Course::Refuse(allowing(alloc, 200)?))
+        Ok(Course::Refuse(allowing(alloc, directory, 200)?))
     } else if is_method(b"REFER", start) {
         Ok(Course::Refuse(plainly(403)))
     } else if is_method(b"INVITE", start) {
@@ -210,7 +210,7 @@ fn course_to(
     standing: &Standing,
     request: &Hearing,
 ) -> Result<Course, NoMemory>
-    requires known { is_known_method request.now.heard.start ≡ true }
+    requires known { is_known_method directory.now request.now.heard.start ≡ true }
     requires target { target_in target.now ≡ uri_of (request_uri request.now.heard.start) }
     ensures { IfOk result (λ c. course_in c ≡ course directory.now standing.now.merged standing.now.full (option_map holder_in standing.now.named) request.now.heard) }
 {
@@ -227,7 +227,7 @@ fn course_to(
     if is_untagged && standing.merged {
         return Ok(Course::Refuse(plainly(482)));
     }
-    let lines = unsupported_lines(alloc, request)?;
+    let lines = unsupported_lines(alloc, directory, request)?;
     if !lines.items().is_empty() {
         return Ok(Course::Refuse(without_extension(lines)));
     }
@@ -244,8 +244,8 @@ fn decided(
 ) -> Result<Course, NoMemory>
     ensures { IfOk result (λ c. course_in c ≡ course directory.now standing.now.merged standing.now.full (option_map holder_in standing.now.named) request.now.heard) }
 {
-    if !is_known_method(request.message.start()) {
-        return Ok(Course::Refuse(allowing(alloc, 405)?));
+    if !is_known_method(directory, request.message.start()) {
+        return Ok(Course::Refuse(allowing(alloc, directory, 405)?));
     }
     let target = read_target(alloc, request.message.start())?;
     course_to(alloc, directory, &target, standing, request)

@@ -10,7 +10,7 @@ mod refusals;
 mod registrations;
 mod replies;
 
-pub use answers::{Answer, Course, Holder, plainly};
+pub use answers::{Answer, Course, Holder, further_methods, plainly};
 pub use arrivals::{arrived, caller_account};
 pub use courses::{Standing, course};
 pub use dialogs::{DialogName, dialog_name};

@@ -1,12 +1,15 @@
 //! The conditions under which a request that opens a transaction is refused (RFC 3261 §8.2).
 ghost use Rattle.std.specs.Prelude.{◌≡◌, IfOk, map};
+ghost use Rattle.std.specs.List.{list_any};
 ghost use Rattle.mmtel_leg.specs.Dialogues.{request_uri};
 ghost use Rattle.mmtel_lex.specs.Reading.{uri_of};
 ghost use Rattle.mmtel_run.specs.Answers.{is_unsupported, unsupported, unsupported_line};
-ghost use Rattle.mmtel_run.specs.Refusals.{is_foreign_uri, is_known_method, is_last_hop};
+ghost use Rattle.mmtel_message.specs.Faults.{is_method};
+ghost use Rattle.mmtel_run.specs.Refusals.{always_known, is_foreign_uri, is_known_method, is_last_hop};
 ghost use Rattle.mmtel_intake.specs.Targets.{target_in};
 
 use mmtel_answers::Hearing;
+use mmtel_directory::Directory;
 use mmtel_leg::request_uri;
 use mmtel_lex::{Uri, UriFault, read_uri};
 use mmtel_message::{Line, Start, add_bytes, is_method, line_texts};
@@ -47,9 +50,9 @@ pub fn is_foreign(target: &Target) -> bool
     }
 }
 
-/// Whether the method is one that the server knows (RFC 3261 §20.5).
-pub fn is_known_method(start: &Start) -> bool
-    ensures { result ≡ is_known_method start.now }
+/// Whether the method is one that the server always knows.
+fn is_always_known(start: &Start) -> bool
+    ensures { result ≡ list_any (λ name. is_method name start.now) always_known }
 {
     is_method(b"INVITE", start)
         || is_method(b"ACK", start)
@@ -58,6 +61,15 @@ pub fn is_known_method(start: &Start) -> bool
         || is_method(b"OPTIONS", start)
         || is_method(b"REGISTER", start)
         || is_method(b"REFER", start)
+}
+
+/// Whether the method is one that the server knows (RFC 3261 §20.5).
+pub fn is_known_method(directory: &Directory, start: &Start) -> bool
+    ensures { result ≡ is_known_method directory.now start.now }
+{
+    is_always_known(start)
+        || directory.reliable && (is_method(b"PRACK", start) || is_method(b"UPDATE", start))
+        || directory.names.mwi && is_method(b"SUBSCRIBE", start)
 }
 
 /// Whether no hops are left (RFC 3261 §16.3).
@@ -74,21 +86,27 @@ pub fn is_last_hop(request: &Hearing) -> bool
 }
 
 /// Whether an option of Require is one that the server does not support.
-fn is_unsupported(option: &[u8]) -> bool
-    ensures { result ≡ is_unsupported option.now }
+fn is_unsupported(directory: &Directory, option: &[u8]) -> bool
+    ensures { result ≡ is_unsupported directory.now option.now }
 {
-    !(option == b"histinfo".as_slice())
+    !(option == b"histinfo".as_slice()
+        || directory.reliable && option == b"100rel".as_slice()
+        || directory.timer && option == b"timer".as_slice())
 }
 
 /// A line for each option that a request requires and the server does not support, in received order (RFC 3261 §8.2.2.3, §20.40).
 #[tactic(auto, unfolding(mmtel_message::specs::Message::line))]
-pub fn unsupported_lines(alloc: Global, request: &Hearing) -> Result<List<Line>, NoMemory>
-    ensures { IfOk result (λ lines. lines ≡ map unsupported_line (unsupported request.now.heard)) }
+pub fn unsupported_lines(
+    alloc: Global,
+    directory: &Directory,
+    request: &Hearing,
+) -> Result<List<Line>, NoMemory>
+    ensures { IfOk result (λ lines. lines ≡ map unsupported_line (unsupported directory.now request.now.heard)) }
 {
     let options = line_texts(alloc, &request.message.lines(), b"Require")?;
     let mut lines = List::new();
     for option in options.items() {
-        if is_unsupported(option.bytes()) {
+        if is_unsupported(directory, option.bytes()) {
             add_bytes(alloc, &mut lines, b"Unsupported", option.bytes())?;
         }
     }

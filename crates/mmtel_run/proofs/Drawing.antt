@@ -209,8 +209,10 @@ timed-on site now x how c d =
 
 due-on : (what : DueWord) (site : Site) (now : Standing) (x : Trial) (c : Call) (d : Desk) → On d (on_due site now x what c d).desk
 due-on (due.NoReply number) site now x c d = either_step (number == x.attempt.number) d (timed_out site now x NoReply c d) (onward c d) (timed-on site now x NoReply c d) (none d)
+due-on (due.NoPrack number) site now x c d = none d
 due-on (due.Cap number) site now x c d = either_step (number == x.attempt.number) d (timed_out site now x (end_by_time x.attempt.rang) c d) (onward c d) (timed-on site now x (end_by_time x.attempt.rang) c d) (none d)
 due-on (due.NoAck number) site now x c d = none d
+due-on (due.Expired number) site now x c d = none d
 
 given_up-on : (site : Site) (at : ℕ) (x : Trial) (c : Call) (d : Desk) → On d (given_up site at x c d).desk
 given_up-on site at x c d = attempt-on site x (told_caller site c 487 d)

@@ -182,7 +182,7 @@ on_heard_draws site now key m place seat s =
     draws_if (is_method (codes "INVITE") m.heard.start) s (on_invite site now key m place seat s) _ (on_invite_draws site now key m place seat s)
     (draws_if (is_method (codes "BYE") m.heard.start) s (on_bye site now key m place seat s) _ (on_bye_draws site now key m place seat s)
     (draws_if (is_method (codes "REFER") m.heard.start) s (on_referral site now key m (referral_in m.heard.refer_to) place seat s) _ (on_referral_draws site now key m (referral_in m.heard.refer_to) place seat s)
-    (draws_if (is_method (codes "OPTIONS") m.heard.start) s (answered_with site key m 200 allowed place seat s) (refused site key m 481 place seat s) (stays s) (stays s))))
+    (draws_if (is_method (codes "OPTIONS") m.heard.start) s (answered_with site key m 200 (allowed site.methods) place seat s) (refused site key m 481 place seat s) (stays s) (stays s))))
 
 unheard_draws : (site : Site) (key : TKey) (m : Said) (fault : DialogueFault) → RowDraws (unheard site key m fault)
 unheard_draws site key m (OldCSeq last) place seat s = stays s

@@ -28,7 +28,7 @@ use Rattle.mmtel_run.specs.Deadlines.{Alarm, Armed, Chosen, Deadline, OfAlarm, O
 use Rattle.mmtel_run.specs.Events.{Happened, Notice, notices}
 use Rattle.mmtel_run.specs.Headline.{GivesAlways, GivesOnce, MoreChangesNothing}
 use Rattle.mmtel_run.specs.Records.{in_force}
-use Rattle.mmtel_run.specs.Rooms.{is_key_of_calls, is_of_calls, rooms_after, rooms_site}
+use Rattle.mmtel_run.specs.Rooms.{OfCalls, OfRooms, Whose, whose_key, whose_branch, rooms_after, rooms_site}
 use Rattle.mmtel_run.specs.Run.{IsEnough, IsEnoughAfter, IsSettled, after, clock_at, due_in, fire_one, fired_if, gives, one_more, settled, world_after}
 use Rattle.mmtel_run.specs.World.{World, alarmed, beginning, begun, calls_in, came, emitted, ended_of, fired, heard_in_rooms, heard_now, rooms_in, rung, seated, signalled, silenced, tokens_now}
 use Rattle.mmtel_run.proofs.Earlier.{emitted_deeds, emitted_rooms}
@@ -137,18 +137,18 @@ module _ (d : Directory) (token : List ℕ) where
             inr (omega (arith, left, few))
       ]
 
-  silenced_quietens : (at : ℕ) (branch method : List ℕ) (b : Bool) (w : World) → Quietens (silenced d token at branch method b w) w
-  silenced_quietens at branch method true w = signalled_quietens at (signal.Silent branch method) w refl
-  silenced_quietens at branch method false w = seated_quietens at (of_room.Silent branch method) w refl
+  silenced_quietens : (at : ℕ) (branch method : List ℕ) (whose : Whose) (w : World) → Quietens (silenced d token at branch method whose w) w
+  silenced_quietens at branch method OfCalls w = signalled_quietens at (signal.Silent branch method) w refl
+  silenced_quietens at branch method OfRooms w = seated_quietens at (of_room.Silent branch method) w refl
 
-  ended_quietens : (at : ℕ) (key : TKey) (b : Bool) (w : World) → Quietens (ended_of d token at key b w) w
-  ended_quietens at key true w = signalled_quietens at (signal.Over key) w refl
-  ended_quietens at key false w = seated_quietens at (of_room.Over key) w refl
+  ended_quietens : (at : ℕ) (key : TKey) (whose : Whose) (w : World) → Quietens (ended_of d token at key whose w) w
+  ended_quietens at key OfCalls w = signalled_quietens at (signal.Over key) w refl
+  ended_quietens at key OfRooms w = seated_quietens at (of_room.Over key) w refl
 
   rung_quietens : (x : Due) (w : World) → Quietens (rung d token x w) w
   rung_quietens (due.Again peer at text) w = inl (omega arith, omega arith)
-  rung_quietens (due.Silent key branch method at) w = silenced_quietens at branch method (is_of_calls (invite_silent branch method) (calls_in d w).entries) w
-  rung_quietens (due.Over key at) w = ended_quietens at key (is_key_of_calls key (calls_in d w).entries) w
+  rung_quietens (due.Silent key branch method at) w = silenced_quietens at branch method (whose_branch (invite_silent branch method) (calls_in d w).entries) w
+  rung_quietens (due.Over key at) w = ended_quietens at key (whose_key key (calls_in d w).entries) w
   rung_quietens due.Nothing w = inl (omega arith, omega arith)
 
   alarmed_quietens : (at : ℕ) (x : Alarm) (w : World) → Quietens (alarmed d token at x w) w

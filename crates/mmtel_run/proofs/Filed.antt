@@ -39,7 +39,7 @@ use Rattle.mmtel_run.specs.Deadlines.{Alarm, Deadline, OfAlarm, OfCall, OfMessag
 use Rattle.mmtel_run.specs.Events.{Digest, Nothing, Refused, Heard, Asked, Notice, message_in, notices}
 use Rattle.mmtel_run.specs.Filed.{AreFiled, Closed, NoneWaits, RowsAreFiled, RowsAreInOrder, rows_closed, rows_in, rows_left, rows_of_calls, rows_of_rooms, rows_of_step, rows_of_steps, settling, steps_of}
 use Rattle.mmtel_run.specs.Refusals.{Course, Refuse, Enter, EnterRoom, Open, OpenRoom, JoinRoom, Register, course}
-use Rattle.mmtel_run.specs.Rooms.{Holder, InCall, InRoom, account_of_side, is_key_of_calls, is_of_calls, is_with, replacement_in, rooms_site, side_replaced}
+use Rattle.mmtel_run.specs.Rooms.{Holder, InCall, InRoom, OfCalls, OfRooms, Whose, account_of_side, whose_key, whose_branch, is_with, replacement_in, rooms_site, side_replaced}
 use Rattle.mmtel_run.specs.Run.{after, clock_at, due_in, fire_one, fired_if, one_more, settled}
 use Rattle.mmtel_run.specs.World.{World, acknowledging_by, adopting, adoption_of, alarmed, answering, beginning, begun, bringing, calls_in, came, cancelling, cancelling_call, comes_of, drawing, emit_one, emitted, ended_of, entering_room, finishing, fired, handing, heard_in_rooms, heard_now, hearing, holder_in, housed, joining_of, lending, lodging, met, next_tag, noticed, opening_of, repeating, replaced_by, replaced_with, replacing, responding_to, room_joined, room_opened, rooms_in, rung, seated, signalled, silenced, taken_out, taking, tokens_now, told}
 
@@ -231,18 +231,18 @@ module _ (d : Directory) (token : List ℕ) (start : World) where
 
   -- ---- deadlines
 
-  silenced_adds : (at : ℕ) (branch method : List ℕ) (b : Bool) (w : World) → AddsSeats d start w → Adds d start (silenced d token at branch method b w)
-  silenced_adds at branch method true w e = signalled_adds at (signal.Silent branch method) w e
-  silenced_adds at branch method false w e = alone _ (seated_adds at (of_room.Silent branch method) w e)
+  silenced_adds : (at : ℕ) (branch method : List ℕ) (whose : Whose) (w : World) → AddsSeats d start w → Adds d start (silenced d token at branch method whose w)
+  silenced_adds at branch method OfCalls w e = signalled_adds at (signal.Silent branch method) w e
+  silenced_adds at branch method OfRooms w e = alone _ (seated_adds at (of_room.Silent branch method) w e)
 
-  ended_adds : (at : ℕ) (key : TKey) (b : Bool) (w : World) → AddsSeats d start w → Adds d start (ended_of d token at key b w)
-  ended_adds at key true w e = signalled_adds at (signal.Over key) w e
-  ended_adds at key false w e = alone _ (seated_adds at (of_room.Over key) w e)
+  ended_adds : (at : ℕ) (key : TKey) (whose : Whose) (w : World) → AddsSeats d start w → Adds d start (ended_of d token at key whose w)
+  ended_adds at key OfCalls w e = signalled_adds at (signal.Over key) w e
+  ended_adds at key OfRooms w e = alone _ (seated_adds at (of_room.Over key) w e)
 
   rung_adds : (x : Due) (w : World) → AddsSeats d start w → Adds d start (rung d token x w)
   rung_adds (due.Again peer at text) w e = alone _ (unmoved _ w refl refl refl e)
-  rung_adds (due.Silent key branch method at) w e = silenced_adds at branch method (is_of_calls (invite_silent branch method) (calls_in d w).entries) w e
-  rung_adds (due.Over key at) w e = ended_adds at key (is_key_of_calls key (calls_in d w).entries) w e
+  rung_adds (due.Silent key branch method at) w e = silenced_adds at branch method (whose_branch (invite_silent branch method) (calls_in d w).entries) w e
+  rung_adds (due.Over key at) w e = ended_adds at key (whose_key key (calls_in d w).entries) w e
   rung_adds due.Nothing w e = alone w e
 
   alarmed_adds : (at : ℕ) (x : Alarm) (w : World) → AddsSeats d start w → Adds d start (alarmed d token at x w)
@@ -334,15 +334,15 @@ module _ (d : Directory) (token : List ℕ) (start : World) where
     acknowledging_adds (Some (InCall call side)) w e = signalled_adds at (signal.Ack call side s) w e
     acknowledging_adds (Some (InRoom room seat)) w e = alone _ (seated_adds at (of_room.Ack room seat s) w e)
 
-    responding_adds : (key : TKey) (b : Bool) (w : World) → AddsSeats d start w → Adds d start (responding_to d token at key s b w)
-    responding_adds key true w e = signalled_adds at (signal.Answer key s) w e
-    responding_adds key false w e = alone _ (seated_adds at (of_room.Answer key s) w e)
+    responding_adds : (key : TKey) (whose : Whose) (w : World) → AddsSeats d start w → Adds d start (responding_to d token at key s whose w)
+    responding_adds key OfCalls w e = signalled_adds at (signal.Answer key s) w e
+    responding_adds key OfRooms w e = alone _ (seated_adds at (of_room.Answer key s) w e)
 
     answering_adds : (o : Option transaction.Heard) (w : World) → AddsSeats d start w → Adds d start (answering d token at s o w)
     answering_adds None w e = alone _ (unmoved _ w refl refl refl e)
     answering_adds (Some (heard.Fresh key message)) w e =
         taking_adds key (course d (is_merged key.0 (live w.acts)) (are_full (calls_in d w).entries) (holder_in d s.heard w) s.heard) w e
-    answering_adds (Some (heard.Answer key message)) w e = responding_adds key (is_of_calls (invite_answered s) (calls_in d w).entries) w e
+    answering_adds (Some (heard.Answer key message)) w e = responding_adds key (whose_branch (invite_answered s) (calls_in d w).entries) w e
     answering_adds (Some (heard.Repeat sent)) w e = repeating_adds sent w e
     answering_adds (Some (heard.Acked key)) w e = alone w e
     answering_adds (Some (heard.Cancel key invite message)) w e = cancelling_adds key invite w e

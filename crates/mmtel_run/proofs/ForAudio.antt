@@ -53,7 +53,7 @@ module _ (d : Directory) (full : Bool) (m : HeardMessage) where
 
   by_its_method : is_for_room (by_method d full m) ≡ true → Offers
   by_its_method =
-      pick Offers (is_method (codes "OPTIONS") m.start) (Refuse (allowing 200)) _ (λ e. absurd (false_true e))
+      pick Offers (is_method (codes "OPTIONS") m.start) (Refuse (allowing d 200)) _ (λ e. absurd (false_true e))
       (pick Offers (is_method (codes "REFER") m.start) (Refuse (plainly 403)) _ (λ e. absurd (false_true e))
       (pick Offers (is_method (codes "INVITE") m.start) (invited d full m) _ (at_target (uri_of (request_uri m.start)))
       (pick Offers (is_register m) (registration d.names.accounts m) (Refuse (plainly 481)) registers (λ e. absurd (false_true e)))))
@@ -69,4 +69,4 @@ module _ (d : Directory) (full : Bool) (m : HeardMessage) where
 
 pub for_audio : RoomsAreForAudio
 unfolding course
-for_audio d merged full named m e = by_refusal d full (public_part m) named (first_that_applies (refusals merged (is_some named) (public_part m))) e
+for_audio d merged full named m e = by_refusal d full (public_part m) named (first_that_applies (refusals d merged (is_some named) (public_part m))) e

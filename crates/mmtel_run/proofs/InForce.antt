@@ -62,7 +62,7 @@ use Rattle.mmtel_run.specs.Events.{Digest, Nothing, Refused, Heard, Asked, Happe
 use Rattle.mmtel_run.specs.InForce.{CallsAreToldWhatIsInForce, LastIsInForce, TextsAreThoseKept, last_of, last_or, text_for, upload_at, uploads_of}
 use Rattle.mmtel_run.specs.Records.{with_ends, with_records}
 use Rattle.mmtel_run.specs.Refusals.{Course, Refuse, Enter, EnterRoom, Open, OpenRoom, JoinRoom, Register, course}
-use Rattle.mmtel_run.specs.Rooms.{Holder, InCall, InRoom, account_of_side, is_key_of_calls, is_of_calls, is_with, replacement_in, side_replaced}
+use Rattle.mmtel_run.specs.Rooms.{Holder, InCall, InRoom, OfCalls, OfRooms, Whose, account_of_side, whose_key, whose_branch, is_with, replacement_in, side_replaced}
 use Rattle.mmtel_run.specs.Run.{after, clock_at, due_in, fire_one, fired_if, one_more, settled}
 use Rattle.mmtel_run.specs.World.{World, acknowledging_by, adopting, adoption_of, alarmed, answering, beginning, begun, bringing, calls_in, came, cancelling, cancelling_call, comes_of, drawing, emit_one, emitted, ended_of, entering_room, finishing, fired, handing, heard_in_rooms, heard_now, hearing, holder_in, housed, joining_of, lending, lodging, met, next_tag, noticed, opening_of, repeating, replaced_by, replaced_with, replacing, responding_to, room_joined, room_opened, rooms_in, rung, seated, signalled, silenced, taken_out, taking, tokens_now, told}
 
@@ -144,18 +144,18 @@ module _ (d : Directory) (token : List ℕ) where
   noticed_texts : (at : ℕ) (room : RoomNo) (seat code : ℕ) (w : World) → (noticed d token at room seat code w).texts ≡ w.texts
   noticed_texts at room seat code w = housed_texts d at (rooms.Notifies room.0 seat code (tokens_now token w)) w
 
-  silenced_texts : (at : ℕ) (branch method : List ℕ) (b : Bool) (w : World) → (silenced d token at branch method b w).texts ≡ w.texts
-  silenced_texts at branch method true w = signalled_texts at (signal.Silent branch method) w
-  silenced_texts at branch method false w = seated_texts at (of_room.Silent branch method) w
+  silenced_texts : (at : ℕ) (branch method : List ℕ) (whose : Whose) (w : World) → (silenced d token at branch method whose w).texts ≡ w.texts
+  silenced_texts at branch method OfCalls w = signalled_texts at (signal.Silent branch method) w
+  silenced_texts at branch method OfRooms w = seated_texts at (of_room.Silent branch method) w
 
-  ended_texts : (at : ℕ) (key : TKey) (b : Bool) (w : World) → (ended_of d token at key b w).texts ≡ w.texts
-  ended_texts at key true w = signalled_texts at (signal.Over key) w
-  ended_texts at key false w = seated_texts at (of_room.Over key) w
+  ended_texts : (at : ℕ) (key : TKey) (whose : Whose) (w : World) → (ended_of d token at key whose w).texts ≡ w.texts
+  ended_texts at key OfCalls w = signalled_texts at (signal.Over key) w
+  ended_texts at key OfRooms w = seated_texts at (of_room.Over key) w
 
   rung_texts : (x : Due) (w : World) → (rung d token x w).texts ≡ w.texts
   rung_texts (due.Again peer at text) w = refl
-  rung_texts (due.Silent key branch method at) w = silenced_texts at branch method (is_of_calls (invite_silent branch method) (calls_in d w).entries) w
-  rung_texts (due.Over key at) w = ended_texts at key (is_key_of_calls key (calls_in d w).entries) w
+  rung_texts (due.Silent key branch method at) w = silenced_texts at branch method (whose_branch (invite_silent branch method) (calls_in d w).entries) w
+  rung_texts (due.Over key at) w = ended_texts at key (whose_key key (calls_in d w).entries) w
   rung_texts due.Nothing w = refl
 
   alarmed_texts : (at : ℕ) (x : Alarm) (w : World) → (alarmed d token at x w).texts ≡ w.texts
@@ -237,14 +237,14 @@ module _ (d : Directory) (token : List ℕ) (at : ℕ) (s : Said) where
   acknowledging_texts (Some (InCall call side)) w = signalled_texts d token at (signal.Ack call side s) w
   acknowledging_texts (Some (InRoom room seat)) w = seated_texts d token at (of_room.Ack room seat s) w
 
-  responding_texts : (key : TKey) (b : Bool) (w : World) → (responding_to d token at key s b w).texts ≡ w.texts
-  responding_texts key true w = signalled_texts d token at (signal.Answer key s) w
-  responding_texts key false w = seated_texts d token at (of_room.Answer key s) w
+  responding_texts : (key : TKey) (whose : Whose) (w : World) → (responding_to d token at key s whose w).texts ≡ w.texts
+  responding_texts key OfCalls w = signalled_texts d token at (signal.Answer key s) w
+  responding_texts key OfRooms w = seated_texts d token at (of_room.Answer key s) w
 
   answering_texts : (o : Option transaction.Heard) (w : World) → (answering d token at s o w).texts ≡ w.texts
   answering_texts None w = refl
   answering_texts (Some (heard.Fresh key message)) w = taking_texts key (course d (is_merged key.0 (live w.acts)) (are_full (calls_in d w).entries) (holder_in d s.heard w) s.heard) w
-  answering_texts (Some (heard.Answer key message)) w = responding_texts key (is_of_calls (invite_answered s) (calls_in d w).entries) w
+  answering_texts (Some (heard.Answer key message)) w = responding_texts key (whose_branch (invite_answered s) (calls_in d w).entries) w
   answering_texts (Some (heard.Repeat sent)) w = repeating_texts sent w
   answering_texts (Some (heard.Acked key)) w = refl
   answering_texts (Some (heard.Cancel key invite message)) w = cancelling_texts key invite w

@@ -1,8 +1,9 @@
 -- Two messages of a peer that are equal without their private places are kin: the same is done with them, and what is built of them differs in texts to trusted peers alone.
-use Rattle.std.proofs.Common.{◌≡◌, List, [], refl, sym, ap, ◌∙◌, Bool, true, false, ◌&&◌, Option, Some, None, codes, subst}
+use Rattle.std.proofs.Common.{ℕ, ◌≡◌, List, [], refl, sym, ap, ◌∙◌, Bool, true, false, ◌&&◌, Option, Some, None, codes, subst}
 use Rattle.std.specs.Prelude.{is_none, is_some, if◌then◌else◌, Ok, Err}
 use Rattle.std.specs.declared.result.Result.{Result}
-use Rattle.mmtel_answers.specs.Answers.{own_reply}
+use Rattle.mmtel_answers.specs.Answers.{allowed, own_reply}
+use Rattle.mmtel_answers.specs.declared.answers.FurtherMethods.{FurtherMethods}
 use Rattle.mmtel_directory.specs.declared.directories.Directory.{Directory}
 use Rattle.mmtel_lex.specs.Reading.{uri_of, Refusal}
 use Rattle.mmtel_lex.specs.declared.values.Uri.{Uri}
@@ -77,19 +78,33 @@ module _ (d e : Directory) (equal : EqualButForAccounts d e) where
       → (if is_register m then registration d.names.accounts m else Refuse (plainly 481)) ≡ (if is_register m then registration e.names.accounts m else Refuse (plainly 481))
   registered_same m same = registered_by m.trusted (is_register m) (to_account d.names.accounts m) (to_account e.names.accounts m) m same
 
+  -- both know the same methods, support the same options and so refuse alike
+  allowing_same : (code : ℕ) → allowing d code ≡ allowing e code
+  allowing_same code = ap (λ (x : FurtherMethods). record { code = code; named = allowed x }) (λ i. record { reliable = equal.reliable i; mwi = equal.mwi i })
+
+  refused_same : (merged named : Bool) (m : HeardMessage) → refusals d merged named m ≡ refusals e merged named m
+  refused_same merged named m = λ i.
+      refusals (record d { reliable = equal.reliable i; timer = equal.timer i; names = record d.names { mwi = equal.mwi i } }) merged named m
+
   method_same : (full : Bool) (m : HeardMessage) → registrant d.names.accounts m ≡ registrant e.names.accounts m → by_method d full m ≡ by_method e full m
   method_same full m same =
-      ap (λ (c : Course).
-      if is_method (codes "OPTIONS") m.start then Refuse (allowing 200)
+      ap (λ (a : Answer).
+      if is_method (codes "OPTIONS") m.start then Refuse a
+      else if is_method (codes "REFER") m.start then Refuse (plainly 403)
+      else if is_method (codes "INVITE") m.start then invited d full m
+      else if is_register m then registration d.names.accounts m
+      else Refuse (plainly 481)) (allowing_same 200)
+      ∙ (ap (λ (c : Course).
+      if is_method (codes "OPTIONS") m.start then Refuse (allowing e 200)
       else if is_method (codes "REFER") m.start then Refuse (plainly 403)
       else if is_method (codes "INVITE") m.start then c
       else if is_register m then registration d.names.accounts m
       else Refuse (plainly 481)) (invited_same full m)
       ∙ ap (λ (c : Course).
-      if is_method (codes "OPTIONS") m.start then Refuse (allowing 200)
+      if is_method (codes "OPTIONS") m.start then Refuse (allowing e 200)
       else if is_method (codes "REFER") m.start then Refuse (plainly 403)
       else if is_method (codes "INVITE") m.start then invited e full m
-      else c) (registered_same m same)
+      else c) (registered_same m same))
 
   course_same : (full : Bool) (named : Option Holder) (m : HeardMessage) (o : Option Answer) → registrant d.names.accounts m ≡ registrant e.names.accounts m → course_by d full named m o ≡ course_by e full named m o
   course_same full None m None same = method_same full m same
@@ -101,8 +116,9 @@ module _ (d e : Directory) (equal : EqualButForAccounts d e) where
   unfolding course
   decided_alike merged full named m n public same =
       ap (course_of d merged full named) public
-      ∙ course_same full named (public_part n) (first_that_applies (refusals merged (is_some named) (public_part n)))
+      ∙ (course_same full named (public_part n) (first_that_applies (refusals d merged (is_some named) (public_part n)))
       (sym (ap (registrant d.names.accounts) public) ∙ same)
+      ∙ ap (λ (rs : List (Bool × Answer)). course_by e full named (public_part n) (first_that_applies rs)) (refused_same merged (is_some named) (public_part n)))
 
   -- ---- the two cases
 

@@ -154,8 +154,10 @@ timed-wanes false site now x how c desk is = stays c c desk refl
 
 offered-wanes : (what : DueWord) (site : Site) (now : Standing) (x : Trial) (c : Call) (desk : Desk) → c.phase ≡ Offered x → Wanes c desk (on_due site now x what c desk)
 offered-wanes (due.NoReply number) site now x c desk is = timed-wanes (number == x.attempt.number) site now x NoReply c desk is
+offered-wanes (due.NoPrack number) site now x c desk is = stays c c desk refl
 offered-wanes (due.Cap number) site now x c desk is = timed-wanes (number == x.attempt.number) site now x (end_by_time x.attempt.rang) c desk is
 offered-wanes (due.NoAck number) site now x c desk is = stays c c desk refl
+offered-wanes (due.Expired number) site now x c desk is = stays c c desk refl
 
 rung-wanes : (stage : Stage) (site : Site) (at : ℕ) (x : Pair) (c : Call) (desk : Desk) → c.phase ≡ Stood x stage → Wanes c desk (rung_out stage site at x c desk)
 rung-wanes (Answered waiting success) site at x c desk is = ends x (Answered waiting success) c desk (rung_out (Answered waiting success) site at x c desk) is refl

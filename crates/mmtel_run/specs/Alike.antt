@@ -23,6 +23,9 @@ pub record EqualButForAccounts (one other : Directory) : Type 0 where
   pub sip : one.sip ≡ other.sip
   pub home : one.home ≡ other.home
   pub factory : one.factory ≡ other.factory
+  pub reliable : one.reliable ≡ other.reliable
+  pub timer : one.timer ≡ other.timer
+  pub mwi : one.names.mwi ≡ other.names.mwi
   -- it goes out to the seats of rooms
   pub mixer : one.mixer ≡ other.mixer
   pub peers : one.peers ≡ other.peers

@@ -1,8 +1,10 @@
 -- The answers that the server makes of its own (RFC 3261 §8.2, §8.2.6, §20.5, §20.40).
-use Rattle.std.specs.Prelude.{ℕ, ◌+◌, Bool, not, if◌then◌else◌, List, [], map, filter, codes, Option, Some, is_none}
+use Rattle.std.specs.Prelude.{ℕ, ◌+◌, Bool, not, ◌&&◌, ◌||◌, if◌then◌else◌, List, [], map, filter, codes, Option, Some, is_none}
 use Rattle.std.specs.Str.{bytes_eq}
 use Rattle.mmtel_answers.specs.Answers.{allowed, own_answer}
 use Rattle.mmtel_answers.specs.Said.{Said, phrase_in, status_of}
+use Rattle.mmtel_answers.specs.declared.answers.FurtherMethods.{FurtherMethods}
+use Rattle.mmtel_directory.specs.declared.directories.Directory.{Directory}
 use Rattle.mmtel_message.specs.Addresses.{contact_text}
 use Rattle.mmtel_message.specs.Message.{Line, Message, first_value}
 use Rattle.mmtel_message.specs.Responses.{response}
@@ -21,23 +23,32 @@ pub record Answer : Type 0 where
 abbrev pub plainly : ℕ → Answer
 plainly code = record { code = code; named = [] }
 
+-- the methods that the server knows beside those that it always knows
+abbrev pub further_methods : Directory → FurtherMethods
+further_methods directory = record { reliable = directory.reliable; mwi = directory.names.mwi }
+
 -- with the methods that the server knows (§20.5)
-abbrev pub allowing : ℕ → Answer
-allowing code = record { code = code; named = allowed }
+abbrev pub allowing : Directory → ℕ → Answer
+allowing directory code = record { code = code; named = allowed (further_methods directory) }
 
--- the options that a request requires and the server does not support, in received order (§8.2.2.3); of RFC 7044 it supports `histinfo`
-abbrev pub is_unsupported : List ℕ → Bool
-is_unsupported option = not (bytes_eq option (codes "histinfo"))
+-- the options that a request requires and the server does not support, in received order (§8.2.2.3); it supports `histinfo` of RFC 7044, and where they are switched on `100rel`
+-- of RFC 3262 and `timer` of RFC 4028
+abbrev pub is_supported : Directory → List ℕ → Bool
+is_supported directory option =
+    bytes_eq option (codes "histinfo") || ((directory.reliable && bytes_eq option (codes "100rel")) || (directory.timer && bytes_eq option (codes "timer")))
 
-abbrev pub unsupported : HeardMessage → List (List ℕ)
-unsupported message = filter (λ option. is_unsupported option) message.required
+abbrev pub is_unsupported : Directory → List ℕ → Bool
+is_unsupported directory option = not (is_supported directory option)
+
+abbrev pub unsupported : Directory → HeardMessage → List (List ℕ)
+unsupported directory message = filter (λ option. is_unsupported directory option) message.required
 
 abbrev pub unsupported_line : List ℕ → Line
 unsupported_line option = (codes "Unsupported", option)
 
 -- 420, with a line for each of them (§20.40)
-abbrev pub without_extension : HeardMessage → Answer
-without_extension message = record { code = 420; named = map unsupported_line (unsupported message) }
+abbrev pub without_extension : Directory → HeardMessage → Answer
+without_extension directory message = record { code = 420; named = map unsupported_line (unsupported directory message) }
 
 -- ---- the tag
 

@@ -29,6 +29,9 @@ site_of directory = record {
   home = directory.home;
   bound = directory.bound;
   country = directory.country;
+  reliable = directory.reliable;
+  timer = directory.timer;
+  mwi = directory.names.mwi;
   peers = directory.peers;
   accounts = directory.names.accounts;
 }

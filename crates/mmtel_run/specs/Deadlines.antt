@@ -24,12 +24,14 @@ pub record Armed : Type 0 where
 -- the order of those that were armed in one step for one moment: they are of one call, or of one seat
 abbrev pub call_rank : DueWord → ℕ
 call_rank (due.NoReply attempt) = 0
-call_rank (due.Cap attempt) = 1
-call_rank (due.NoAck success) = 2
+call_rank (due.NoPrack answer) = 1
+call_rank (due.Cap attempt) = 2
+call_rank (due.NoAck success) = 3
+call_rank (due.Expired success) = 4
 
 abbrev pub seat_rank : RoomWord → ℕ
-seat_rank (of_seat.Cap invitation) = 1
-seat_rank (of_seat.NoAck success) = 2
+seat_rank (of_seat.Cap invitation) = 2
+seat_rank (of_seat.NoAck success) = 3
 
 abbrev pub rank : Alarm → ℕ
 rank (OfCall call what) = call_rank what

@@ -1,5 +1,5 @@
 -- What is done with a request that opens a transaction: the first refusal that applies (RFC 3261 §8.2), or what its dialog or its method asks for. It reads public parts alone.
-use Rattle.std.specs.Prelude.{ℕ, Bool, true, false, not, ◌&&◌, ◌==◌, if◌then◌else◌, List, [], ◌∷◌, length, codes, Option, Some, None, is_none, is_some, Ok, Err}
+use Rattle.std.specs.Prelude.{◌++◌, ℕ, Bool, true, false, not, ◌&&◌, ◌==◌, if◌then◌else◌, List, [], ◌∷◌, length, codes, Option, Some, None, is_none, is_some, Ok, Err}
 use Rattle.std.specs.List.{list_all, list_any}
 use Rattle.std.specs.Option.{unwrap_or}
 use Rattle.std.specs.declared.result.Result.{Result}
@@ -52,12 +52,24 @@ pub data Course : Type 0 where
 
 -- ---- the refusals
 
--- the methods that the server knows (§20.5)
-abbrev pub known_methods : List (List ℕ)
-known_methods = codes "INVITE" ∷ codes "ACK" ∷ codes "CANCEL" ∷ codes "BYE" ∷ codes "OPTIONS" ∷ codes "REGISTER" ∷ codes "REFER" ∷ []
+-- the methods that the server knows (§20.5): these always
+abbrev pub always_known : List (List ℕ)
+always_known = codes "INVITE" ∷ codes "ACK" ∷ codes "CANCEL" ∷ codes "BYE" ∷ codes "OPTIONS" ∷ codes "REGISTER" ∷ codes "REFER" ∷ []
 
-abbrev pub is_known_method : Start → Bool
-is_known_method start = list_any (λ name. is_method name start) known_methods
+-- and these where they are switched on: of reliable provisional answers (RFC 3262, RFC 3311), and of waiting messages (RFC 3842)
+abbrev pub known_if_reliable : Bool → List (List ℕ)
+known_if_reliable false = []
+known_if_reliable true = codes "PRACK" ∷ codes "UPDATE" ∷ []
+
+abbrev pub known_if_waiting : Bool → List (List ℕ)
+known_if_waiting false = []
+known_if_waiting true = codes "SUBSCRIBE" ∷ []
+
+abbrev pub known_methods : Directory → List (List ℕ)
+known_methods directory = always_known ++ (known_if_reliable directory.reliable ++ known_if_waiting directory.names.mwi)
+
+abbrev pub is_known_method : Directory → Start → Bool
+is_known_method directory start = list_any (λ name. is_method name start) (known_methods directory)
 
 abbrev pub is_foreign_uri : Result Uri Refusal → Bool
 is_foreign_uri (Ok uri) = false
@@ -74,14 +86,14 @@ is_last_hop (Some hops) = hops == 0
 
 -- each refusal with its condition, in their order. `merged` says that another live transaction has its From tag, Call-ID and CSeq (§8.2.2.2), `named` that its dialog is
 -- that of a call or of a seat (§12.2.2)
-abbrev pub refusals : (merged named : Bool) → HeardMessage → List (Bool × Answer)
-refusals merged named message =
-    (not (is_known_method message.start), allowing 405) ∷
+abbrev pub refusals : Directory → (merged named : Bool) → HeardMessage → List (Bool × Answer)
+refusals directory merged named message =
+    (not (is_known_method directory message.start), allowing directory 405) ∷
     (is_foreign message.start, plainly 416) ∷
     (is_last_hop message.hops, plainly 483) ∷
     (is_some message.to_tag && not named, plainly 481) ∷
     (is_none message.to_tag && merged, plainly 482) ∷
-    (not (length (unsupported message) == 0), without_extension message) ∷ []
+    (not (length (unsupported directory message) == 0), without_extension directory message) ∷ []
 
 abbrev pub first_that_applies : List (Bool × Answer) → Option Answer
 first_that_applies [] = None
@@ -169,7 +181,7 @@ registrant accounts message = if message.trusted && is_register message then to_
 -- by its method: OPTIONS is answered, REFER, BYE and what else there may be are of a dialog
 abbrev pub by_method : Directory → (full : Bool) → HeardMessage → Course
 by_method directory full message =
-    if is_method (codes "OPTIONS") message.start then Refuse (allowing 200)
+    if is_method (codes "OPTIONS") message.start then Refuse (allowing directory 200)
     else if is_method (codes "REFER") message.start then Refuse (plainly 403)
     else if is_method (codes "INVITE") message.start then invited directory full message
     else if is_register message then registration directory.names.accounts message
@@ -191,7 +203,7 @@ course_by directory full named message (Some answer) = Refuse answer
 
 -- the first refusal that applies decides, and without one its dialog or its method
 abbrev pub course_of : Directory → (merged full : Bool) → (named : Option Holder) → HeardMessage → Course
-course_of directory merged full named message = course_by directory full named message (first_that_applies (refusals merged (is_some named) message))
+course_of directory merged full named message = course_by directory full named message (first_that_applies (refusals directory merged (is_some named) message))
 
 -- of its public part
 unfoldable pub course : Directory → (merged full : Bool) → (named : Option Holder) → HeardMessage → Course

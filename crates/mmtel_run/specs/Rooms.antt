@@ -1,6 +1,6 @@
 -- Conference rooms in a run: their configuration; to which side of a call or seat of a room a message belongs (RFC 3261 §12.2.2); which leg a REFER asks for in the place
 -- of another (RFC 3891 §3, RFC 4579 §5.6); and who comes to a room.
-use Rattle.std.specs.Prelude.{ℕ, ◌==◌, ◌&&◌, Bool, false, if◌then◌else◌, List, [], ◌∷◌, Option, Some, None, codes, is_some, position}
+use Rattle.std.specs.Prelude.{ℕ, ◌==◌, ◌&&◌, Bool, true, false, if◌then◌else◌, List, [], ◌∷◌, Option, Some, None, codes, is_some, position}
 use Rattle.mmtel_answers.specs.Said.{Said, status_of}
 use Rattle.mmtel_b2bua.specs.Entries.{heard_by, sent_it}
 use Rattle.mmtel_b2bua.specs.Names.{party}
@@ -29,11 +29,18 @@ use Rattle.mmtel_types.specs.declared.numbers.CallNo.{CallNo}
 use Rattle.mmtel_types.specs.declared.numbers.Peer.{Peer}
 use Rattle.mmtel_types.specs.declared.numbers.RoomNo.{RoomNo}
 use Rattle.mmtel_types.specs.declared.sides.Side.{Side}
+use Rattle.mmtel_run.specs.Answers.{further_methods}
 use Rattle.mmtel_run.specs.Calls.{DialogName, dialog_name, find_dialog, name_by, named_by}
 
 -- the configuration, as rooms know it
 abbrev pub rooms_site : Directory → Site
-rooms_site directory = record { sip = directory.sip; mixer = directory.mixer; peers = directory.peers; accounts = directory.names.accounts }
+rooms_site directory = record {
+  sip = directory.sip;
+  mixer = directory.mixer;
+  methods = further_methods directory;
+  peers = directory.peers;
+  accounts = directory.names.accounts;
+}
 
 -- the rooms, after what was done on them
 abbrev pub rooms_after : Directory → List Deed → Table
@@ -74,6 +81,24 @@ is_of_calls branch entries = is_some (position (sent_it branch) entries)
 -- an INVITE of some call had its answer by this client transaction
 abbrev pub is_key_of_calls : TKey → List Entry → Bool
 is_key_of_calls key entries = is_some (position (heard_by key) entries)
+
+-- whose a request is that the server sent: of the calls, or of the rooms
+pub data Whose : Type 0 where
+  OfCalls : Whose
+  OfRooms : Whose
+
+-- of the rooms is what is of no call
+abbrev pub calls_or_rooms : (is_of_calls : Bool) → Whose
+calls_or_rooms true = OfCalls
+calls_or_rooms false = OfRooms
+
+-- by its branch
+abbrev pub whose_branch : (branch : Option (List ℕ)) → List Entry → Whose
+whose_branch branch entries = calls_or_rooms (is_of_calls branch entries)
+
+-- by the client transaction in which it was answered
+abbrev pub whose_key : TKey → List Entry → Whose
+whose_key key entries = calls_or_rooms (is_key_of_calls key entries)
 
 -- ---- a REFER of a seat with Replaces
 

@@ -61,8 +61,8 @@ use Rattle.mmtel_run.specs.Deadlines.{Alarm, Armed, Deadline, OfAlarm, OfCall, O
 use Rattle.mmtel_run.specs.Events.{Digest, Nothing, Refused, Heard, Asked, message_in}
 use Rattle.mmtel_run.specs.Records.{in_force, until_of}
 use Rattle.mmtel_run.specs.Refusals.{Course, Refuse, Enter, EnterRoom, Open, OpenRoom, JoinRoom, Register, course}
-use Rattle.mmtel_run.specs.Rooms.{Holder, InCall, InRoom, account_of_side, holder_of, is_key_of_calls, is_of_calls, is_with, leg_by, replacement_in, rooms_after}
-use Rattle.mmtel_run.specs.Rooms.{rooms_site, side_replaced, status_by}
+use Rattle.mmtel_run.specs.Rooms.{Holder, InCall, InRoom, OfCalls, OfRooms, Whose, account_of_side, holder_of, is_with, leg_by, replacement_in, rooms_after}
+use Rattle.mmtel_run.specs.Rooms.{rooms_site, side_replaced, status_by, whose_branch, whose_key}
 
 -- a list for each layer
 pub record World : Type 0 where
@@ -224,21 +224,21 @@ noticed directory token at room seat code world = housed directory at (rooms.Not
 abbrev pub begun : World → World
 begun world = record world { steps = world.steps + 1; acts = DidBegin world.steps ∷ world.acts }
 
--- a request was given up, or a transaction has ended: the calls hear of their own, and the rooms of all others
-abbrev pub silenced : Directory → (token : List ℕ) → ℕ → (branch method : List ℕ) → (of_calls : Bool) → World → World
-silenced directory token at branch method true world = signalled directory token at (signal.Silent branch method) world
-silenced directory token at branch method false world = seated directory token at (of_room.Silent branch method) world
+-- a request was given up, or a transaction has ended: whoever sent the request hears of it
+abbrev pub silenced : Directory → (token : List ℕ) → ℕ → (branch method : List ℕ) → Whose → World → World
+silenced directory token at branch method OfCalls world = signalled directory token at (signal.Silent branch method) world
+silenced directory token at branch method OfRooms world = seated directory token at (of_room.Silent branch method) world
 
-abbrev pub ended_of : Directory → (token : List ℕ) → ℕ → TKey → (of_calls : Bool) → World → World
-ended_of directory token at key true world = signalled directory token at (signal.Over key) world
-ended_of directory token at key false world = seated directory token at (of_room.Over key) world
+abbrev pub ended_of : Directory → (token : List ℕ) → ℕ → TKey → Whose → World → World
+ended_of directory token at key OfCalls world = signalled directory token at (signal.Over key) world
+ended_of directory token at key OfRooms world = seated directory token at (of_room.Over key) world
 
 -- what a deadline of a message brings: the same bytes again; or that a request is given up, or that a transaction has ended
 abbrev pub rung : Directory → (token : List ℕ) → Due → World → World
 rung directory token (due.Again peer at text) world = offering (offer.To peer at text ∷ []) world
 rung directory token (due.Silent key branch method at) world =
-    silenced directory token at branch method (is_of_calls (invite_silent branch method) (calls_in directory world).entries) world
-rung directory token (due.Over key at) world = ended_of directory token at key (is_key_of_calls key (calls_in directory world).entries) world
+    silenced directory token at branch method (whose_branch (invite_silent branch method) (calls_in directory world).entries) world
+rung directory token (due.Over key at) world = ended_of directory token at key (whose_key key (calls_in directory world).entries) world
 rung directory token due.Nothing world = world
 
 -- the first one of messages that is due fires
@@ -426,13 +426,13 @@ acknowledging_by directory token at said (Some (InRoom room seat)) world = seate
 abbrev pub acknowledging : Directory → (token : List ℕ) → ℕ → Said → World → World
 acknowledging directory token at said world = acknowledging_by directory token at said (holder_in directory said.heard world) world
 
--- a response is of the calls where an INVITE of one has the branch that it answers, and else of the rooms
-abbrev pub responding_to : Directory → (token : List ℕ) → ℕ → TKey → Said → (of_calls : Bool) → World → World
-responding_to directory token at key said true world = signalled directory token at (signal.Answer key said) world
-responding_to directory token at key said false world = seated directory token at (of_room.Answer key said) world
+-- a response goes to whoever sent the request that it answers: to the calls where an INVITE of one has its branch, and else to the rooms
+abbrev pub responding_to : Directory → (token : List ℕ) → ℕ → TKey → Said → Whose → World → World
+responding_to directory token at key said OfCalls world = signalled directory token at (signal.Answer key said) world
+responding_to directory token at key said OfRooms world = seated directory token at (of_room.Answer key said) world
 
 abbrev pub responding : Directory → (token : List ℕ) → ℕ → TKey → Said → World → World
-responding directory token at key said world = responding_to directory token at key said (is_of_calls (invite_answered said) (calls_in directory world).entries) world
+responding directory token at key said world = responding_to directory token at key said (whose_branch (invite_answered said) (calls_in directory world).entries) world
 
 -- what is done with a message, by what the transactions say of it; None where too many of them are live
 abbrev pub answering : Directory → (token : List ℕ) → ℕ → Said → Option transaction.Heard → World → World

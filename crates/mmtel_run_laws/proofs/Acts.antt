@@ -1,4 +1,4 @@
--- What was asked of peers in a run: each client transaction was opened by it, and INVITEs have numbers of their own, so one branch is of one peer (RFC 3261 §8.1.1.7, §17.1.3).
+-- What was asked of peers in a run: each client transaction was opened by it, and requests whose answer is waited for have numbers of their own, so one branch is of one peer (RFC 3261 §8.1.1.7, §17.1.3).
 use Rattle.std.proofs.Common.{◌≡◌, ◌<◌, ◌≤◌, ◌^◌, ◌==◌, ◌||◌, ◌&&◌, Bool, true, false, not, ℕ, suc, List, [], ◌∷◌, ◌++◌, length, map, Option, Some, None, refl, sym, ap, ◌∙◌, subst, inl, inr, arith, codes, nat_lt}
 use Rattle.std.specs.Prelude.{◌⊎◌, if◌then◌else◌, filter, is_some}
 use Rattle.std.specs.List.{find}
@@ -6,7 +6,8 @@ use Rattle.std.specs.Option.{option_map}
 use Rattle.std.specs.Str.{bytes_eq}
 use Rattle.std.proofs.lemmas.Bool.{cases_Bool}
 use Rattle.std.proofs.lemmas.List.{append_cancel_left}
-use Rattle.mmtel_call_laws.specs.Branches.Sent.{AreNumbered, Each, IsInvite, IsNoInvite, IsNumbered, WasSent, asks_in}
+use Rattle.mmtel_call_laws.specs.Branches.Sent.{AreNumbered, Each, IsAwaited, IsNotAwaited, IsNumbered, WasSent, asks_in}
+use Rattle.mmtel_desk.specs.Invites.{is_awaited_method}
 use Rattle.mmtel_lex.specs.Grammar.{IsToken}
 use Rattle.mmtel_message.specs.Fields.{five_at}
 use Rattle.mmtel_message.specs.Message.{Message}
@@ -30,7 +31,7 @@ use Rattle.mmtel_transaction.specs.declared.parts.Part.{Part}
 use Rattle.mmtel_transaction.specs.declared.parts.Part.TheVariants as part
 use Rattle.mmtel_types.specs.declared.addrs.Addr.{Addr}
 use Rattle.mmtel_types.specs.declared.numbers.Peer.{Peer}
-use Rattle.mmtel_run_laws.proofs.Branches.{branch_once, cookie, drawn_token, invite_branch, no_invite, numbers_same, text_same}
+use Rattle.mmtel_run_laws.proofs.Branches.{awaited_branch, branch_once, cookie, drawn_token, not_both, numbers_same, text_same}
 use Rattle.mmtel_run_laws.proofs.Fits.{true_false}
 
 -- ---- each of a list
@@ -238,13 +239,13 @@ opened_asked (c ∷ h) =
 live_asked : (h : List Done) → Each (IsAsked (asks_of h)) (live h)
 live_asked h = each_filter (IsAsked (asks_of h)) is_live (map (entry_of h) (opened h)) (each_map (IsAsked (asks_of h)) (entry_of h) (entry_asked (asks_of h) h) (opened h) (opened_asked h))
 
--- ---- INVITEs have numbers of their own
+-- ---- requests whose answer is waited for have numbers of their own
 
 module _ (sip : Addr) (text : List ℕ) where
   -- the numbers fall from below this one
   abbrev pub Falls : (high : ℕ) → List (Peer × Message Start) → Type 0
   Falls high [] = Unit {0}
-  Falls high (ask ∷ asks) = (IsNoInvite ask.1 × Falls high asks) ⊎ ((n : ℕ) × (0 < n) × (n < high) × IsInvite sip (token_text text n) ask.1 × Falls n asks)
+  Falls high (ask ∷ asks) = (IsNotAwaited ask.1 × Falls high asks) ⊎ ((n : ℕ) × (0 < n) × (n < high) × IsAwaited sip (token_text text n) ask.1 × Falls n asks)
 
   pub falls_more : (high higher : ℕ) (asks : List (Peer × Message Start)) → high ≤ higher → Falls high asks → Falls higher asks
   falls_more high higher [] le f = tt
@@ -284,9 +285,20 @@ module _ (sip : Addr) (text : List ℕ) where
   falls_after low high [] asks are f = falls_more (suc low) (suc high) asks (omega (arith, are)) f
   falls_after low high (e ∷ out) asks are f = after_one low are.0 high e out asks are.1 f (λ later g. falls_after are.0 high out later are.2 g)
 
-  sent_number : (high : ℕ) (asks : List (Peer × Message Start)) (branch : List ℕ) (peer : Peer) → Falls high asks → WasSent sip asks branch peer → (n : ℕ) × (0 < n) × (n < high) × (branch ≡ token_text text n)
+  -- among what was asked is a request of this branch whose answer is waited for, which went to this peer
+  abbrev pub AwaitedWasSent : List (Peer × Message Start) → (branch : List ℕ) → Peer → Type 0
+  AwaitedWasSent [] branch peer = ⊥
+  AwaitedWasSent (ask ∷ asks) branch peer = ((ask.0 ≡ peer) × IsAwaited sip branch ask.1) ⊎ AwaitedWasSent asks branch peer
+
+  -- as where an INVITE is
+  pub invite_awaited : (asks : List (Peer × Message Start)) (branch : List ℕ) (peer : Peer) → WasSent sip asks branch peer → AwaitedWasSent asks branch peer
+  invite_awaited [] branch peer is = absurd is
+  invite_awaited (ask ∷ asks) branch peer (inl here) = inl (here.0, record { method = codes "INVITE"; waited_for = refl; request = here.1 })
+  invite_awaited (ask ∷ asks) branch peer (inr there) = inr (invite_awaited asks branch peer there)
+
+  sent_number : (high : ℕ) (asks : List (Peer × Message Start)) (branch : List ℕ) (peer : Peer) → Falls high asks → AwaitedWasSent asks branch peer → (n : ℕ) × (0 < n) × (n < high) × (branch ≡ token_text text n)
   sent_number high [] branch peer f is = absurd is
-  sent_number high (ask ∷ asks) branch peer (inl none) (inl here) = absurd (no_invite sip branch ask.1 none.0 here.1)
+  sent_number high (ask ∷ asks) branch peer (inl none) (inl here) = absurd (not_both sip branch ask.1 none.0 here.1)
   sent_number high (ask ∷ asks) branch peer (inl none) (inr there) = sent_number high asks branch peer none.1 there
   sent_number high (ask ∷ asks) branch peer (inr x) (inl here) = (x.0, x.1, x.2, branch_once sip branch (token_text text x.0) ask.1 here.1 x.3)
   sent_number high (ask ∷ asks) branch peer (inr x) (inr there) =
@@ -297,18 +309,18 @@ module _ (sip : Addr) (text : List ℕ) where
 
   module _ (differ : TokensDiffer) where
     -- a number that is behind another one is not that
-    apart : (n high : ℕ) (asks : List (Peer × Message Start)) (branch : List ℕ) (peer : Peer) → 0 < n → n < high → high ≤ 2 ^ 60 → branch ≡ token_text text n → Falls n asks → WasSent sip asks branch peer → ⊥
+    apart : (n high : ℕ) (asks : List (Peer × Message Start)) (branch : List ℕ) (peer : Peer) → 0 < n → n < high → high ≤ 2 ^ 60 → branch ≡ token_text text n → Falls n asks → AwaitedWasSent asks branch peer → ⊥
     apart n high asks branch peer up lt top is f there =
         let y = sent_number n asks branch peer f there in
         let less = y.2 in
         let same : n ≡ y.0 = numbers_same differ text n y.0 up y.1 (omega (arith, lt, top)) (omega (arith, lt, top, less)) (sym is ∙ y.3) in
         omega (arith, same, less)
 
-    pub sent_once : (high : ℕ) (asks : List (Peer × Message Start)) (branch : List ℕ) (one other : Peer) → high ≤ 2 ^ 60 → Falls high asks → WasSent sip asks branch one → WasSent sip asks branch other → one ≡ other
+    pub sent_once : (high : ℕ) (asks : List (Peer × Message Start)) (branch : List ℕ) (one other : Peer) → high ≤ 2 ^ 60 → Falls high asks → AwaitedWasSent asks branch one → AwaitedWasSent asks branch other → one ≡ other
     sent_once high [] branch one other top f is too = absurd is
     sent_once high (ask ∷ asks) branch one other top f (inl here) (inl too) = sym here.0 ∙ too.0
-    sent_once high (ask ∷ asks) branch one other top (inl none) (inl here) (inr there) = absurd (no_invite sip branch ask.1 none.0 here.1)
-    sent_once high (ask ∷ asks) branch one other top (inl none) (inr there) (inl here) = absurd (no_invite sip branch ask.1 none.0 here.1)
+    sent_once high (ask ∷ asks) branch one other top (inl none) (inl here) (inr there) = absurd (not_both sip branch ask.1 none.0 here.1)
+    sent_once high (ask ∷ asks) branch one other top (inl none) (inr there) (inl here) = absurd (not_both sip branch ask.1 none.0 here.1)
     sent_once high (ask ∷ asks) branch one other top (inl none) (inr there) (inr too) = sent_once high asks branch one other top none.1 there too
     sent_once high (ask ∷ asks) branch one other top (inr x) (inl here) (inr there) =
         absurd (apart x.0 high asks branch other x.1 x.2 top (branch_once sip branch (token_text text x.0) ask.1 here.1 x.3) x.4 there)
@@ -317,9 +329,9 @@ module _ (sip : Addr) (text : List ℕ) where
     sent_once high (ask ∷ asks) branch one other top (inr x) (inr there) (inr too) =
         let lt = x.2 in sent_once x.0 asks branch one other (omega (arith, lt, top)) x.4 there too
 
-  -- what was asked is an INVITE with a token, or none
+  -- what was asked is such a request with a token, or none
   abbrev Kind : List (Peer × Message Start) → Peer → Message Start → Type 0
-  Kind asks peer m = IsNoInvite m ⊎ ((n : ℕ) × (n < 2 ^ 60) × IsInvite sip (token_text text n) m × WasSent sip asks (token_text text n) peer)
+  Kind asks peer m = IsNotAwaited m ⊎ ((n : ℕ) × (n < 2 ^ 60) × IsAwaited sip (token_text text n) m × AwaitedWasSent asks (token_text text n) peer)
 
   kind_more : (ask : Peer × Message Start) (asks : List (Peer × Message Start)) (peer : Peer) (m : Message Start) → Kind asks peer m → Kind (ask ∷ asks) peer m
   kind_more ask asks peer m (inl none) = inl none
@@ -327,14 +339,14 @@ module _ (sip : Addr) (text : List ℕ) where
 
   kind_of : (high : ℕ) (asks : List (Peer × Message Start)) (peer : Peer) (m : Message Start) → high ≤ 2 ^ 60 → Falls high asks → WasAsked asks peer m → Kind asks peer m
   kind_of high [] peer m top f is = absurd is
-  kind_of high (ask ∷ asks) peer m top (inl none) (inl here) = inl (subst IsNoInvite here.1 none.0)
+  kind_of high (ask ∷ asks) peer m top (inl none) (inl here) = inl (subst IsNotAwaited here.1 none.0)
   kind_of high (ask ∷ asks) peer m top (inr x) (inl here) =
       let lt = x.2 in
-      inr (x.0, omega (arith, lt, top), subst (IsInvite sip (token_text text x.0)) here.1 x.3, inl (here.0, x.3))
+      inr (x.0, omega (arith, lt, top), subst (IsAwaited sip (token_text text x.0)) here.1 x.3, inl (here.0, x.3))
   kind_of high (ask ∷ asks) peer m top (inl none) (inr there) = kind_more ask asks peer m (kind_of high asks peer m top none.1 there)
   kind_of high (ask ∷ asks) peer m top (inr x) (inr there) = let lt = x.2 in kind_more ask asks peer m (kind_of x.0 asks peer m (omega (arith, lt, top)) x.4 there)
 
-  -- ---- the transaction of a response to an INVITE is of the peer to whom that went
+  -- ---- the transaction of a response to such a request is of the peer to whom that went
 
   module _ (is_source : IsSource sip) (port : 0 < sip.port) (is_token : IsToken text) where
     cookie_same : (one other : List ℕ) → cookie ++ one ≡ cookie ++ other → one ≡ other
@@ -343,20 +355,20 @@ module _ (sip : Addr) (text : List ℕ) where
     no_cookie : (branch : List ℕ) → [] ≡ cookie ++ branch → ⊥
     no_cookie branch e = absurd cc
 
-    head_no : (m : Message Start) → IsNoInvite m → is_invite (head_of m) ≡ false
+    head_no : (m : Message Start) → IsNotAwaited m → is_awaited_method (head_of m).method ≡ false
     unfolding head_of
     head_no m none = none (five_at m.lines)
 
-    by_kind : (asks : List (Peer × Message Start)) (peer : Peer) (m : Message Start) (branch : List ℕ) → Kind asks peer m → is_invite (head_of m) ≡ true → (head_of m).branch ≡ cookie ++ branch → WasSent sip asks branch peer
+    by_kind : (asks : List (Peer × Message Start)) (peer : Peer) (m : Message Start) (branch : List ℕ) → Kind asks peer m → is_awaited_method (head_of m).method ≡ true → (head_of m).branch ≡ cookie ++ branch → AwaitedWasSent asks branch peer
     by_kind asks peer m branch (inl none) is_one same = absurd (true_false (sym is_one ∙ head_no m none))
-    by_kind asks peer m branch (inr x) is_one same = read_back (invite_branch m sip (token_text text x.0) is_source port (drawn_token text x.0 x.1 is_token) x.2)
+    by_kind asks peer m branch (inr x) is_one same = read_back (awaited_branch m sip (token_text text x.0) is_source port (drawn_token text x.0 x.1 is_token) x.2)
       where
-        read_back : ((head_of m).branch ≡ []) ⊎ ((head_of m).branch ≡ cookie ++ token_text text x.0) → WasSent sip asks branch peer
+        read_back : ((head_of m).branch ≡ []) ⊎ ((head_of m).branch ≡ cookie ++ token_text text x.0) → AwaitedWasSent asks branch peer
         read_back (inl none) = absurd (no_cookie branch (sym none ∙ same))
-        read_back (inr is) = subst (λ (b : List ℕ). WasSent sip asks b peer) (cookie_same (token_text text x.0) branch (sym is ∙ same)) x.3
+        read_back (inr is) = subst (λ (b : List ℕ). AwaitedWasSent asks b peer) (cookie_same (token_text text x.0) branch (sym is ∙ same)) x.3
 
-    found_sent : (high : ℕ) (h : List Done) (m : Head) (branch : List ℕ) (e : Entry) → high ≤ 2 ^ 60 → Falls high (asks_of h) → find (is_client_of m) (live h) ≡ Some e → m.branch ≡ cookie ++ branch → is_invite m ≡ true
-        → WasSent sip (asks_of h) branch e.peer
+    found_sent : (high : ℕ) (h : List Done) (m : Head) (branch : List ℕ) (e : Entry) → high ≤ 2 ^ 60 → Falls high (asks_of h) → find (is_client_of m) (live h) ≡ Some e → m.branch ≡ cookie ++ branch → is_awaited_method m.method ≡ true
+        → AwaitedWasSent (asks_of h) branch e.peer
     found_sent high h m branch e top f found same is_one =
         let it = each_found (IsAsked (asks_of h)) (is_client_of m) (live h) e (live_asked h) found in
         let tests = and_true (not e.is_server && bytes_eq e.asked.branch m.branch) (bytes_eq e.asked.method m.method) it.1 in
@@ -365,7 +377,7 @@ module _ (sip : Addr) (text : List ℕ) where
         let method : e.asked.method ≡ m.method = text_same e.asked.method m.method tests.1 in
         let branch_is : e.asked.branch ≡ m.branch = text_same e.asked.branch m.branch first.1 in
         by_kind (asks_of h) e.peer asked.0 branch (kind_of high (asks_of h) e.peer asked.0 top f asked.1)
-        (sym (ap is_invite asked.2) ∙ (ap (λ (x : List ℕ). bytes_eq x (codes "INVITE")) method ∙ is_one))
+        (sym (ap (λ (x : Head). is_awaited_method x.method) asked.2) ∙ (ap is_awaited_method method ∙ is_one))
         (sym (ap (λ (x : Head). x.branch) asked.2) ∙ (branch_is ∙ same))
       where
         client : (b : Bool) → not b ≡ true → b ≡ false
@@ -402,7 +414,7 @@ module _ (sip : Addr) (text : List ℕ) where
     owner_by false m es e is found = found
 
     pub answer_sent : (owners : OwnersAreLive) (high : ℕ) (h : List Done) (m : Message Start) (branch : List ℕ) (key : ℕ) → high ≤ 2 ^ 60 → Falls high (asks_of h) → part_of (head_of m) (live h) ≡ part.Answer key
-        → (head_of m).is_request ≡ false → (head_of m).branch ≡ cookie ++ branch → is_invite (head_of m) ≡ true → (q : Peer) × (peer_of key (live h) ≡ Some q) × WasSent sip (asks_of h) branch q
+        → (head_of m).is_request ≡ false → (head_of m).branch ≡ cookie ++ branch → is_awaited_method (head_of m).method ≡ true → (q : Peer) × (peer_of key (live h) ≡ Some q) × AwaitedWasSent (asks_of h) branch q
     answer_sent owners high h m branch key top f part_is response same is_one =
         let n : Head = head_of m in
         let x = answered_key n (find (is_client_of n) (live h)) key (response_part n.is_request (is_ack n) n (live h) key response part_is) in

@@ -47,7 +47,7 @@ use Rattle.mmtel_run.specs.Deadlines.{Alarm, Deadline, OfAlarm, OfCall, OfMessag
 use Rattle.mmtel_run.specs.Events.{Digest, Nothing, Refused, Heard, Asked, Happened, Notice, message_in, notice_of, notices}
 use Rattle.mmtel_run.specs.Records.{until_of}
 use Rattle.mmtel_run.specs.Refusals.{Course, Refuse, Enter, EnterRoom, Open, OpenRoom, JoinRoom, Register, course}
-use Rattle.mmtel_run.specs.Rooms.{Holder, InCall, InRoom, account_of_side, is_key_of_calls, is_of_calls, is_with, replacement_in, side_replaced, status_by}
+use Rattle.mmtel_run.specs.Rooms.{Holder, InCall, InRoom, OfCalls, OfRooms, Whose, account_of_side, whose_key, whose_branch, is_with, replacement_in, side_replaced, status_by}
 use Rattle.mmtel_run.specs.Run.{after, clock_at, due_in, fire_one, fired_if, one_more, settled, world_after}
 use Rattle.mmtel_run.specs.World.{World, acknowledging_by, adopting, adoption_of, alarmed, answering, beginning, begun, bringing, calls_in, came, cancelling, cancelling_call, comes_of, drawing, emit_one, emitted, ended, ended_of, entering_room, finishing, fired, handing, heard_in_rooms, heard_now, hearing, holder_in, housed, joining_of, joining_room, keeping, lending, lodging, met, next_tag, noticed, offering, opening_of, opening_room, refusing, registering, repeating, replaced, replaced_by, replaced_with, replacing, replying, replying_plainly, responding_to, room_joined, room_opened, rooms_in, rung, seated, serving, signalled, silenced, taken_out, taking, told, tokens_now, turned_away}
 use Rattle.mmtel_run_laws.specs.Added.{DeadlinesAdd, EventsAdd, RunsAdd, behind, unsaid}
@@ -120,18 +120,18 @@ module _ (d : Directory) (token : List ℕ) where
 
   -- ---- deadlines
 
-  silenced_adds : (at : ℕ) (branch method : List ℕ) (of_calls : Bool) → Adds (silenced d token at branch method of_calls)
-  silenced_adds at branch method true b w = signalled_adds at (signal.Silent branch method) b w
-  silenced_adds at branch method false b w = seated_adds at (of_room.Silent branch method) b w
+  silenced_adds : (at : ℕ) (branch method : List ℕ) (whose : Whose) → Adds (silenced d token at branch method whose)
+  silenced_adds at branch method OfCalls b w = signalled_adds at (signal.Silent branch method) b w
+  silenced_adds at branch method OfRooms b w = seated_adds at (of_room.Silent branch method) b w
 
-  ended_of_adds : (at : ℕ) (key : TKey) (of_calls : Bool) → Adds (ended_of d token at key of_calls)
-  ended_of_adds at key true b w = signalled_adds at (signal.Over key) b w
-  ended_of_adds at key false b w = seated_adds at (of_room.Over key) b w
+  ended_of_adds : (at : ℕ) (key : TKey) (whose : Whose) → Adds (ended_of d token at key whose)
+  ended_of_adds at key OfCalls b w = signalled_adds at (signal.Over key) b w
+  ended_of_adds at key OfRooms b w = seated_adds at (of_room.Over key) b w
 
   rung_adds : (x : Due) → Adds (rung d token x)
   rung_adds (due.Again peer at text) b w = offering_adds (offer.To peer at text ∷ []) b w
-  rung_adds (due.Silent key branch method at) b w = silenced_adds at branch method (is_of_calls (invite_silent branch method) (calls_in d w).entries) b w
-  rung_adds (due.Over key at) b w = ended_of_adds at key (is_key_of_calls key (calls_in d w).entries) b w
+  rung_adds (due.Silent key branch method at) b w = silenced_adds at branch method (whose_branch (invite_silent branch method) (calls_in d w).entries) b w
+  rung_adds (due.Over key at) b w = ended_of_adds at key (whose_key key (calls_in d w).entries) b w
   rung_adds due.Nothing b w = refl
 
   alarmed_adds : (at : ℕ) (x : Alarm) → Adds (alarmed d token at x)
@@ -233,15 +233,15 @@ module _ (d : Directory) (token : List ℕ) where
     acknowledging_adds (Some (InCall call side)) b w = signalled_adds at (signal.Ack call side s) b w
     acknowledging_adds (Some (InRoom room seat)) b w = seated_adds at (of_room.Ack room seat s) b w
 
-    responding_adds : (key : TKey) (of_calls : Bool) → Adds (responding_to d token at key s of_calls)
-    responding_adds key true b w = signalled_adds at (signal.Answer key s) b w
-    responding_adds key false b w = seated_adds at (of_room.Answer key s) b w
+    responding_adds : (key : TKey) (whose : Whose) → Adds (responding_to d token at key s whose)
+    responding_adds key OfCalls b w = signalled_adds at (signal.Answer key s) b w
+    responding_adds key OfRooms b w = seated_adds at (of_room.Answer key s) b w
 
     answering_adds : (o : Option transaction.Heard) → Adds (answering d token at s o)
     answering_adds None b w = replying_plainly_adds at s (plainly 503) b w
     answering_adds (Some (heard.Fresh key message)) b w =
         taking_adds key (course d (is_merged key.0 (live w.acts)) (are_full (calls_in d w).entries) (holder_in d s.heard w) s.heard) b w
-    answering_adds (Some (heard.Answer key message)) b w = responding_adds key (is_of_calls (invite_answered s) (calls_in d w).entries) b w
+    answering_adds (Some (heard.Answer key message)) b w = responding_adds key (whose_branch (invite_answered s) (calls_in d w).entries) b w
     answering_adds (Some (heard.Repeat sent)) b w = repeating_adds sent b w
     answering_adds (Some (heard.Acked key)) b w = refl
     answering_adds (Some (heard.Cancel key invite message)) b w = cancelling_adds key invite b w

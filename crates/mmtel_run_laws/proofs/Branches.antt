@@ -1,4 +1,4 @@
--- The branch of an INVITE that the server sent is read back as it was written, and a response names the branch of the INVITE that it answers (RFC 3261 §8.1.1.7, §17.1.3).
+-- The branch of an INVITE, PRACK or UPDATE that the server sent is read back as it was written, and a response names the branch of the one that it answers (RFC 3261 §8.1.1.7, §17.1.3).
 use Rattle.std.proofs.Common.{◌≡◌, ◌∙◌, ◌^◌, ◌<◌, ◌+◌, ◌-◌, Bool, true, false, inl, inr, ℕ, List, [], ◌∷◌, ◌++◌, Ok, Option, Some, None, ap, arith, codes, decimal, drop, length, refl, subst, sym, take, nat_lt}
 use Rattle.std.specs.Prelude.{◌⊎◌, if◌then◌else◌}
 use Rattle.std.specs.Option.{unwrap_or}
@@ -8,8 +8,8 @@ use Rattle.std.proofs.lemmas.Bool.Decides.{nat_tests}
 use Rattle.std.proofs.lemmas.List.{append_cancel_left, length-append, take-append-drop}
 use Rattle.std.proofs.lemmas.Slice.Eq.{bytes_eq-Decides}
 use Rattle.mmtel_answers.specs.Said.{Said}
-use Rattle.mmtel_desk.specs.Invites.{answers_invite, behind, branch_in, first_via, invite_answered, is_invite_method, of_invite, via_branch}
-use Rattle.mmtel_call_laws.specs.Branches.Sent.{IsInvite, IsNoInvite}
+use Rattle.mmtel_desk.specs.Invites.{answers_awaited, behind, branch_in, first_via, invite_answered, is_awaited_method, of_awaited, via_branch}
+use Rattle.mmtel_call_laws.specs.Branches.Sent.{IsAwaited, IsNotAwaited, IsRequest}
 use Rattle.mmtel_leg.specs.Readings.{via_of}
 use Rattle.mmtel_leg.specs.Requests.{Given}
 use Rattle.mmtel_leg.proofs.FiveLaws.{via_read}
@@ -35,7 +35,7 @@ use Rattle.mmtel_scan.specs.declared.classes.Class.TheVariants.{Digit, Token}
 use Rattle.mmtel_scan.proofs.Numerals.{decimal_writes}
 use Rattle.mmtel_scan.proofs.Runs.{wider}
 use Rattle.mmtel_scan.proofs.Trims.{all_append}
-use Rattle.mmtel_transaction.specs.Heads.{head_of, head_with, is_invite, param_text}
+use Rattle.mmtel_transaction.specs.Heads.{head_of, head_with, param_text}
 use Rattle.mmtel_transaction.specs.Laws.{TokensDiffer}
 use Rattle.mmtel_trust.specs.Digest.{HeardMessage, heard}
 use Rattle.mmtel_types.specs.declared.addrs.Addr.{Addr}
@@ -102,46 +102,48 @@ cookie = codes "z9hG4bK"
 some_same : (A : Type 0) (x y : A) → Some x ≡ Some y → x ≡ y
 some_same A x y e = cc
 
--- of an INVITE that the server sent it is that, or nothing is read of it
+-- of a request that the server sent it is that, or nothing is read of it
 branch_by : (o : Option Five) (m : Message Start) (sip : Addr) (branch : List ℕ) → five_at m.lines ≡ o → via_in m.lines ≡ Some (via_of sip branch) → ((head_with m.start o).branch ≡ []) ⊎ ((head_with m.start o).branch ≡ cookie ++ branch)
 branch_by None m sip branch e via = inl refl
 branch_by (Some five) m sip branch e via =
     let same : five.via ≡ via_of sip branch = some_same Via five.via (via_of sip branch) (sym (five_via m.lines five e) ∙ via) in
     inr (ap (λ (v : Via). param_text (codes "branch") v.params) same ∙ refl)
 
-pub invite_branch : (m : Message Start) (sip : Addr) (branch : List ℕ) → IsSource sip → 0 < sip.port → IsToken branch → IsInvite sip branch m → ((head_of m).branch ≡ []) ⊎ ((head_of m).branch ≡ cookie ++ branch)
+pub awaited_branch : (m : Message Start) (sip : Addr) (branch : List ℕ) → IsSource sip → 0 < sip.port → IsToken branch → IsAwaited sip branch m → ((head_of m).branch ≡ []) ⊎ ((head_of m).branch ≡ cookie ++ branch)
 unfolding head_of
-invite_branch m sip branch is low token invite =
-    let g : Given = invite.given in
+awaited_branch m sip branch is low token awaited =
+    let r : IsRequest awaited.method sip branch m = awaited.request in
+    let g : Given = r.given in
     let read : via_in m.lines ≡ Some (via_of sip branch) =
-    ap (λ (n : Message Start). via_in n.lines) invite.is
-    ∙ (via_read invite.dialogue invite.number (codes "INVITE") g (subst IsSource (sym invite.from_there) is) (subst (λ (a : Addr). 0 < a.port) (sym invite.from_there) low) (subst IsToken (sym invite.has_it) token)
-    ∙ (ap (λ (a : Addr). Some (via_of a g.branch)) invite.from_there ∙ ap (λ (b : List ℕ). Some (via_of sip b)) invite.has_it)) in
+    ap (λ (n : Message Start). via_in n.lines) r.is
+    ∙ (via_read r.dialogue r.number awaited.method g (subst IsSource (sym r.from_there) is) (subst (λ (a : Addr). 0 < a.port) (sym r.from_there) low) (subst IsToken (sym r.has_it) token)
+    ∙ (ap (λ (a : Addr). Some (via_of a g.branch)) r.from_there ∙ ap (λ (b : List ℕ). Some (via_of sip b)) r.has_it)) in
     branch_by (five_at m.lines) m sip branch refl read
 
--- one INVITE has one branch
+-- one request has one branch
 abbrev first_text : List Line → List ℕ
 first_text [] = []
 first_text (l ∷ ls) = l.1
 
-text_of : (sip : Addr) (branch : List ℕ) (m : Message Start) → IsInvite sip branch m → first_text m.lines ≡ via_text sip branch
+text_of : (sip : Addr) (branch : List ℕ) (m : Message Start) → IsAwaited sip branch m → first_text m.lines ≡ via_text sip branch
 unfolding line
-text_of sip branch m is =
-    ap (λ (n : Message Start). first_text n.lines) is.is ∙ (ap (λ (a : Addr). via_text a is.given.branch) is.from_there ∙ ap (via_text sip) is.has_it)
+text_of sip branch m awaited =
+    let r : IsRequest awaited.method sip branch m = awaited.request in
+    ap (λ (n : Message Start). first_text n.lines) r.is ∙ (ap (λ (a : Addr). via_text a r.given.branch) r.from_there ∙ ap (via_text sip) r.has_it)
 
-pub branch_once : (sip : Addr) (one other : List ℕ) (m : Message Start) → IsInvite sip one m → IsInvite sip other m → one ≡ other
+pub branch_once : (sip : Addr) (one other : List ℕ) (m : Message Start) → IsAwaited sip one m → IsAwaited sip other m → one ≡ other
 branch_once sip one other m is too =
     let same : via_text sip one ≡ via_text sip other = sym (text_of sip one m is) ∙ text_of sip other m too in
     append_cancel_left (codes ";branch=z9hG4bK") one other
     (append_cancel_left (addr_text sip) (codes ";branch=z9hG4bK" ++ one) (codes ";branch=z9hG4bK" ++ other)
     (append_cancel_left (codes "SIP/2.0/UDP ") (addr_text sip ++ (codes ";branch=z9hG4bK" ++ one)) (addr_text sip ++ (codes ";branch=z9hG4bK" ++ other)) same))
 
-pub no_invite : (sip : Addr) (branch : List ℕ) (m : Message Start) → IsNoInvite m → IsInvite sip branch m → ⊥
-no_invite sip branch m none is =
-    let yes : is_invite (head_with m.start None) ≡ true = ap (λ (n : Message Start). is_invite (head_with n.start None)) is.is in
-    true_false (sym yes ∙ none None)
+pub not_both : (sip : Addr) (branch : List ℕ) (m : Message Start) → IsNotAwaited m → IsAwaited sip branch m → ⊥
+not_both sip branch m none awaited =
+    let same : (head_with m.start None).method ≡ awaited.method = ap (λ (n : Message Start). (head_with n.start None).method) awaited.request.is in
+    true_false (sym (ap is_awaited_method same ∙ awaited.waited_for) ∙ none None)
 
--- ---- which INVITE a response answers
+-- ---- which request a response answers
 
 -- of a message that was read
 pub record WasRead (m : Said) : Type 0 where
@@ -179,20 +181,20 @@ module _ (fives : (b : List ℕ) (m : Message Start) → reads b ≡ Ok m → (f
     (vias : (b : List ℕ) (m : Message Start) (five : Five) → reads b ≡ Ok m → five_at m.lines ≡ Some five → (v : List ℕ) × (first_value (codes "Via") m.lines ≡ Some v) × (via_at v ≡ Some five.via))
     (cseqs : (ls : List Line) (five : Five) → five_at ls ≡ Some five → (v : List ℕ) × IsOnly (codes "CSeq") ls v × (cseq_at v ≡ Some five.cseq)) where
   answered_by : (trusted : Bool) (n : Message Start) (five : Five) (v c : List ℕ) → five_at n.lines ≡ Some five → first_value (codes "Via") n.lines ≡ Some v → via_at v ≡ Some five.via
-      → first_value (codes "CSeq") n.lines ≡ Some c → cseq_at c ≡ Some five.cseq → (branch : List ℕ) → (if answers_invite (heard trusted n).cseq then branch_in (heard trusted n).vias else None) ≡ Some branch
-      → (param_text (codes "branch") five.via.params ≡ cookie ++ branch) × (is_invite_method five.cseq.method ≡ true)
+      → first_value (codes "CSeq") n.lines ≡ Some c → cseq_at c ≡ Some five.cseq → (branch : List ℕ) → (if answers_awaited (heard trusted n).cseq then branch_in (heard trusted n).vias else None) ≡ Some branch
+      → (param_text (codes "branch") five.via.params ≡ cookie ++ branch) × (is_awaited_method five.cseq.method ≡ true)
   answered_by trusted n five v c is value via number cseq branch e =
-      let invites : answers_invite (first_value (codes "CSeq") n.lines) ≡ is_invite_method five.cseq.method = ap answers_invite number ∙ ap of_invite cseq in
+      let awaited : answers_awaited (first_value (codes "CSeq") n.lines) ≡ is_awaited_method five.cseq.method = ap answers_awaited number ∙ ap of_awaited cseq in
       let first : first_via (line_texts (codes "Via") n.lines) ≡ Some five.via = first_of_texts (codes "Via") n.lines ∙ (ap (λ (o : Option (List ℕ)). o >>= λ x. via_at x) value ∙ via) in
-      elim (cases_Bool (is_invite_method five.cseq.method)) [
+      elim (cases_Bool (is_awaited_method five.cseq.method)) [
         | inl y ↦
-            let taken : branch_in (line_texts (codes "Via") n.lines) ≡ Some branch = sym (ap (λ (b : Bool). if b then branch_in (line_texts (codes "Via") n.lines) else None) (invites ∙ y)) ∙ e in
+            let taken : branch_in (line_texts (codes "Via") n.lines) ≡ Some branch = sym (ap (λ (b : Bool). if b then branch_in (line_texts (codes "Via") n.lines) else None) (awaited ∙ y)) ∙ e in
             (behind_is (via_branch five.via) branch (sym (ap (λ (o : Option Via). behind (o >>= via_branch)) first) ∙ taken), y)
-        | inr n2 ↦ let none : None ≡ Some branch = sym (ap (λ (b : Bool). if b then branch_in (line_texts (codes "Via") n.lines) else None) (invites ∙ n2)) ∙ e in absurd cc
+        | inr n2 ↦ let none : None ≡ Some branch = sym (ap (λ (b : Bool). if b then branch_in (line_texts (codes "Via") n.lines) else None) (awaited ∙ n2)) ∙ e in absurd cc
       ]
 
   pub answers : (m : Said) (branch : List ℕ) → (is : WasRead m) → invite_answered m ≡ Some branch → is_request is.message.start ≡ false
-      → ((head_of is.message).branch ≡ cookie ++ branch) × (is_invite (head_of is.message) ≡ true)
+      → ((head_of is.message).branch ≡ cookie ++ branch) × (is_awaited_method (head_of is.message).method ≡ true)
   unfolding invite_answered head_of
   answers m branch is answered response =
       let n : Message Start = is.message in
@@ -200,11 +202,11 @@ module _ (fives : (b : List ℕ) (m : Message Start) → reads b ≡ Ok m → (f
       let via = vias is.bytes n five.0 is.read five.1 in
       let cseq = cseqs n.lines five.0 five.1 in
       let both = answered_by is.trusted n five.0 via.0 cseq.0 five.1 via.1 via.2 cseq.1.first cseq.2 branch
-      (sym (ap (λ (h : HeardMessage). if answers_invite h.cseq then branch_in h.vias else None) is.is) ∙ answered) in (
+      (sym (ap (λ (h : HeardMessage). if answers_awaited h.cseq then branch_in h.vias else None) is.is) ∙ answered) in (
         ap (λ (o : Option Five). (head_with n.start o).branch) five.1 ∙ both.0,
-        ap (λ (o : Option Five). is_invite (head_with n.start o)) five.1 ∙ by_start n.start five.0 response both.1,
+        ap (λ (o : Option Five). is_awaited_method (head_with n.start o).method) five.1 ∙ by_start n.start five.0 response both.1,
       )
     where
-      by_start : (start : Start) (five : Five) → is_request start ≡ false → is_invite_method five.cseq.method ≡ true → is_invite (head_with start (Some five)) ≡ true
+      by_start : (start : Start) (five : Five) → is_request start ≡ false → is_awaited_method five.cseq.method ≡ true → is_awaited_method (head_with start (Some five)).method ≡ true
       by_start (Request method uri) five r e = absurd (true_false r)
       by_start (Status code phrase) five r e = e

@@ -110,7 +110,7 @@ enters_by d full named m (Some answer) x e = absurd (true_false (sym (ap enters 
 
 pub enters_named : (d : Directory) (merged full : Bool) (named : Option Holder) (m : HeardMessage) (x : Holder) → course d merged full named m ≡ in_dialog x → named ≡ Some x
 unfolding course
-enters_named d merged full named m x e = enters_by d full named (public_part m) (first_that_applies (refusals merged (is_some named) (public_part m))) x e
+enters_named d merged full named m x e = enters_by d full named (public_part m) (first_that_applies (refusals d merged (is_some named) (public_part m))) x e
 
 -- whose it is where it is a call's
 none_some : (A : Type 0) (x : A) → None ≡ Some x → ⊥
@@ -179,17 +179,17 @@ some_none : (t : Option (List ℕ)) → (is_some t && true) ≡ false → is_non
 some_none None e = refl
 some_none (Some t) e = absurd (true_false e)
 
-untagged : (merged : Bool) (m : HeardMessage) → first_that_applies (refusals merged false m) ≡ None → is_none m.to_tag ≡ true
-untagged merged m e =
-    let xs : List (Bool × Answer) = refusals merged false m in
+untagged : (d : Directory) (merged : Bool) (m : HeardMessage) → first_that_applies (refusals d merged false m) ≡ None → is_none m.to_tag ≡ true
+untagged d merged m e =
+    let xs : List (Bool × Answer) = refusals d merged false m in
     let one = passes xs e in
     let two = passes (later xs) one.1 in
     let three = passes (later (later xs)) two.1 in
     some_none m.to_tag (passes (later (later (later xs))) three.1).0
 
-opens_by : (d : Directory) (merged full : Bool) (named : Option Holder) (m : HeardMessage) (o : Option Answer) → first_that_applies (refusals merged (is_some named) m) ≡ o → opens (course_by d full named m o) ≡ true → is_opening m ≡ true
+opens_by : (d : Directory) (merged full : Bool) (named : Option Holder) (m : HeardMessage) (o : Option Answer) → first_that_applies (refusals d merged (is_some named) m) ≡ o → opens (course_by d full named m o) ≡ true → is_opening m ≡ true
 opens_by d merged full None m None none e = elim (cases_Bool (is_method (codes "INVITE") m.start)) [
-  | inl y ↦ ap (λ (b : Bool). b && is_none m.to_tag) y ∙ untagged merged m none
+  | inl y ↦ ap (λ (b : Bool). b && is_none m.to_tag) y ∙ untagged d merged m none
   | inr n ↦ absurd (true_false (sym e ∙ method_opens d full m n))
 ]
 opens_by d merged full (Some x) m None none e = absurd (true_false (sym e ∙ no_opening x))
@@ -197,7 +197,7 @@ opens_by d merged full named m (Some answer) none e = absurd (true_false (sym e)
 
 pub opens_opening : (d : Directory) (merged full : Bool) (named : Option Holder) (m : HeardMessage) → opens (course d merged full named m) ≡ true → is_opening m ≡ true
 unfolding course
-opens_opening d merged full named m e = opens_by d merged full named (public_part m) (first_that_applies (refusals merged (is_some named) (public_part m))) refl e
+opens_opening d merged full named m e = opens_by d merged full named (public_part m) (first_that_applies (refusals d merged (is_some named) (public_part m))) refl e
 
 -- ---- requests and responses
 

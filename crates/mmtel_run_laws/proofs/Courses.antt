@@ -10,6 +10,7 @@ use Rattle.mmtel_call_laws.specs.Heads.Heard.{IsOfClean}
 use Rattle.mmtel_call_laws.specs.Heads.Read.{IsReadClean}
 use Rattle.mmtel_call_laws.proofs.Heads.Building.{contact_clean, response_clean}
 use Rattle.mmtel_call_laws.proofs.Heads.Bytes.{all_cons, all_filter, all_map, decimal_clean, joined, line_clean}
+use Rattle.mmtel_call_laws.proofs.Heads.Keeping.{allowed_clean}
 use Rattle.mmtel_call_laws.proofs.Heads.Reading.{texts_clean}
 use Rattle.mmtel_call_laws.proofs.Heads.Sending.{phrase_clean}
 use Rattle.mmtel_directory.specs.declared.directories.Directory.{Directory}
@@ -27,7 +28,7 @@ use Rattle.mmtel_trust.specs.MaskedMessages.{public_part}
 use Rattle.mmtel_types.specs.declared.addrs.Addr.{Addr}
 use Rattle.mmtel_types.specs.declared.numbers.Account.{Account}
 use Rattle.mmtel_types.specs.declared.numbers.Peer.{Peer}
-use Rattle.mmtel_run.specs.Answers.{Answer, completed_reply, is_unsupported, response_to, tag_for, unsupported, unsupported_line, without_extension}
+use Rattle.mmtel_run.specs.Answers.{Answer, completed_reply, further_methods, is_unsupported, response_to, tag_for, unsupported, unsupported_line, without_extension}
 use Rattle.mmtel_run.specs.Refusals.{Course, Enter, EnterRoom, JoinRoom, Open, OpenRoom, Refuse, Register, by_method, course, course_by, course_in, first_that_applies, in_dialog, invited_at, is_factory, is_foreign, is_foreign_uri, is_known_method, is_register, is_room, opening, refusals, registration_of, room_number, to_account, with_audio}
 use Rattle.mmtel_run.specs.Rooms.{Holder, InCall, InRoom}
 use Rattle.mmtel_run_laws.proofs.Received.{IsReadWell}
@@ -73,10 +74,10 @@ reply_clean tag source reply t h =
 
 -- ---- refusals
 
-without_clean : (m : HeardMessage) → AreClean m.required → IsCleanAnswer (without_extension m)
-without_clean m h =
-    all_map (list_all is_value_byte) is_clean_line unsupported_line (λ option e. line_clean (codes "Unsupported") option refl e) (unsupported m)
-    (all_filter (list_all is_value_byte) (λ option. is_unsupported option) m.required h)
+without_clean : (d : Directory) (m : HeardMessage) → AreClean m.required → IsCleanAnswer (without_extension d m)
+without_clean d m h =
+    all_map (list_all is_value_byte) is_clean_line unsupported_line (λ option e. line_clean (codes "Unsupported") option refl e) (unsupported d m)
+    (all_filter (list_all is_value_byte) (λ option. is_unsupported d option) m.required h)
 
 first-clean : (rs : List (Bool × Answer)) → Each (λ r. IsCleanAnswer r.1) rs → IfSome (first_that_applies rs) IsCleanAnswer
 first-clean [] h = tt
@@ -135,7 +136,7 @@ module _ (d : Directory) (full : Bool) (m : HeardMessage) where
 
   method-clean : IsClean (request_uri m.start) → IsCleanCourse m.start (by_method d full m)
   method-clean uri =
-      either m.start (is_method (codes "OPTIONS") m.start) _ _ refl
+      either m.start (is_method (codes "OPTIONS") m.start) _ _ (allowed_clean (further_methods d))
       (either m.start (is_method (codes "REFER") m.start) _ _ refl
       (either m.start (is_method (codes "INVITE") m.start) _ _ (target-clean (uri_of (request_uri m.start)) uri)
       (either m.start (is_register m) _ _ (either m.start m.trusted _ _ (registers (to_account d.names.accounts m)) refl) refl)))
@@ -155,6 +156,6 @@ module _ (d : Directory) (full : Bool) (m : HeardMessage) where
 pub course_clean : IsReadClean → (d : Directory) (merged full : Bool) (named : Option Holder) (m : HeardMessage) → IsHeardWell m → IsCleanCourse m.start (course d merged full named m)
 unfolding course
 course_clean read d merged full named m h =
-    by-clean d full (public_part m) named (first_that_applies (refusals merged (is_some named) (public_part m)))
-    (first-clean (refusals merged (is_some named) (public_part m)) (refl, (refl, (refl, (refl, (refl, (without_clean (public_part m) h.required, tt)))))))
-    (λ none. uri-clean read m.start h.uri (second-none (not (is_known_method m.start)) (is_foreign m.start) _ _ _ none))
+    by-clean d full (public_part m) named (first_that_applies (refusals d merged (is_some named) (public_part m)))
+    (first-clean (refusals d merged (is_some named) (public_part m)) (allowed_clean (further_methods d), (refl, (refl, (refl, (refl, (without_clean d (public_part m) h.required, tt)))))))
+    (λ none. uri-clean read m.start h.uri (second-none (not (is_known_method d m.start)) (is_foreign m.start) _ _ _ none))

@@ -1,5 +1,5 @@
 -- Signals to calls and to rooms that are the same but for private places, what else is done on them, and deadlines, leave alike worlds alike.
-use Rattle.std.proofs.Common.{◌≡◌, ℕ, zero, suc, ◌+◌, Bool, true, false, ◌&&◌, List, [], ◌∷◌, ◌++◌, length, refl, sym, ap, ◌∙◌, Option, Some, None, subst}
+use Rattle.std.proofs.Common.{◌≡◌, ℕ, zero, suc, ◌+◌, Bool, false, ◌&&◌, List, [], ◌∷◌, ◌++◌, length, refl, sym, ap, ◌∙◌, Option, Some, None, subst}
 use Rattle.std.specs.Prelude.{if◌then◌else◌, ◌==◌, ◌||◌, is_some, nat_le, nat_lt}
 use Rattle.std.specs.Option.{option_map, unwrap_or}
 use Rattle.mmtel_b2bua.specs.Histories.{Deed, Drops, Finishes, Hears, Releases, Restores, finished_by, hears_after, table_after}
@@ -52,7 +52,7 @@ use Rattle.mmtel_run.specs.Calls.{site_of}
 use Rattle.mmtel_run.specs.Deadlines.{Alarm, Armed, Chosen, Deadline, OfAlarm, OfCall, OfMessage, OfSeat, first_armed, first_of}
 use Rattle.mmtel_run.specs.InForce.{CallsAreToldWhatIsInForce}
 use Rattle.mmtel_run.specs.Records.{in_force}
-use Rattle.mmtel_run.specs.Rooms.{is_key_of_calls, is_of_calls, rooms_site}
+use Rattle.mmtel_run.specs.Rooms.{OfCalls, OfRooms, Whose, calls_or_rooms, rooms_site, whose_branch, whose_key}
 use Rattle.mmtel_run.specs.Run.{due_in, fire_one, fired_if, settled}
 use Rattle.mmtel_run.specs.View.{view}
 use Rattle.mmtel_run.specs.World.{World, alarmed, begun, bringing, calls_in, comes_of, ended_of, fired, fired_in, finishing, heard_in_rooms, heard_now, housed, lending, lodging, noticed, offering, rooms_in, rung, seated, signalled, silenced, tokens_now}
@@ -108,11 +108,11 @@ module _ (law : TextsDecideNothing) (tables : TablesStayAlike) (told : CallsAreT
   pub tokens_same : (v w : World) → Two v w → tokens_now token v ≡ tokens_now token w
   tokens_same v w a = ap (λ (n : ℕ). record { token = token; drawn = n }) a.alike.drawn
 
-  pub of_calls_same : (branch : Option (List ℕ)) (v w : World) → Two v w → is_of_calls branch (calls_in d v).entries ≡ is_of_calls branch (calls_in e w).entries
-  of_calls_same branch v w a = ap (λ (o : Option ℕ). is_some o) (laws.answers.sent records (trusts d) branch (bare (calls_in d v)) (bare (calls_in e w)) (tables_alike v w a))
+  pub branches_alike : (branch : Option (List ℕ)) (v w : World) → Two v w → whose_branch branch (calls_in d v).entries ≡ whose_branch branch (calls_in e w).entries
+  branches_alike branch v w a = ap (λ (o : Option ℕ). calls_or_rooms (is_some o)) (laws.answers.sent records (trusts d) branch (bare (calls_in d v)) (bare (calls_in e w)) (tables_alike v w a))
 
-  key_same : (key : TKey) (v w : World) → Two v w → is_key_of_calls key (calls_in d v).entries ≡ is_key_of_calls key (calls_in e w).entries
-  key_same key v w a = ap (λ (o : Option ℕ). is_some o) (laws.answers.heard records (trusts d) key (bare (calls_in d v)) (bare (calls_in e w)) (tables_alike v w a))
+  key_same : (key : TKey) (v w : World) → Two v w → whose_key key (calls_in d v).entries ≡ whose_key key (calls_in e w).entries
+  key_same key v w a = ap (λ (o : Option ℕ). calls_or_rooms (is_some o)) (laws.answers.heard records (trusts d) key (bare (calls_in d v)) (bare (calls_in e w)) (tables_alike v w a))
 
   -- ---- what is done on the calls
 
@@ -195,7 +195,12 @@ module _ (law : TextsDecideNothing) (tables : TablesStayAlike) (told : CallsAreT
   -- ---- what is done on the rooms
 
   rooms_equal : directories.EqualButForAccounts (rooms_site d) (rooms_site e)
-  rooms_equal = record { sip = sites.equal.sip; mixer = sites.equal.mixer; peers = sites.equal.peers }
+  rooms_equal = record {
+    sip = sites.equal.sip;
+    mixer = sites.equal.mixer;
+    methods = λ i. record { reliable = sites.equal.reliable i; mwi = sites.equal.mwi i };
+    peers = sites.equal.peers;
+  }
 
   with_drawn : (i j : ℕ) (v w : World) → i ≡ j → Two v w → Two (record v { drawn = i }) (record w { drawn = j })
   with_drawn i j v w same a = record {
@@ -381,15 +386,15 @@ module _ (law : TextsDecideNothing) (tables : TablesStayAlike) (told : CallsAreT
   }
 
   -- of the calls, or else of the rooms
-  silenced-alike : (at : ℕ) (branch method : List ℕ) (of_calls : Bool) (v w : World) → K (silenced e token at branch method of_calls w).acts → Two v w →
-      Two (silenced d token at branch method of_calls v) (silenced e token at branch method of_calls w)
-  silenced-alike at branch method true v w k a = signalled-alike at (signal.Silent branch method) (signal.Silent branch method) Plain Plain v w a (silent_says at branch method v w) k
-  silenced-alike at branch method false v w k a = seated-alike at (both.Silent branch method) v w a tt tt k
+  silenced-alike : (at : ℕ) (branch method : List ℕ) (whose : Whose) (v w : World) → K (silenced e token at branch method whose w).acts → Two v w →
+      Two (silenced d token at branch method whose v) (silenced e token at branch method whose w)
+  silenced-alike at branch method OfCalls v w k a = signalled-alike at (signal.Silent branch method) (signal.Silent branch method) Plain Plain v w a (silent_says at branch method v w) k
+  silenced-alike at branch method OfRooms v w k a = seated-alike at (both.Silent branch method) v w a tt tt k
 
-  ended_of-alike : (at : ℕ) (key : TKey) (of_calls : Bool) (v w : World) → K (ended_of e token at key of_calls w).acts → Two v w →
-      Two (ended_of d token at key of_calls v) (ended_of e token at key of_calls w)
-  ended_of-alike at key true v w k a = signalled-alike at (signal.Over key) (signal.Over key) Plain Plain v w a (over_says at key v w) k
-  ended_of-alike at key false v w k a = seated-alike at (both.Over key) v w a tt tt k
+  ended_of-alike : (at : ℕ) (key : TKey) (whose : Whose) (v w : World) → K (ended_of e token at key whose w).acts → Two v w →
+      Two (ended_of d token at key whose v) (ended_of e token at key whose w)
+  ended_of-alike at key OfCalls v w k a = signalled-alike at (signal.Over key) (signal.Over key) Plain Plain v w a (over_says at key v w) k
+  ended_of-alike at key OfRooms v w k a = seated-alike at (both.Over key) v w a tt tt k
 
   -- ---- deadlines
 
@@ -435,7 +440,7 @@ module _ (law : TextsDecideNothing) (tables : TablesStayAlike) (told : CallsAreT
   moment_due due.Nothing = 0
 
   abbrev silent_in : Directory → (at : ℕ) → (branch method : List ℕ) → World → World
-  silent_in x at branch method u = silenced x token at branch method (is_of_calls (invite_silent branch method) (calls_in x u).entries) u
+  silent_in x at branch method u = silenced x token at branch method (whose_branch (invite_silent branch method) (calls_in x u).entries) u
 
   rung_silent : (i j : ℕ) (branch other method way : List ℕ) (v w : World) → i ≡ j → branch ≡ other → method ≡ way → K (silent_in e j other way w).acts → Two v w →
       Two (silent_in d i branch method v) (silent_in e j other way w)
@@ -443,18 +448,18 @@ module _ (law : TextsDecideNothing) (tables : TablesStayAlike) (told : CallsAreT
       subst (λ (n : ℕ). Two (silent_in d n branch method v) (silent_in e j other way w)) (sym moment)
       (subst (λ (b : List ℕ). Two (silent_in d j b method v) (silent_in e j other way w)) (sym one)
       (subst (λ (m : List ℕ). Two (silent_in d j other m v) (silent_in e j other way w)) (sym two)
-      (subst (λ (c : Bool). Two (silenced d token j other way c v) (silent_in e j other way w)) (sym (of_calls_same (invite_silent other way) v w a))
-      (silenced-alike j other way (is_of_calls (invite_silent other way) (calls_in e w).entries) v w k a))))
+      (subst (λ (whose : Whose). Two (silenced d token j other way whose v) (silent_in e j other way w)) (sym (branches_alike (invite_silent other way) v w a))
+      (silenced-alike j other way (whose_branch (invite_silent other way) (calls_in e w).entries) v w k a))))
 
   abbrev over_in : Directory → (at : ℕ) → TKey → World → World
-  over_in x at key u = ended_of x token at key (is_key_of_calls key (calls_in x u).entries) u
+  over_in x at key u = ended_of x token at key (whose_key key (calls_in x u).entries) u
 
   rung_over : (i j : ℕ) (key other : TKey) (v w : World) → i ≡ j → key ≡ other → K (over_in e j other w).acts → Two v w → Two (over_in d i key v) (over_in e j other w)
   rung_over i j key other v w moment one k a =
       subst (λ (n : ℕ). Two (over_in d n key v) (over_in e j other w)) (sym moment)
       (subst (λ (x : TKey). Two (over_in d j x v) (over_in e j other w)) (sym one)
-      (subst (λ (c : Bool). Two (ended_of d token j other c v) (over_in e j other w)) (sym (key_same other v w a))
-      (ended_of-alike j other (is_key_of_calls other (calls_in e w).entries) v w k a)))
+      (subst (λ (whose : Whose). Two (ended_of d token j other whose v) (over_in e j other w)) (sym (key_same other v w a))
+      (ended_of-alike j other (whose_key other (calls_in e w).entries) v w k a)))
 
   rung-alike : (x y : Due) (v w : World) → blank_due (trusts d) x ≡ blank_due (trusts d) y → K (rung e token y w).acts → Two v w → Two (rung d token x v) (rung e token y w)
   rung-alike (due.Again p i t) (due.Again q j u) v w s k a = again-alike (due.Again p i t) (due.Again q j u) v w s a

@@ -39,7 +39,7 @@ use Rattle.mmtel_run.specs.Deadlines.{Alarm, Deadline, OfAlarm, OfCall, OfMessag
 use Rattle.mmtel_run.specs.Events.{Digest, Nothing, Refused, Heard, Asked, Notice, message_in}
 use Rattle.mmtel_run.specs.Records.{until_of}
 use Rattle.mmtel_run.specs.Refusals.{Course, Refuse, Enter, EnterRoom, Open, OpenRoom, JoinRoom, Register, course}
-use Rattle.mmtel_run.specs.Rooms.{Holder, InCall, InRoom, account_of_side, is_of_calls, is_key_of_calls, is_with, replacement_in, side_replaced, status_by}
+use Rattle.mmtel_run.specs.Rooms.{Holder, InCall, InRoom, OfCalls, OfRooms, Whose, account_of_side, whose_branch, whose_key, is_with, replacement_in, side_replaced, status_by}
 use Rattle.mmtel_run.specs.Run.{after, clock_at, due_in, fire_one, fired_if, one_more, settled}
 use Rattle.mmtel_run.specs.World.{World, acknowledging_by, adopting, adoption_of, alarmed, answering, begun, bringing, calls_in, came, cancelling, cancelling_call, comes_of, drawing, emit_one, emitted, ended_of, entering_room, fired, finishing, handing, heard_in_rooms, heard_now, hearing, holder_in, housed, joining_of, joining_room, lending, lodging, met, next_tag, noticed, opening_of, opening_room, registering, repeating, replaced, replaced_by, replaced_with, replacing, replying, responding_to, room_joined, room_opened, rooms_in, rung, seated, signalled, silenced, taken_out, taking, told, tokens_now}
 
@@ -98,18 +98,18 @@ module _ (P : List Done → Type 0) (older : (x : Done) (h : List Done) → P (x
     pub noticed_before : (at : ℕ) (room : RoomNo) (seat code : ℕ) (w : World) → AllTrue (noticed d token at room seat code w) → AllTrue w
     noticed_before at room seat code w e = housed_before at (rooms.Notifies room.0 seat code (tokens_now token w)) w e
 
-    silenced_before : (at : ℕ) (branch method : List ℕ) (of_calls : Bool) (w : World) → AllTrue (silenced d token at branch method of_calls w) → AllTrue w
-    silenced_before at branch method true w e = signalled_before at (signal.Silent branch method) w e
-    silenced_before at branch method false w e = seated_before at (of_room.Silent branch method) w e
+    silenced_before : (at : ℕ) (branch method : List ℕ) (whose : Whose) (w : World) → AllTrue (silenced d token at branch method whose w) → AllTrue w
+    silenced_before at branch method OfCalls w e = signalled_before at (signal.Silent branch method) w e
+    silenced_before at branch method OfRooms w e = seated_before at (of_room.Silent branch method) w e
 
-    ended_of_before : (at : ℕ) (key : TKey) (of_calls : Bool) (w : World) → AllTrue (ended_of d token at key of_calls w) → AllTrue w
-    ended_of_before at key true w e = signalled_before at (signal.Over key) w e
-    ended_of_before at key false w e = seated_before at (of_room.Over key) w e
+    ended_of_before : (at : ℕ) (key : TKey) (whose : Whose) (w : World) → AllTrue (ended_of d token at key whose w) → AllTrue w
+    ended_of_before at key OfCalls w e = signalled_before at (signal.Over key) w e
+    ended_of_before at key OfRooms w e = seated_before at (of_room.Over key) w e
 
     rung_before : (x : Due) (w : World) → AllTrue (rung d token x w) → AllTrue w
     rung_before (due.Again peer at text) w e = e
-    rung_before (due.Silent key branch method at) w e = silenced_before at branch method (is_of_calls (invite_silent branch method) (calls_in d w).entries) w e
-    rung_before (due.Over key at) w e = ended_of_before at key (is_key_of_calls key (calls_in d w).entries) w e
+    rung_before (due.Silent key branch method at) w e = silenced_before at branch method (whose_branch (invite_silent branch method) (calls_in d w).entries) w e
+    rung_before (due.Over key at) w e = ended_of_before at key (whose_key key (calls_in d w).entries) w e
     rung_before due.Nothing w e = e
 
     alarmed_before : (at : ℕ) (x : Alarm) (w : World) → AllTrue (alarmed d token at x w) → AllTrue w
@@ -211,14 +211,14 @@ module _ (P : List Done → Type 0) (older : (x : Done) (h : List Done) → P (x
       acknowledging_by_before (Some (InCall call side)) w e = signalled_before at (signal.Ack call side s) w e
       acknowledging_by_before (Some (InRoom room seat)) w e = seated_before at (of_room.Ack room seat s) w e
 
-      responding_to_before : (key : TKey) (of_calls : Bool) (w : World) → AllTrue (responding_to d token at key s of_calls w) → AllTrue w
-      responding_to_before key true w e = signalled_before at (signal.Answer key s) w e
-      responding_to_before key false w e = seated_before at (of_room.Answer key s) w e
+      responding_to_before : (key : TKey) (whose : Whose) (w : World) → AllTrue (responding_to d token at key s whose w) → AllTrue w
+      responding_to_before key OfCalls w e = signalled_before at (signal.Answer key s) w e
+      responding_to_before key OfRooms w e = seated_before at (of_room.Answer key s) w e
 
       pub answering_before : (o : Option transaction.Heard) (w : World) → AllTrue (answering d token at s o w) → AllTrue w
       answering_before None w e = e
       answering_before (Some (heard.Fresh key message)) w e = taking_before key (course d (is_merged key.0 (live w.acts)) (are_full (calls_in d w).entries) (holder_in d s.heard w) s.heard) w e
-      answering_before (Some (heard.Answer key message)) w e = responding_to_before key (is_of_calls (invite_answered s) (calls_in d w).entries) w e
+      answering_before (Some (heard.Answer key message)) w e = responding_to_before key (whose_branch (invite_answered s) (calls_in d w).entries) w e
       answering_before (Some (heard.Repeat sent)) w e = repeating_before sent w e
       answering_before (Some (heard.Acked key)) w e = e
       answering_before (Some (heard.Cancel key invite message)) w e = cancelling_before key invite w e

@@ -57,7 +57,7 @@ use Rattle.mmtel_run.specs.Events.{Digest, Notice, message_in}
 use Rattle.mmtel_run.specs.Events as events
 use Rattle.mmtel_run.specs.Records.{in_force, until_of}
 use Rattle.mmtel_run.specs.Refusals.{Course, Refuse, Enter, EnterRoom, Open, OpenRoom, JoinRoom, Register, course}
-use Rattle.mmtel_run.specs.Rooms.{Holder, InCall, InRoom, account_of_side, is_key_of_calls, is_of_calls, is_with, replacement_in, rooms_site, side_replaced, status_by}
+use Rattle.mmtel_run.specs.Rooms.{Holder, InCall, InRoom, OfCalls, OfRooms, Whose, account_of_side, whose_key, whose_branch, is_with, replacement_in, rooms_site, side_replaced, status_by}
 use Rattle.mmtel_run.specs.Run.{clock_at, due_in, fire_one, fired_if, one_more, settled}
 use Rattle.mmtel_run.specs.World.{World, acknowledging_by, adopting, adoption_of, alarmed, answering, begun, bringing, calls_in, came, cancelling, cancelling_call, comes_of, drawing, emit_one, emitted, ended_of, entering_room, finishing, fired, handing, heard_in_rooms, heard_now, hearing, holder_in, housed, joining_of, lending, lodging, met, next_tag, noticed, opening_of, registering, repeating, replaced_by, replaced_with, replacing, replying, responding_to, room_joined, room_opened, rooms_in, rung, seated, signalled, silenced, taken_out, taking, tokens_now, told}
 use Rattle.mmtel_run_laws.proofs.Awaiting.{IsWaiting}
@@ -482,18 +482,18 @@ module _ (d : Directory) (token : List ℕ) (back : LegsGoBack) (own_law : Rooms
 
   -- ---- deadlines
 
-  silenced_still : (at : ℕ) (branch method : List ℕ) (b : Bool) (w : World) → at ≤ now → StillSo w → StillSo (silenced d token at branch method b w)
-  silenced_still at branch method true w le t = signalled_still at (signal.Silent branch method) w le tt t
-  silenced_still at branch method false w le t = seated_still at (of_room.Silent branch method) w tt t
+  silenced_still : (at : ℕ) (branch method : List ℕ) (whose : Whose) (w : World) → at ≤ now → StillSo w → StillSo (silenced d token at branch method whose w)
+  silenced_still at branch method OfCalls w le t = signalled_still at (signal.Silent branch method) w le tt t
+  silenced_still at branch method OfRooms w le t = seated_still at (of_room.Silent branch method) w tt t
 
-  over_still : (at : ℕ) (key : TKey) (b : Bool) (w : World) → at ≤ now → StillSo w → StillSo (ended_of d token at key b w)
-  over_still at key true w le t = signalled_still at (signal.Over key) w le tt t
-  over_still at key false w le t = seated_still at (of_room.Over key) w tt t
+  over_still : (at : ℕ) (key : TKey) (whose : Whose) (w : World) → at ≤ now → StillSo w → StillSo (ended_of d token at key whose w)
+  over_still at key OfCalls w le t = signalled_still at (signal.Over key) w le tt t
+  over_still at key OfRooms w le t = seated_still at (of_room.Over key) w tt t
 
   rung_still : (x : Due) (w : World) → DueBy now x → StillSo w → StillSo (rung d token x w)
   rung_still (due.Again peer at text) w le t = quiet w _ refl refl refl refl (grows_refl w.acts) t
-  rung_still (due.Silent key branch method at) w le t = silenced_still at branch method (is_of_calls (invite_silent branch method) (calls_in d w).entries) w le t
-  rung_still (due.Over key at) w le t = over_still at key (is_key_of_calls key (calls_in d w).entries) w le t
+  rung_still (due.Silent key branch method at) w le t = silenced_still at branch method (whose_branch (invite_silent branch method) (calls_in d w).entries) w le t
+  rung_still (due.Over key at) w le t = over_still at key (whose_key key (calls_in d w).entries) w le t
   rung_still due.Nothing w le t = t
 
   begun_still : (w : World) → StillSo w → StillSo (begun w)
@@ -627,9 +627,9 @@ module _ (d : Directory) (token : List ℕ) (back : LegsGoBack) (own_law : Rooms
     acknowledging_still (Some (InCall call side)) w t = signalled_still now (signal.Ack call side s) w (le_refl now) tt t
     acknowledging_still (Some (InRoom room seat)) w t = seated_still now (of_room.Ack room seat s) w tt t
 
-    responding_still : (key : TKey) (b : Bool) (w : World) → StillSo w → StillSo (responding_to d token now key s b w)
-    responding_still key true w t = signalled_still now (signal.Answer key s) w (le_refl now) tt t
-    responding_still key false w t = seated_still now (of_room.Answer key s) w tt t
+    responding_still : (key : TKey) (whose : Whose) (w : World) → StillSo w → StillSo (responding_to d token now key s whose w)
+    responding_still key OfCalls w t = signalled_still now (signal.Answer key s) w (le_refl now) tt t
+    responding_still key OfRooms w t = seated_still now (of_room.Answer key s) w tt t
 
     -- the message was taken for this
     abbrev heard_as : Part → World → World
@@ -654,7 +654,7 @@ module _ (d : Directory) (token : List ℕ) (back : LegsGoBack) (own_law : Rooms
     said_adds (part.Repeat key) w taken t = (repeating_still _ (heard_as (part.Repeat key) w) (heard_still (part.Repeat key) w taken t)).adds
     said_adds (part.Same key) w taken t = (repeating_still _ (heard_as (part.Same key) w) (heard_still (part.Same key) w taken t)).adds
     said_adds (part.Answer key) w taken t =
-        (responding_still (tkey key) (is_of_calls (invite_answered s) (calls_in d (heard_as (part.Answer key) w)).entries) (heard_as (part.Answer key) w) (heard_still (part.Answer key) w taken t)).adds
+        (responding_still (tkey key) (whose_branch (invite_answered s) (calls_in d (heard_as (part.Answer key) w)).entries) (heard_as (part.Answer key) w) (heard_still (part.Answer key) w taken t)).adds
     said_adds (part.Acked key) w taken t = (heard_still (part.Acked key) w taken t).adds
     said_adds part.AckOf2xx w taken t = (acknowledging_still (holder_in d s.heard (heard_as part.AckOf2xx w)) (heard_as part.AckOf2xx w) (heard_still part.AckOf2xx w taken t)).adds
     said_adds part.Stray w taken t = (heard_still part.Stray w taken t).adds

@@ -5,7 +5,7 @@ use Rattle.std.specs.Str.{bytes_eq}
 use Rattle.mmtel_answers.specs.Answers.{allowed, retry_after}
 use Rattle.mmtel_answers.specs.Requests.{bare, bringing, cancel_of}
 use Rattle.mmtel_answers.specs.Said.{Said, phrase_in, status_of}
-use Rattle.mmtel_call_laws.specs.Branches.Sent.{AreNumbered, Each, IsInvite, IsNoInvite, IsNumbered, LooseWasSent, WasSent, asks_in}
+use Rattle.mmtel_call_laws.specs.Branches.Sent.{AreNumbered, Each, IsInvite, IsNotAwaited, IsNumbered, LooseWasSent, WasSent, asks_in}
 use Rattle.mmtel_charging.specs.Meters.{Noted}
 use Rattle.mmtel_desk.specs.Desks.{drew, emitted, fresh, token}
 use Rattle.mmtel_desk.specs.Invitations.{is_cancellable, knows, sent}
@@ -166,7 +166,7 @@ module _ (was : List ℕ → Peer → Type 0) (site : Site) (text : List ℕ) (l
   invite_last : (from high next : ℕ) (peer : Peer) (m : Message Start) (out : List Emit) → high < next → IsInvite site.sip (token_text text next) m →
       AreNumbered site.sip text from high out →
       AreNumbered site.sip text from next (out ++ emit.Ask peer m ∷ [])
-  invite_last from high next peer m [] lt is are = (next, inr (omega (arith, lt, are), is), omega arith)
+  invite_last from high next peer m [] lt is are = (next, inr (omega (arith, lt, are), record { method = codes "INVITE"; waited_for = refl; request = is }), omega arith)
   invite_last from high next peer m (x ∷ out) lt is are = (are.0, are.1, invite_last are.0 high next peer m out lt is are.2)
 
   emit_goes : (e : Emit) (desk : Desk) → IsQuiet e → Goes desk (emitted e desk)
@@ -205,17 +205,17 @@ module _ (was : List ℕ → Peer → Type 0) (site : Site) (text : List ℕ) (l
   if_goes true desk one two e f = e
   if_goes false desk one two e f = f
 
-  -- ---- what is asked and is no INVITE
+  -- ---- what is asked and has no answer that is waited for
 
-  no_bye : (d : Dialogue) (number : ℕ) (given : Given) → IsNoInvite (numbered d number (codes "BYE") given)
+  no_bye : (d : Dialogue) (number : ℕ) (given : Given) → IsNotAwaited (numbered d number (codes "BYE") given)
   no_bye d number given None = refl
   no_bye d number given (Some five) = refl
 
-  no_notify : (d : Dialogue) (number : ℕ) (given : Given) → IsNoInvite (numbered d number (codes "NOTIFY") given)
+  no_notify : (d : Dialogue) (number : ℕ) (given : Given) → IsNotAwaited (numbered d number (codes "NOTIFY") given)
   no_notify d number given None = refl
   no_notify d number given (Some five) = refl
 
-  no_cancel : (d : Dialogue) (number : ℕ) (given : Given) → IsNoInvite (numbered d number (codes "CANCEL") given)
+  no_cancel : (d : Dialogue) (number : ℕ) (given : Given) → IsNotAwaited (numbered d number (codes "CANCEL") given)
   no_cancel d number given None = refl
   no_cancel d number given (Some five) = refl
 
@@ -502,7 +502,7 @@ module _ (was : List ℕ → Peer → Type 0) (site : Site) (text : List ℕ) (l
       if_moves (SeatIs seat) (is_method (codes "INVITE") m.heard.start) s _ _ (on_invite_moves now key m place seat s)
       (if_moves (SeatIs seat) (is_method (codes "BYE") m.heard.start) s _ _ (on_bye_moves now key m place seat s)
       (if_moves (SeatIs seat) (is_method (codes "REFER") m.heard.start) s _ _ (on_referral_moves now key m (referral_in m.heard.refer_to) place seat s)
-      (if_moves (SeatIs seat) (is_method (codes "OPTIONS") m.heard.start) s _ _ (answered_moves key m 200 allowed place seat s) (refused_moves key m 481 place seat s))))
+      (if_moves (SeatIs seat) (is_method (codes "OPTIONS") m.heard.start) s _ _ (answered_moves key m 200 (allowed site.methods) place seat s) (refused_moves key m 481 place seat s))))
 
   unheard_moves : (key : TKey) (m : Said) (fault : DialogueFault) → RowMoves (requests.unheard site key m fault)
   unheard_moves key m (OldCSeq last) place seat s = refused_moves key m 500 place seat s

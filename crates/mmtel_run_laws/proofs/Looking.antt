@@ -220,9 +220,9 @@ module _ (agree : LookUpsAgree) where
       let of_events : List Uri = flat_map (λ (event : ℕ × MaskedDigest). looked_up_by d.home event.1) masked.events in
       let all : AllAgree xs ys (of_records ++ of_events) = all_agree renamed d e renames (looked_up d.home records masked) neutral.here neutral.there in (
         record {
-          equal = record { sip = renames.sip; home = renames.home; factory = renames.factory; mixer = renames.mixer; peers = renames.peers };
+          equal = record { sip = renames.sip; home = renames.home; factory = renames.factory; reliable = renames.reliable; timer = renames.timer; mwi = renames.mwi; mixer = renames.mixer; peers = renames.peers };
           configured = record {
-            equal = record { sip = renames.sip; home = renames.home; bound = renames.bound; country = renames.country; peers = renames.peers };
+            equal = record { sip = renames.sip; home = renames.home; bound = renames.bound; country = renames.country; reliable = renames.reliable; timer = renames.timer; mwi = renames.mwi; peers = renames.peers };
             lead = λ sheet is forward does. in_record xs ys d.home records (front xs ys of_records of_events all) sheet is forward does;
           };
         },
@@ -237,6 +237,6 @@ none_in none es (u ∷ us) = ap (λ (b : Bool). b && list_all (names_none [] es)
 
 pub nobody_is_renamed : NoneAreNamed → NobodyIsRenamed
 nobody_is_renamed none d records masked = (
-  record { sip = refl; home = refl; peers = refl; factory = refl; bound = refl; country = refl; mixer = refl; others = refl },
+  record { sip = refl; home = refl; peers = refl; factory = refl; bound = refl; country = refl; reliable = refl; timer = refl; mwi = refl; mixer = refl; others = refl },
   record { here = none_in none d.names.accounts (looked_up d.home records masked); there = none_in none d.names.accounts (looked_up d.home records masked) },
 )

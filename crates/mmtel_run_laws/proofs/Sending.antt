@@ -74,7 +74,7 @@ use Rattle.mmtel_run.specs.Events as events
 use Rattle.mmtel_run.specs.InForce.{CallsAreToldWhatIsInForce}
 use Rattle.mmtel_run.specs.Records.{in_force}
 use Rattle.mmtel_run.specs.Refusals.{Course, Refuse, Enter, EnterRoom, Open, OpenRoom, JoinRoom, Register, course}
-use Rattle.mmtel_run.specs.Rooms.{Holder, InCall, InRoom, account_of_side, is_key_of_calls, is_of_calls, is_with, leg_by, replacement_in, rooms_site, side_replaced, status_by}
+use Rattle.mmtel_run.specs.Rooms.{Holder, InCall, InRoom, OfCalls, OfRooms, Whose, account_of_side, whose_key, whose_branch, is_with, leg_by, replacement_in, rooms_site, side_replaced, status_by}
 use Rattle.mmtel_run.specs.Run.{after, clock_at, due_in, fire_one, fired_if, one_more, settled, world_after}
 use Rattle.mmtel_run.specs.World.{World, acknowledging_by, acting, adopting, adoption_of, alarmed, answering, beginning, begun, bringing, calls_in, came, cancelling, cancelling_call, comes_of, drawing, emit_one, emitted, ended_of, entering_room, finishing, fired, handing, heard_in_rooms, heard_now, hearing, holder_in, housed, joining_of, lending, lodging, met, next_tag, noticed, offering, opening_of, registering, repeating, replaced_by, replaced_with, replacing, replying, replying_plainly, responding_to, room_joined, room_opened, rooms_in, rung, seated, signalled, silenced, taken_out, taking, to_peer, tokens_now, told}
 use Rattle.mmtel_run_laws.specs.Clean.{AllAreClean, Builds, IsHeardIn, IsOwnAck, IsOwnAct, IsOwnOffer, IsOwnReply, IsSentIn, plain_reply}
@@ -278,18 +278,18 @@ module _ (d : Directory) (whole : List Happened) (own_law : (m : Message Start) 
 
     -- ---- deadlines
 
-    silenced_good : (at : ℕ) (branch method : List ℕ) (b : Bool) (w : World) → Good d whole w → Good d whole (silenced d token at branch method b w)
-    silenced_good at branch method true w g = signalled_good at (signal.Silent branch method) w tt tt g
-    silenced_good at branch method false w g = seated_good at (of_room.Silent branch method) w tt g
+    silenced_good : (at : ℕ) (branch method : List ℕ) (whose : Whose) (w : World) → Good d whole w → Good d whole (silenced d token at branch method whose w)
+    silenced_good at branch method OfCalls w g = signalled_good at (signal.Silent branch method) w tt tt g
+    silenced_good at branch method OfRooms w g = seated_good at (of_room.Silent branch method) w tt g
 
-    over_good : (at : ℕ) (key : TKey) (b : Bool) (w : World) → Good d whole w → Good d whole (ended_of d token at key b w)
-    over_good at key true w g = signalled_good at (signal.Over key) w tt tt g
-    over_good at key false w g = seated_good at (of_room.Over key) w tt g
+    over_good : (at : ℕ) (key : TKey) (whose : Whose) (w : World) → Good d whole w → Good d whole (ended_of d token at key whose w)
+    over_good at key OfCalls w g = signalled_good at (signal.Over key) w tt tt g
+    over_good at key OfRooms w g = seated_good at (of_room.Over key) w tt g
 
     rung_good : (x : Due) (w : World) → IsOwnDue (IsSentIn w.acts) x → Good d whole w → Good d whole (rung d token x w)
     rung_good (due.Again peer at text) w t g = plain_good d whole at peer text w (inl t) g
-    rung_good (due.Silent key branch method at) w t g = silenced_good at branch method (is_of_calls (invite_silent branch method) (calls_in d w).entries) w g
-    rung_good (due.Over key at) w t g = over_good at key (is_key_of_calls key (calls_in d w).entries) w g
+    rung_good (due.Silent key branch method at) w t g = silenced_good at branch method (whose_branch (invite_silent branch method) (calls_in d w).entries) w g
+    rung_good (due.Over key at) w t g = over_good at key (whose_key key (calls_in d w).entries) w g
     rung_good due.Nothing w t g = g
 
     fires_good : (o : Option Next) (w : World) → Good d whole w → Good d whole (record w { acts = fires w.acts o })
@@ -427,9 +427,9 @@ module _ (d : Directory) (whole : List Happened) (own_law : (m : Message Start) 
           (acked_heard d whole (site_of d) side s (entry_of call.0 (calls_in d w).entries) (record { heard = met.heard s refl; is_ack = ack })) g
       acknowledging_good (Some (InRoom room seat)) w ack g = seated_good at (of_room.Ack room seat s) w well.of g
 
-      responding_good : (key : TKey) (b : Bool) (w : World) → Good d whole w → Good d whole (responding_to d token at key s b w)
-      responding_good key true w g = signalled_good at (signal.Answer key s) w well.of tt g
-      responding_good key false w g = seated_good at (of_room.Answer key s) w well.of g
+      responding_good : (key : TKey) (whose : Whose) (w : World) → Good d whole w → Good d whole (responding_to d token at key s whose w)
+      responding_good key OfCalls w g = signalled_good at (signal.Answer key s) w well.of tt g
+      responding_good key OfRooms w g = seated_good at (of_room.Answer key s) w well.of g
 
       opened_good : (is_cancel : Bool) (n : ℕ) (invited : Option TKey) (w : World) → Good d whole w → Good d whole (answering d token at s (Some (says_opened is_cancel n invited (message_in s.heard))) w)
       opened_good true n invited w g = cancelling_good (tkey n) invited w g
@@ -471,7 +471,7 @@ module _ (d : Directory) (whole : List Happened) (own_law : (m : Message Start) 
       said_good (part.Repeat key) w is g = repeating_good _ (heard_as (part.Repeat key) w) (again_still (part.Repeat key) _ w (repeat_own w.acts s.peer key g.acts)) (heard_good (part.Repeat key) w is g)
       said_good (part.Same key) w is g = repeating_good _ (heard_as (part.Same key) w) (again_still (part.Same key) _ w (same_again w.acts key g.acts)) (heard_good (part.Same key) w is g)
       said_good (part.Answer key) w is g =
-          responding_good (tkey key) (is_of_calls (invite_answered s) (calls_in d (heard_as (part.Answer key) w)).entries) (heard_as (part.Answer key) w) (heard_good (part.Answer key) w is g)
+          responding_good (tkey key) (whose_branch (invite_answered s) (calls_in d (heard_as (part.Answer key) w)).entries) (heard_as (part.Answer key) w) (heard_good (part.Answer key) w is g)
       said_good (part.Acked key) w is g = heard_good (part.Acked key) w is g
       said_good part.AckOf2xx w is g = acknowledging_good (holder_in d s.heard (heard_as part.AckOf2xx w)) (heard_as part.AckOf2xx w)
           (is_ack_heard (message_in s.heard) (live w.acts) is) (heard_good part.AckOf2xx w is g)

@@ -64,7 +64,7 @@ use Rattle.mmtel_run.specs.Deadlines.{Alarm, Deadline, OfAlarm, OfCall, OfMessag
 use Rattle.mmtel_run.specs.Events.{Asked, Digest, Heard, Notice, Nothing, Refused, message_in}
 use Rattle.mmtel_run.specs.Records.{until_of}
 use Rattle.mmtel_run.specs.Refusals.{Course, Enter, EnterRoom, JoinRoom, Open, OpenRoom, Refuse, Register, course}
-use Rattle.mmtel_run.specs.Rooms.{Holder, InCall, InRoom, account_of_side, is_key_of_calls, is_of_calls, is_with, leg_by, replacement_in, rooms_site, side_replaced, status_by}
+use Rattle.mmtel_run.specs.Rooms.{Holder, InCall, InRoom, OfCalls, OfRooms, Whose, account_of_side, whose_key, whose_branch, is_with, leg_by, replacement_in, rooms_site, side_replaced, status_by}
 use Rattle.mmtel_run.specs.Run.{after, clock_at, due_in, fire_one, fired_if, one_more, settled}
 use Rattle.mmtel_run.specs.Short.{tokens_of}
 use Rattle.mmtel_run.specs.World.{World, acknowledging_by, adopting, adoption_of, alarmed, answering, begun, beginning, bringing, calls_in, cancelling, cancelling_call, comes_of, drawing, emit_one, emitted, ended_of, entering_room, fired, finishing, handing, heard_in_rooms, heard_now, hearing, holder_in, housed, joining_of, joining_room, lending, lodging, met, next_tag, noticed, opening_room, registering, repeating, replaced, replaced_by, replaced_with, replacing, replying, responding_to, room_joined, room_opened, rooms_in, rung, seated, signalled, silenced, taken_out, taking, told, tokens_now, turned_away}
@@ -481,13 +481,13 @@ module _ (d : Directory) (token : List ℕ) where
     handing_goes false (row ∷ rows) w = same w
     handing_goes true (row ∷ rows) w = record { early = λ had less. less; holds = λ had. record { calls_sent = had.calls_sent; rooms_sent = had.rooms_sent; numbered = had.numbered } }
 
-    silenced_goes : (at : ℕ) (branch method : List ℕ) (of_calls : Bool) (w : World) → Goes w (silenced d token at branch method of_calls w)
-    silenced_goes at branch method true w = signalled_goes at (signal.Silent branch method) w
-    silenced_goes at branch method false w = seated_goes at (of_room.Silent branch method) w
+    silenced_goes : (at : ℕ) (branch method : List ℕ) (whose : Whose) (w : World) → Goes w (silenced d token at branch method whose w)
+    silenced_goes at branch method OfCalls w = signalled_goes at (signal.Silent branch method) w
+    silenced_goes at branch method OfRooms w = seated_goes at (of_room.Silent branch method) w
 
-    ended_of_goes : (at : ℕ) (key : TKey) (of_calls : Bool) (w : World) → Goes w (ended_of d token at key of_calls w)
-    ended_of_goes at key true w = signalled_goes at (signal.Over key) w
-    ended_of_goes at key false w = seated_goes at (of_room.Over key) w
+    ended_of_goes : (at : ℕ) (key : TKey) (whose : Whose) (w : World) → Goes w (ended_of d token at key whose w)
+    ended_of_goes at key OfCalls w = signalled_goes at (signal.Over key) w
+    ended_of_goes at key OfRooms w = seated_goes at (of_room.Over key) w
 
     alarmed_goes : (at : ℕ) (x : Alarm) (w : World) → Goes w (alarmed d token at x w)
     alarmed_goes at (OfCall call what) w = signalled_goes at (signal.Due call what) w
@@ -495,8 +495,8 @@ module _ (d : Directory) (token : List ℕ) where
 
     rung_goes : (x : Due) (w : World) → Goes w (rung d token x w)
     rung_goes (due.Again peer at text) w = drew_more w _ 0 refl (omega arith) refl refl
-    rung_goes (due.Silent key branch method at) w = silenced_goes at branch method (is_of_calls (invite_silent branch method) (calls_in d w).entries) w
-    rung_goes (due.Over key at) w = ended_of_goes at key (is_key_of_calls key (calls_in d w).entries) w
+    rung_goes (due.Silent key branch method at) w = silenced_goes at branch method (whose_branch (invite_silent branch method) (calls_in d w).entries) w
+    rung_goes (due.Over key at) w = ended_of_goes at key (whose_key key (calls_in d w).entries) w
     rung_goes due.Nothing w = same w
 
     fires_goes : (o : Option Next) (w : World) → Goes w (record w { acts = fires w.acts o })
@@ -613,14 +613,14 @@ module _ (d : Directory) (token : List ℕ) where
       acknowledging_goes (Some (InCall call side)) w = signalled_goes at (signal.Ack call side s) w
       acknowledging_goes (Some (InRoom room seat)) w = seated_goes at (of_room.Ack room seat s) w
 
-      responding_goes : (key : TKey) (of_calls : Bool) (w : World) → Goes w (responding_to d token at key s of_calls w)
-      responding_goes key true w = signalled_goes at (signal.Answer key s) w
-      responding_goes key false w = seated_goes at (of_room.Answer key s) w
+      responding_goes : (key : TKey) (whose : Whose) (w : World) → Goes w (responding_to d token at key s whose w)
+      responding_goes key OfCalls w = signalled_goes at (signal.Answer key s) w
+      responding_goes key OfRooms w = seated_goes at (of_room.Answer key s) w
 
       answering_goes : (o : Option transaction.Heard) (w : World) → Goes w (answering d token at s o w)
       answering_goes None w = drew_more w _ (tags_due s.heard.to_tag) refl refl refl refl
       answering_goes (Some (heard.Fresh key message)) w = taking_goes key (course d (is_merged key.0 (live w.acts)) (are_full (calls_in d w).entries) (holder_in d s.heard w) s.heard) w
-      answering_goes (Some (heard.Answer key message)) w = responding_goes key (is_of_calls (invite_answered s) (calls_in d w).entries) w
+      answering_goes (Some (heard.Answer key message)) w = responding_goes key (whose_branch (invite_answered s) (calls_in d w).entries) w
       answering_goes (Some (heard.Repeat sent)) w = repeating_goes sent w
       answering_goes (Some (heard.Acked key)) w = same w
       answering_goes (Some (heard.Cancel key invite message)) w = cancelling_goes key invite w

@@ -44,7 +44,7 @@ use Rattle.mmtel_types.specs.declared.sides.Side.{Side}
 use Rattle.mmtel_run.specs.Alike.{trusts}
 use Rattle.mmtel_run.specs.Calls.{named_by, site_of}
 use Rattle.mmtel_run.specs.Events.{message_in}
-use Rattle.mmtel_run.specs.Rooms.{is_of_calls}
+use Rattle.mmtel_run.specs.Rooms.{OfCalls, OfRooms, Whose, calls_or_rooms, is_of_calls, whose_branch}
 use Rattle.mmtel_run.specs.World.{World, calls_in, rooms_in}
 use Rattle.mmtel_run_laws.specs.Alike.{InviteIsTied, IsOfOne, MessageIsTied, SeatAnswerIsTied}
 use Rattle.mmtel_run_laws.specs.Belonging.{answer_role, answer_role_by, answered_role, asked_at, asked_in, comes_from, dialog_role, hides_caller, is_opening, loose_at, named_role, of_invite, of_loose, of_seat, request_role_of, response_role_of, role_as, role_in_answer, role_in_seat_answer, role_of, seat_answer_role, seat_asked, unshown_request}
@@ -149,6 +149,15 @@ module _ (wholes : MessagesAreWhole) (d : Directory) (keys : TKey → Bool) (x :
   abbrev table : Table
   table = rooms_in x u
 
+  -- what is of the rooms is of no call
+  abbrev calls_have : Whose → Bool
+  calls_have OfCalls = true
+  calls_have OfRooms = false
+
+  of_no_call : (b : Bool) → calls_or_rooms b ≡ OfRooms → b ≡ false
+  of_no_call true e = ap calls_have e
+  of_no_call false e = refl
+
   none_of : (o : Option ℕ) → is_some o ≡ false → o ≡ None
   none_of None e = refl
   none_of (Some place) e = absurd (true_false e)
@@ -211,9 +220,12 @@ module _ (wholes : MessagesAreWhole) (d : Directory) (keys : TKey → Bool) (x :
         let t = tie.seat at place room seat found got asked_there got_too in
         record { invite = invite_by seat.invite (λ hidden. (its hidden).1) t.invite; leg = answer_of (dialogue_of seat).peer (λ hidden. (its hidden).0) t.leg }
 
-  pub seat_hears : (key : ℕ) → part_of (head_of (message_in m.heard)) (live u.acts) ≡ part.Answer key → is_of_calls (invite_answered m) entries ≡ false → Answers S (tkey key) (record { said = m; role = role_of x u m }) table
-  seat_hears key p none = by (invite_answered m) refl
+  pub seat_hears : (key : ℕ) → part_of (head_of (message_in m.heard)) (live u.acts) ≡ part.Answer key → whose_branch (invite_answered m) entries ≡ OfRooms → Answers S (tkey key) (record { said = m; role = role_of x u m }) table
+  seat_hears key p rooms = by (invite_answered m) refl
     where
+      none : is_of_calls (invite_answered m) entries ≡ false
+      none = of_no_call (is_of_calls (invite_answered m) entries) rooms
+
       by : (o : Option (List ℕ)) → invite_answered m ≡ o → IsAnswerBy S (tkey key) (record { said = m; role = role_of x u m }) o table
       by None is = tt
       by (Some branch) is = record { loose = of_left key p none branch is; seat = of_asked key p none branch is }

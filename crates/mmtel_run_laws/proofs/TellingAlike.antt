@@ -8,7 +8,7 @@ use Rattle.mmtel_b2bua.specs.declared.signals.Signal.TheVariants as signal
 use Rattle.mmtel_b2bua_laws.specs.Alike.{AlikeTables}
 use Rattle.mmtel_b2bua_laws.specs.AlikeDeeds.{TablesStayAlike}
 use Rattle.mmtel_b2bua_laws.specs.Signals.{public_signal}
-use Rattle.mmtel_desk.specs.Invites.{answers_invite, branch_in, invite_answered}
+use Rattle.mmtel_desk.specs.Invites.{answers_awaited, branch_in, invite_answered}
 use Rattle.mmtel_call_laws.specs.Secret.Common.{MessagesAreWhole}
 use Rattle.mmtel_call_laws.specs.Secret.Parts.{nobody}
 use Rattle.mmtel_call_laws.specs.Secret.Premises.{DecideAlike, IsAsked}
@@ -68,7 +68,7 @@ use Rattle.mmtel_run.specs.Events.{message_in}
 use Rattle.mmtel_run.specs.InForce.{CallsAreToldWhatIsInForce}
 use Rattle.mmtel_run.specs.Records.{until_of}
 use Rattle.mmtel_run.specs.Refusals.{Course, Enter, EnterRoom, JoinRoom, Open, OpenRoom, Refuse, Register, course, registrant}
-use Rattle.mmtel_run.specs.Rooms.{Holder, InCall, InRoom, accepts, find_seat, in_call_or, in_room, is_accepted, is_of_calls, leg_by, replacement_in, replaces_by, seat_by, status_by}
+use Rattle.mmtel_run.specs.Rooms.{Holder, InCall, InRoom, OfCalls, OfRooms, Whose, accepts, find_seat, in_call_or, in_room, is_accepted, whose_branch, leg_by, replacement_in, replaces_by, seat_by, status_by}
 use Rattle.mmtel_run.specs.View.{view}
 use Rattle.mmtel_run.specs.World.{World, acknowledging, acknowledging_by, answering, calls_in, cancelling, cancelling_call, comes_of, drawing, emit_one, entering_room, heard_in_rooms, hearing, holder_in, housed, joining_room, lodging, next_tag, offering, opening_room, registering, repeating, replacing, replying, replying_plainly, responding, responding_to, room_joined, room_opened, rooms_in, seated, taking, taking_fresh, told, tokens_now, turned_away}
 use Rattle.mmtel_run_laws.specs.Alike.{CallerLooksUp, LooksUp, MessageIsTied, SiteAlike}
@@ -77,7 +77,7 @@ use Rattle.mmtel_run_laws.specs.Mask.{Tests, asked_by as asked_in, tests_beside,
 use Rattle.mmtel_run_laws.proofs.Adopting.{access_same, find_same, replacing-alike}
 use Rattle.mmtel_run_laws.proofs.Callers.{decide-alike}
 use Rattle.mmtel_run_laws.proofs.CourseKinds.{enters_named, fresh_request, of_call, opens, opens_opening}
-use Rattle.mmtel_run_laws.proofs.Deeds.{Laws, Says, bare, housed-alike, lodging-alike, of_calls_same, seated-alike, seen-alike, signalled-alike, tables_alike, tokens_same}
+use Rattle.mmtel_run_laws.proofs.Deeds.{Laws, Says, bare, branches_alike, housed-alike, lodging-alike, seated-alike, seen-alike, signalled-alike, tables_alike, tokens_same}
 use Rattle.mmtel_run_laws.proofs.Emitting.{Knows, Pair, acting-alike, drawing-alike, offering-alike, one_offer, plain-alike, reply-alike}
 use Rattle.mmtel_run_laws.proofs.Fits.{true_false}
 use Rattle.mmtel_run_laws.proofs.Growing.{answering_before, replacing_before}
@@ -569,25 +569,25 @@ module _ (below : Below) (records : List Sheet) (d e : Directory) (token : List 
 
     branch_same : invite_answered m ≡ invite_answered n
     unfolding invite_answered
-    branch_same = ap (λ (x : Said). if answers_invite x.heard.cseq then branch_in x.heard.vias else None) same
+    branch_same = ap (λ (x : Said). if answers_awaited x.heard.cseq then branch_in x.heard.vias else None) same
 
-    responding_to-alike : (key : ℕ) (c : Bool) (x y : World) → Two (record v { acts = x.acts }) (record w { acts = y.acts }) → part_of (head_of M) (live v.acts) ≡ part.Answer key → part_of (head_of N) (live w.acts) ≡ part.Answer key
-        → is_of_calls (invite_answered m) (calls_in d v).entries ≡ c → is_of_calls (invite_answered n) (calls_in e w).entries ≡ c → K (responding_to e token at (tkey key) n c (record w { acts = y.acts })).acts
-        → Two (responding_to d token at (tkey key) m c (record v { acts = x.acts })) (responding_to e token at (tkey key) n c (record w { acts = y.acts }))
-    responding_to-alike key true x y b p q one two k =
+    responding_to-alike : (key : ℕ) (whose : Whose) (x y : World) → Two (record v { acts = x.acts }) (record w { acts = y.acts }) → part_of (head_of M) (live v.acts) ≡ part.Answer key → part_of (head_of N) (live w.acts) ≡ part.Answer key
+        → whose_branch (invite_answered m) (calls_in d v).entries ≡ whose → whose_branch (invite_answered n) (calls_in e w).entries ≡ whose → K (responding_to e token at (tkey key) n whose (record w { acts = y.acts })).acts
+        → Two (responding_to d token at (tkey key) m whose (record v { acts = x.acts })) (responding_to e token at (tkey key) n whose (record w { acts = y.acts }))
+    responding_to-alike key OfCalls x y b p q one two k =
         signalled-alike below.texts below.tables below.told below.laws records d e token keys sites K older knows at (signal.Answer (tkey key) m) (signal.Answer (tkey key) n) r s (record v { acts = x.acts }) (record w { acts = y.acts }) b (answer_says key x y p q) k
-    responding_to-alike key false x y b p q one two k =
+    responding_to-alike key OfRooms x y b p q one two k =
         seated-alike below.texts below.tables below.told below.laws records d e token keys sites K older knows at (both.Answer (tkey key) pair) (record v { acts = x.acts }) (record w { acts = y.acts }) b
         (same, seat_hears below.wholes d keys d (λ peer. refl) v knows_one m told_one tied key p one, seat_hears below.wholes d keys e trusts_same w (knows w.acts kw) n told_two tied_too key q two) tt k
 
     responding-alike : (key : ℕ) (x y : World) → Two (record v { acts = x.acts }) (record w { acts = y.acts }) → part_of (head_of M) (live v.acts) ≡ part.Answer key → part_of (head_of N) (live w.acts) ≡ part.Answer key
         → K (responding e token at (tkey key) n (record w { acts = y.acts })).acts → Two (responding d token at (tkey key) m (record v { acts = x.acts })) (responding e token at (tkey key) n (record w { acts = y.acts }))
     responding-alike key x y b p q k =
-        let of_two : Bool = is_of_calls (invite_answered n) (calls_in e w).entries in
-        let calls_same : is_of_calls (invite_answered m) (calls_in d v).entries ≡ of_two =
-        of_calls_same below.texts below.tables below.told below.laws records d e token keys sites K older knows (invite_answered m) v w a ∙ ap (λ (o : Option (List ℕ)). is_of_calls o (calls_in e w).entries) branch_same in
-        subst (λ (c : Bool). Two (responding_to d token at (tkey key) m c (record v { acts = x.acts })) (responding e token at (tkey key) n (record w { acts = y.acts }))) (sym calls_same)
-        (responding_to-alike key of_two x y b p q calls_same refl k)
+        let of_two : Whose = whose_branch (invite_answered n) (calls_in e w).entries in
+        let whose_same : whose_branch (invite_answered m) (calls_in d v).entries ≡ of_two =
+        branches_alike below.texts below.tables below.told below.laws records d e token keys sites K older knows (invite_answered m) v w a ∙ ap (λ (o : Option (List ℕ)). whose_branch o (calls_in e w).entries) branch_same in
+        subst (λ (whose : Whose). Two (responding_to d token at (tkey key) m whose (record v { acts = x.acts })) (responding e token at (tkey key) n (record w { acts = y.acts }))) (sym whose_same)
+        (responding_to-alike key of_two x y b p q whose_same refl k)
 
     -- ---- by what the transactions take it for
 

@@ -63,7 +63,7 @@ use Rattle.mmtel_run_laws.specs.Alike.{AckIsTied, AllTied, DigestIsTied, InviteI
 use Rattle.mmtel_run_laws.specs.Secret.{BranchesAreRead, RunsAreTied}
 use Rattle.mmtel_run_laws.specs.Invited.{InviteWasSent, RoomWasSent, SeatWasSent}
 use Rattle.mmtel_run_laws.specs.Mask.{coming}
-use Rattle.mmtel_run_laws.proofs.Acts.{answer_sent, asks_of, sent_once}
+use Rattle.mmtel_run_laws.proofs.Acts.{AwaitedWasSent, answer_sent, asks_of, invite_awaited, sent_once}
 use Rattle.mmtel_run_laws.proofs.Branches.{WasRead, answers, text_same}
 use Rattle.mmtel_run_laws.proofs.CourseKinds.{answer_response, head_request}
 use Rattle.mmtel_run_laws.proofs.Fits.{true_false}
@@ -125,8 +125,15 @@ module _ (differ : TokensDiffer) (owners : OwnersAreLive)
     abbrev Was : List ℕ → Peer → Type 0
     Was = WasSent d.sip (asks_of w.acts)
 
-    one_peer : (branch : List ℕ) (one other : Peer) → Was branch one → Was branch other → one ≡ other
-    one_peer branch one other is too = sent_once d.sip token differ (suc w.drawn) (asks_of w.acts) branch one other (omega (arith, early)) (had.numbered early) is too
+    -- a request of this branch whose answer is waited for went to this peer
+    abbrev Went : List ℕ → Peer → Type 0
+    Went = AwaitedWasSent d.sip token (asks_of w.acts)
+
+    went : (branch : List ℕ) (peer : Peer) → Was branch peer → Went branch peer
+    went branch peer was = invite_awaited d.sip token (asks_of w.acts) branch peer was
+
+    one_peer : (branch : List ℕ) (one other : Peer) → Went branch one → Was branch other → one ≡ other
+    one_peer branch one other is too = sent_once d.sip token differ (suc w.drawn) (asks_of w.acts) branch one other (omega (arith, early)) (had.numbered early) is (went branch other too)
 
     entry_sent : (at : ℕ) (e : Entry) → slice_get (calls_in d w).entries at ≡ Some e → CallWasSent Was e.call
     entry_sent at e got = each_at (EntryWasSent d.sip (asks_of w.acts)) (calls_in d w).entries at e had.calls_sent got
@@ -154,7 +161,7 @@ module _ (differ : TokensDiffer) (owners : OwnersAreLive)
                 (with_branch Was t.invitation.branch branch t.invitation.dialogue.peer (passes (is_taken branch) c.taken place t there at_it) (each_at (TakenWasSent Was) c.taken place t sent.others_in.taken_in at_it));
           }
         where
-          tie : (key : ℕ) (q : Peer) → peer_of key (live w.acts) ≡ Some q → (branch : List ℕ) → Was branch q → (peer : Peer) → Was branch peer → IsOfOne d w (record { 0 = key }) peer
+          tie : (key : ℕ) (q : Peer) → peer_of key (live w.acts) ≡ Some q → (branch : List ℕ) → Went branch q → (peer : Peer) → Was branch peer → IsOfOne d w (record { 0 = key }) peer
           tie key q of_q branch was peer too = ap (option_map (trusts d)) of_q ∙ ap (λ (p : Peer). Some (trusts d p)) (one_peer branch q peer was too)
 
     -- a response of a seat
@@ -177,7 +184,7 @@ module _ (differ : TokensDiffer) (owners : OwnersAreLive)
                 record { invite = both.0; leg = both.1 };
           }
         where
-          tie : (key : ℕ) (q : Peer) → peer_of key (live w.acts) ≡ Some q → (branch : List ℕ) → Was branch q → (peer : Peer) → Was branch peer → IsOfOne d w (record { 0 = key }) peer
+          tie : (key : ℕ) (q : Peer) → peer_of key (live w.acts) ≡ Some q → (branch : List ℕ) → Went branch q → (peer : Peer) → Was branch peer → IsOfOne d w (record { 0 = key }) peer
           tie key q of_q branch was peer too = ap (option_map (trusts d)) of_q ∙ ap (λ (p : Peer). Some (trusts d p)) (one_peer branch q peer was too)
 
           tied_by : (key : ℕ) (branch : List ℕ) (peer : Peer) (o : Option Invite) → ((q : Peer) → Was branch q → IsOfOne d w (record { 0 = key }) q) → is_sent branch o ≡ true → InviteWasSent Was peer o →
@@ -192,8 +199,9 @@ module _ (differ : TokensDiffer) (owners : OwnersAreLive)
     ack_in (Stood x (Answered waiting success)) c side m is e = λ acks taken among of.
         let same : waiting ≡ side = side_is waiting side (and_true (is_same_side waiting side) (is_same_number (number_of m) success.cseq) acks).0 in
         let across : Was success.branch (leg_of (other_of side) x).dialogue.peer = subst (λ (s : Side). Was success.branch (leg_of (other_of s) x).dialogue.peer) same is in
-        ap (trusts d) (one_peer success.branch taken.invitation.dialogue.peer (leg_of (other_of side) x).dialogue.peer
-        (with_branch Was taken.invitation.branch success.branch taken.invitation.dialogue.peer of (member (TakenWasSent Was) c.taken taken among e)) across)
+        let its : Was success.branch taken.invitation.dialogue.peer =
+        with_branch Was taken.invitation.branch success.branch taken.invitation.dialogue.peer of (member (TakenWasSent Was) c.taken taken among e) in
+        ap (trusts d) (one_peer success.branch taken.invitation.dialogue.peer (leg_of (other_of side) x).dialogue.peer (went success.branch taken.invitation.dialogue.peer its) across)
     ack_in (Stood x (Parting waiting success)) c side m is e = tt
     ack_in (Stood x Talking) c side m is e = tt
     ack_in (Stood x (Asking asking q)) c side m is e = tt

@@ -53,7 +53,7 @@ use Rattle.mmtel_run.specs.Deadlines.{Alarm, Armed, Chosen, Deadline, OfAlarm, O
 use Rattle.mmtel_run.specs.Events.{Digest, Nothing, Refused, Heard, Asked, message_in}
 use Rattle.mmtel_run.specs.Records.{until_of}
 use Rattle.mmtel_run.specs.Refusals.{Course, Refuse, Enter, EnterRoom, Open, OpenRoom, JoinRoom, Register, course}
-use Rattle.mmtel_run.specs.Rooms.{Holder, InCall, InRoom, account_of_side, is_key_of_calls, is_of_calls, is_with, replacement_in, side_replaced, status_by}
+use Rattle.mmtel_run.specs.Rooms.{Holder, InCall, InRoom, OfCalls, OfRooms, Whose, account_of_side, whose_key, whose_branch, is_with, replacement_in, side_replaced, status_by}
 use Rattle.mmtel_run.specs.Run.{due_in, fire_one, fired_if}
 use Rattle.mmtel_run.specs.World.{World, acknowledging_by, adopting, adoption_of, alarmed, answering, begun, bringing, calls_in, came, cancelling, cancelling_call, comes_of, drawing, emit_one, emitted, ended_of, entering_room, finishing, fired, handing, heard_in_rooms, heard_now, hearing, holder_in, housed, keeping, joining_of, lending, lodging, met, next_tag, noticed, offering, opening_of, refusing, registering, repeating, replaced, replaced_by, replaced_with, replacing, replying, replying_plainly, responding_to, room_joined, room_opened, rooms_in, rung, seated, serving, signalled, silenced, taken_out, taking, told, tokens_now, turned_away}
 use Rattle.mmtel_run_laws.specs.Timed.{IsCallDeedAt, IsOfferAt, IsRoomDeedAt, moment_due, moment_if}
@@ -141,13 +141,13 @@ module _ (d : Directory) (token : List ℕ) (R : ℕ → World → World → Typ
 
   -- ---- deadlines
 
-  silenced_at : (at : ℕ) (branch method : List ℕ) (of_calls : Bool) → Walks at (silenced d token at branch method of_calls)
-  silenced_at at branch method true w = signalled_at at (signal.Silent branch method) w
-  silenced_at at branch method false w = seated_at at (of_room.Silent branch method) w
+  silenced_at : (at : ℕ) (branch method : List ℕ) (whose : Whose) → Walks at (silenced d token at branch method whose)
+  silenced_at at branch method OfCalls w = signalled_at at (signal.Silent branch method) w
+  silenced_at at branch method OfRooms w = seated_at at (of_room.Silent branch method) w
 
-  ended_of_at : (at : ℕ) (key : TKey) (of_calls : Bool) → Walks at (ended_of d token at key of_calls)
-  ended_of_at at key true w = signalled_at at (signal.Over key) w
-  ended_of_at at key false w = seated_at at (of_room.Over key) w
+  ended_of_at : (at : ℕ) (key : TKey) (whose : Whose) → Walks at (ended_of d token at key whose)
+  ended_of_at at key OfCalls w = signalled_at at (signal.Over key) w
+  ended_of_at at key OfRooms w = seated_at at (of_room.Over key) w
 
   -- what one of a message says is of its moment
   abbrev IsDueAt : ℕ → Due → Type 0
@@ -168,11 +168,11 @@ module _ (d : Directory) (token : List ℕ) (R : ℕ → World → World → Typ
   rung_at : (at : ℕ) (x : Due) → IsDueAt at x → Walks at (rung d token x)
   rung_at at (due.Again peer moment text) is w = k.offers at (offer.To peer moment text) w is
   rung_at at (due.Silent key branch method moment) is w =
-      subst (λ at. R at w (silenced d token moment branch method (is_of_calls (invite_silent branch method) (calls_in d w).entries) w)) is
-      (silenced_at moment branch method (is_of_calls (invite_silent branch method) (calls_in d w).entries) w)
+      subst (λ at. R at w (silenced d token moment branch method (whose_branch (invite_silent branch method) (calls_in d w).entries) w)) is
+      (silenced_at moment branch method (whose_branch (invite_silent branch method) (calls_in d w).entries) w)
   rung_at at (due.Over key moment) is w =
-      subst (λ at. R at w (ended_of d token moment key (is_key_of_calls key (calls_in d w).entries) w)) is
-      (ended_of_at moment key (is_key_of_calls key (calls_in d w).entries) w)
+      subst (λ at. R at w (ended_of d token moment key (whose_key key (calls_in d w).entries) w)) is
+      (ended_of_at moment key (whose_key key (calls_in d w).entries) w)
   rung_at at due.Nothing is w = still at w
 
   alarmed_at : (at : ℕ) (x : Alarm) → Walks at (alarmed d token at x)
@@ -305,15 +305,15 @@ module _ (d : Directory) (token : List ℕ) (R : ℕ → World → World → Typ
     acknowledging_at (Some (InCall call side)) w = signalled_at at (signal.Ack call side s) w
     acknowledging_at (Some (InRoom room seat)) w = seated_at at (of_room.Ack room seat s) w
 
-    responding_at : (key : TKey) (of_calls : Bool) → Walks at (responding_to d token at key s of_calls)
-    responding_at key true w = signalled_at at (signal.Answer key s) w
-    responding_at key false w = seated_at at (of_room.Answer key s) w
+    responding_at : (key : TKey) (whose : Whose) → Walks at (responding_to d token at key s whose)
+    responding_at key OfCalls w = signalled_at at (signal.Answer key s) w
+    responding_at key OfRooms w = seated_at at (of_room.Answer key s) w
 
     answering_at : (o : Option transaction.Heard) → Walks at (answering d token at s o)
     answering_at None w = replying_plainly_at at s (plainly 503) w
     answering_at (Some (heard.Fresh key message)) w =
         taking_at key (course d (is_merged key.0 (live w.acts)) (are_full (calls_in d w).entries) (holder_in d s.heard w) s.heard) w
-    answering_at (Some (heard.Answer key message)) w = responding_at key (is_of_calls (invite_answered s) (calls_in d w).entries) w
+    answering_at (Some (heard.Answer key message)) w = responding_at key (whose_branch (invite_answered s) (calls_in d w).entries) w
     answering_at (Some (heard.Repeat sent)) w = repeating_at sent w
     answering_at (Some (heard.Acked key)) w = still at w
     answering_at (Some (heard.Cancel key invite message)) w = cancelling_at key invite w

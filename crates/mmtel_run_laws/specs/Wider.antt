@@ -45,6 +45,9 @@ pub record Renames (renamed : List Account) (one other : Directory) : Type 0 whe
   pub factory : one.factory ≡ other.factory
   pub bound : one.bound ≡ other.bound
   pub country : one.country ≡ other.country
+  pub reliable : one.reliable ≡ other.reliable
+  pub timer : one.timer ≡ other.timer
+  pub mwi : one.names.mwi ≡ other.names.mwi
   pub mixer : one.mixer ≡ other.mixer
   pub others : but renamed one.names.accounts ≡ but renamed other.names.accounts
 

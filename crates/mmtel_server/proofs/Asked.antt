@@ -1,5 +1,5 @@
 -- What a server reads of its own state is what is so of whatever it stands for: so what it decides by that is what is due.
-use Rattle.std.proofs.Common.{◌≡◌, ℕ, Bool, List, ◌++◌, refl, sym, ap, ◌∙◌, subst, Option, Some, None}
+use Rattle.std.proofs.Common.{◌≡◌, ℕ, List, ◌++◌, refl, sym, ap, ◌∙◌, subst, Option, Some, None}
 use Rattle.std.specs.Option.{option_map}
 use Rattle.mmtel_b2bua.specs.Histories as histories
 use Rattle.mmtel_b2bua.specs.Histories.{CallsView, Deed, site_of as site_in, table_after}
@@ -14,7 +14,7 @@ use Rattle.mmtel_intake.specs.Dialogs.{name_in}
 use Rattle.mmtel_intake.specs.declared.dialogs.DialogName as declared
 use Rattle.mmtel_outside.specs.declared.events.Offer.{Offer}
 use Rattle.mmtel_run.specs.Calls.{DialogName, dialog_name, find_dialog}
-use Rattle.mmtel_run.specs.Rooms.{Holder, find_seat, in_call_or, in_room, is_key_of_calls, is_of_calls}
+use Rattle.mmtel_run.specs.Rooms.{Holder, Whose, find_seat, in_call_or, in_room, whose_key, whose_branch}
 use Rattle.mmtel_run.specs.Short.{IsShort}
 use Rattle.mmtel_run.specs.World.{World, calls_in, holder_in, rooms_in}
 use Rattle.mmtel_transaction.specs.declared.words.TKey.{TKey}
@@ -58,15 +58,15 @@ asked s x f says d token w have =
     says d.peers d.names.accounts w.deeds (subst (λ (c : CallsView). histories.Stands d.peers d.names.accounts c w.deeds) (sym have.calls) there)
     ∙ ap (λ (c : CallsView). f (table_after (site_in c d.peers d.names.accounts) w.deeds).entries) have.calls
 
--- whether an INVITE of a call has a branch, or had its answer by a client transaction
-pub sent_of : (s : Server) (x : Bool) (o p : Option (List ℕ)) → o ≡ p → x ≡ is_of_calls o s.calls.table.entries
-    → (d : Directory) (token : List ℕ) (w : World) → Stands d token s w → x ≡ is_of_calls p (calls_in d w).entries
+-- whose a request is, by its branch or by its client transaction
+pub sent_of : (s : Server) (x : Whose) (o p : Option (List ℕ)) → o ≡ p → x ≡ whose_branch o s.calls.table.entries
+    → (d : Directory) (token : List ℕ) (w : World) → Stands d token s w → x ≡ whose_branch p (calls_in d w).entries
 sent_of s x o p same is d token w have =
-    is ∙ (ap (λ (q : Option (List ℕ)). is_of_calls q s.calls.table.entries) same ∙ ap (λ (c : CallsView). is_of_calls p c.table.entries) have.calls)
+    is ∙ (ap (λ (q : Option (List ℕ)). whose_branch q s.calls.table.entries) same ∙ ap (λ (c : CallsView). whose_branch p c.table.entries) have.calls)
 
-pub key_of : (s : Server) (x : Bool) (key : TKey) → x ≡ is_key_of_calls key s.calls.table.entries
-    → (d : Directory) (token : List ℕ) (w : World) → Stands d token s w → x ≡ is_key_of_calls key (calls_in d w).entries
-key_of s x key is d token w have = is ∙ ap (λ (c : CallsView). is_key_of_calls key c.table.entries) have.calls
+pub key_of : (s : Server) (x : Whose) (key : TKey) → x ≡ whose_key key s.calls.table.entries
+    → (d : Directory) (token : List ℕ) (w : World) → Stands d token s w → x ≡ whose_key key (calls_in d w).entries
+key_of s x key is d token w have = is ∙ ap (λ (c : CallsView). whose_key key c.table.entries) have.calls
 
 -- ---- what is asked of the rooms
 

@@ -88,6 +88,9 @@ module _ (d : Directory) (token : List ℕ) (before out : List Offer) (s : Serve
         home = ap (λ (t : Site). t.home) site_left i;
         bound = ap (λ (t : Site). t.bound) site_left i;
         country = ap (λ (t : Site). t.country) site_left i;
+        reliable = ap (λ (t : Site). t.reliable) site_left i;
+        timer = ap (λ (t : Site). t.timer) site_left i;
+        mwi = ap (λ (t : Site). t.mwi) site_left i;
         table = table_left i;
         has_failed = stand_left.works i;
       }

@@ -63,7 +63,7 @@ module _ (d : Directory) (m : HeardMessage) where
 
 opens_none : (d : Directory) (merged : Bool) (named : Option Holder) (m : HeardMessage) → opens (course d merged true named m) ≡ false
 unfolding course
-opens_none d merged named m = by_refusal d (public_part m) named (first_that_applies (refusals merged (is_some named) (public_part m)))
+opens_none d merged named m = by_refusal d (public_part m) named (first_that_applies (refusals d merged (is_some named) (public_part m)))
 
 pub opened_below : (d : Directory) (merged full : Bool) (named : Option Holder) (m : HeardMessage) → course d merged full named m ≡ Open → full ≡ false
 opened_below d merged true named m e = sym (ap opens e) ∙ opens_none d merged named m

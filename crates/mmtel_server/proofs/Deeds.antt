@@ -11,10 +11,12 @@ use Rattle.mmtel_outside.specs.declared.events.Offer.TheVariants as offer
 use Rattle.mmtel_run.specs.Answers.{tag_for, tags_due}
 use Rattle.mmtel_run.specs.Short.{IsShort}
 use Rattle.mmtel_run.specs.Deadlines as deadlines
-use Rattle.mmtel_run.specs.World.{World, arming, drawing, emit_one, emitted}
-use Rattle.mmtel_transaction.specs.Calls.{Done, DidAsk}
+use Rattle.mmtel_run.specs.World.{World, acting, arming, drawing, emit_one, emitted, offering, to_peer}
+use Rattle.mmtel_transaction.specs.Answers.{peer_of}
+use Rattle.mmtel_transaction.specs.Calls.{Done, DidAsk, live}
 use Rattle.mmtel_transaction.specs.Laws.{FewAreOpened}
 use Rattle.mmtel_transaction.specs.Stands.{MayOpen}
+use Rattle.mmtel_transaction.specs.Stands as kept
 use Rattle.mmtel_transaction.specs.Tokens.{Drawn}
 use Rattle.mmtel_transaction.specs.declared.transactions.Transactions.{Transactions}
 use Rattle.mmtel_transaction.specs.declared.words.Emit.{Emit}
@@ -103,6 +105,34 @@ asked few s t out out2 peer m at text P opens is offered d token before w did sh
   };
   offered = offered ∙ (ap (λ (os : List Offer). os ++ offer.To peer at text ∷ []) did.offered
       ∙ (append_assoc before w.offers (offer.To peer at text ∷ []) ∙ ap (λ (x : List ℕ). before ++ (w.offers ++ offer.To peer at x ∷ [])) is));
+}
+
+-- what a transaction is told goes to its peer, if it is live
+pub sent_to : (deed : Done) (s : Server) (t : Transactions) (out out2 : List Offer) (key at : ℕ) (text said : List ℕ) (peer : Option Peer)
+    → ((h : List Done) → kept.Stands s.transactions h → kept.Stands t (deed ∷ h)) → ((h : List Done) → kept.Stands s.transactions h → peer ≡ peer_of key (live h))
+    → text ≡ said → out2 ≡ out ++ to_peer at text peer
+    → (d : Directory) (token : List ℕ) (before : List Offer) (w : World) → Did d token before s out w
+    → Did d token before (record s { transactions = t }) out2 (offering (to_peer at said (peer_of key (live w.acts))) (acting deed w))
+sent_to deed s t out out2 key at text said peer told same is offered d token before w did = record {
+  stands = record {
+    directory_same = did.stands.directory_same;
+    tokens = did.stands.tokens;
+    transactions = told w.acts did.stands.transactions;
+    clock = did.stands.clock;
+    steps = did.stands.steps;
+    texts = did.stands.texts;
+    registered = did.stands.registered;
+    calls = did.stands.calls;
+    rooms = did.stands.rooms;
+    armed = did.stands.armed;
+    waiting = did.stands.waiting;
+    drained = did.stands.drained;
+    cleared = did.stands.cleared;
+    whole = did.stands.whole;
+  };
+  offered = offered ∙ (ap (λ (os : List Offer). os ++ to_peer at text peer) did.offered
+      ∙ (append_assoc before w.offers (to_peer at text peer) ∙ (ap (λ (x : List ℕ). before ++ (w.offers ++ to_peer at x peer)) is
+      ∙ ap (λ (p : Option Peer). before ++ (w.offers ++ to_peer at said p)) (same w.acts did.stands.transactions))));
 }
 
 -- ---- one after another

@@ -15,7 +15,7 @@ use Rattle.mmtel_run.specs.Calls.{are_full, arrived, asked_by}
 use Rattle.mmtel_run.specs.Deadlines.{Alarm, Deadline, OfAlarm, OfCall, OfMessage, OfSeat}
 use Rattle.mmtel_run.specs.Events.{Digest, Nothing, Refused, Heard, Asked, message_in}
 use Rattle.mmtel_run.specs.Refusals.{Course, Refuse, Enter, EnterRoom, Open, OpenRoom, JoinRoom, Register, course}
-use Rattle.mmtel_run.specs.Rooms.{Holder, InCall, InRoom, is_key_of_calls, is_of_calls}
+use Rattle.mmtel_run.specs.Rooms.{Holder, InCall, InRoom, OfCalls, OfRooms, Whose, whose_key, whose_branch}
 use Rattle.mmtel_run.specs.Run.{due_in, fire_one, fired_if, settled}
 use Rattle.mmtel_run.specs.Short.{tokens_of}
 use Rattle.mmtel_run.specs.World.{World, acknowledging_by, alarmed, answering, begun, calls_in, cancelling, cancelling_call, comes_of, emit_one, emitted, ended, ended_of, finishing, fired, handing, heard_in_rooms, heard_now, hearing, holder_in, housed, lodging, met, repeating, responding_to, rung, seated, signalled, silenced, taking, tokens_now}
@@ -99,15 +99,15 @@ module _ (d : Directory) (token : List ℕ) where
   acknowledges_none at s (Some (InCall call side)) w = signal_none at (signal.Ack call side s) w
   acknowledges_none at s (Some (InRoom room seat)) w = seats_none at (of_room.Ack room seat s) w
 
-  responds_none : (at : ℕ) (key : TKey) (s : Said) (of_calls : Bool) (w : World) → FilesNone w (responding_to d token at key s of_calls w)
-  responds_none at key s true w = signal_none at (signal.Answer key s) w
-  responds_none at key s false w = seats_none at (of_room.Answer key s) w
+  responds_none : (at : ℕ) (key : TKey) (s : Said) (whose : Whose) (w : World) → FilesNone w (responding_to d token at key s whose w)
+  responds_none at key s OfCalls w = signal_none at (signal.Answer key s) w
+  responds_none at key s OfRooms w = seats_none at (of_room.Answer key s) w
 
   answers_none : (at : ℕ) (s : Said) (o : Option transaction.Heard) (w : World) → FilesNone w (answering d token at s o w)
   answers_none at s None w = refl
   answers_none at s (Some (heard.Fresh key x)) w =
       takes_none at key s (course d (is_merged key.0 (live w.acts)) (are_full (calls_in d w).entries) (holder_in d s.heard w) s.heard) w
-  answers_none at s (Some (heard.Answer key x)) w = responds_none at key s (is_of_calls (invite_answered s) (calls_in d w).entries) w
+  answers_none at s (Some (heard.Answer key x)) w = responds_none at key s (whose_branch (invite_answered s) (calls_in d w).entries) w
   answers_none at s (Some (heard.Repeat sent)) w = repeats_none at sent w
   answers_none at s (Some (heard.Acked key)) w = refl
   answers_none at s (Some (heard.Cancel key invite x)) w = cancels_none at key s invite w
@@ -124,18 +124,18 @@ module _ (d : Directory) (token : List ℕ) where
   met_none at (Heard s) w = let taken = hear_says w.acts s.peer (message_in s.heard) in answers_none at s taken (hearing at s taken w) ∙ hears_none at s taken w
   met_none at (Asked request kept rows) w = refl
 
-  silenced_none : (at : ℕ) (branch method : List ℕ) (of_calls : Bool) (w : World) → FilesNone w (silenced d token at branch method of_calls w)
-  silenced_none at branch method true w = signal_none at (signal.Silent branch method) w
-  silenced_none at branch method false w = seats_none at (of_room.Silent branch method) w
+  silenced_none : (at : ℕ) (branch method : List ℕ) (whose : Whose) (w : World) → FilesNone w (silenced d token at branch method whose w)
+  silenced_none at branch method OfCalls w = signal_none at (signal.Silent branch method) w
+  silenced_none at branch method OfRooms w = seats_none at (of_room.Silent branch method) w
 
-  ended_of_none : (at : ℕ) (key : TKey) (of_calls : Bool) (w : World) → FilesNone w (ended_of d token at key of_calls w)
-  ended_of_none at key true w = signal_none at (signal.Over key) w
-  ended_of_none at key false w = seats_none at (of_room.Over key) w
+  ended_of_none : (at : ℕ) (key : TKey) (whose : Whose) (w : World) → FilesNone w (ended_of d token at key whose w)
+  ended_of_none at key OfCalls w = signal_none at (signal.Over key) w
+  ended_of_none at key OfRooms w = seats_none at (of_room.Over key) w
 
   rung_none : (x : Due) (w : World) → FilesNone w (rung d token x w)
   rung_none (due.Again peer at text) w = refl
-  rung_none (due.Silent key branch method at) w = silenced_none at branch method (is_of_calls (invite_silent branch method) (calls_in d w).entries) w
-  rung_none (due.Over key at) w = ended_of_none at key (is_key_of_calls key (calls_in d w).entries) w
+  rung_none (due.Silent key branch method at) w = silenced_none at branch method (whose_branch (invite_silent branch method) (calls_in d w).entries) w
+  rung_none (due.Over key at) w = ended_of_none at key (whose_key key (calls_in d w).entries) w
   rung_none due.Nothing w = refl
 
   alarmed_none : (at : ℕ) (x : Alarm) (w : World) → FilesNone w (alarmed d token at x w)

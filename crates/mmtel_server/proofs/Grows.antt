@@ -22,7 +22,7 @@ use Rattle.mmtel_run.specs.Calls.{are_full, arrived, asked_by, site_of}
 use Rattle.mmtel_run.specs.Events.{Digest, Nothing, Refused, Heard, Asked, message_in}
 use Rattle.mmtel_run.specs.Records.{until_of}
 use Rattle.mmtel_run.specs.Refusals.{Course, Refuse, Enter, EnterRoom, Open, OpenRoom, JoinRoom, Register, course}
-use Rattle.mmtel_run.specs.Rooms.{Holder, InCall, InRoom, is_of_calls, rooms_site}
+use Rattle.mmtel_run.specs.Rooms.{Holder, InCall, InRoom, OfCalls, OfRooms, Whose, whose_branch, rooms_site}
 use Rattle.mmtel_run.specs.Short.{IsShort, tokens_of}
 use Rattle.mmtel_run.specs.World.{World, acknowledging, acknowledging_by, answering, begun, bringing, calls_in, came, cancelling, cancelling_call, comes_of, drawing, emit_one, emitted, ended, entering_room, finishing, handing, heard_now, hearing, holder_in, housed, joining_room, lending, lodging, met, noticed, offering, opening_room, refusing, registering, repeating, replying, replying_plainly, responding, responding_to, seated, serving, signalled, taking, taking_fresh, tokens_now, told, told_as}
 use Rattle.mmtel_transaction.specs.Answers.{hear_says, is_merged}
@@ -197,12 +197,12 @@ module _ (law : AllDrawOn) (d : Directory) (token : List ℕ) (at : ℕ) where
   pub acknowledges : (s : Said) (w : World) → Grows w (acknowledging d token at s w)
   acknowledges s w = acknowledges_by s (holder_in d s.heard w) w
 
-  pub responds_to : (key : TKey) (s : Said) (of_calls : Bool) (w : World) → Grows w (responding_to d token at key s of_calls w)
-  responds_to key s true w = signals law d token at (signal.Answer key s) w
-  responds_to key s false w = seats law d token at (of_room.Answer key s) w
+  pub responds_to : (key : TKey) (s : Said) (whose : Whose) (w : World) → Grows w (responding_to d token at key s whose w)
+  responds_to key s OfCalls w = signals law d token at (signal.Answer key s) w
+  responds_to key s OfRooms w = seats law d token at (of_room.Answer key s) w
 
   pub responds : (key : TKey) (s : Said) (w : World) → Grows w (responding d token at key s w)
-  responds key s w = responds_to key s (is_of_calls (invite_answered s) (calls_in d w).entries) w
+  responds key s w = responds_to key s (whose_branch (invite_answered s) (calls_in d w).entries) w
 
   pub answers : (s : Said) (o : Option transaction.Heard) (w : World) → Grows w (answering d token at s o w)
   answers s None w = replies_plainly d token at s (plainly 503) w

@@ -98,6 +98,7 @@ module _ (f : Drawn → Deed) (s : Server) (mid new : RoomsView) (waiting : List
     new_rooms = λ i. record {
       sip = ap (λ (t : Site). t.sip) new_site i;
       mixer = ap (λ (t : Site). t.mixer) new_site i;
+      methods = ap (λ (t : Site). t.methods) new_site i;
       table = new_table i;
       has_failed = dropped.works i;
     }

@@ -74,12 +74,17 @@ module _ (deed : Deed) (files : (site : Site) (table : Table) → (did site deed
     table_is : calls.table ≡ calls_after d (deed ∷ w.deeds)
     table_is = now.table ∙ ap (λ (t : Site). table_after t (deed ∷ w.deeds)) site_is
 
-    calls_are : (table : Table) → calls.table ≡ table → calls ≡ record { sip = d.sip; home = d.home; bound = d.bound; country = d.country; table = table; has_failed = false }
+    calls_are : (table : Table) → calls.table ≡ table →
+        calls
+        ≡ record { sip = d.sip; home = d.home; bound = d.bound; country = d.country; reliable = d.reliable; timer = d.timer; mwi = d.names.mwi; table = table; has_failed = false }
     calls_are table is = λ i. record {
       sip = ap (λ (t : Site). t.sip) site_is i;
       home = ap (λ (t : Site). t.home) site_is i;
       bound = ap (λ (t : Site). t.bound) site_is i;
       country = ap (λ (t : Site). t.country) site_is i;
+      reliable = ap (λ (t : Site). t.reliable) site_is i;
+      timer = ap (λ (t : Site). t.timer) site_is i;
+      mwi = ap (λ (t : Site). t.mwi) site_is i;
       table = is i;
       has_failed = now.works i;
     }

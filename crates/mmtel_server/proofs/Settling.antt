@@ -1,5 +1,5 @@
 -- Deadlines that fire: how many firings are enough, and that firings only add.
-use Rattle.std.proofs.Common.{◌≡◌, ℕ, zero, suc, ◌+◌, ◌≤◌, List, [], ◌∷◌, length, refl, sym, ap, ◌∙◌, arith, append-nil, Bool, true, false, Option, Some, None, subst}
+use Rattle.std.proofs.Common.{◌≡◌, ℕ, zero, suc, ◌+◌, ◌≤◌, List, [], ◌∷◌, length, refl, sym, ap, ◌∙◌, arith, append-nil, Option, Some, None, subst}
 use Rattle.mmtel_b2bua.specs.Histories.{Hears}
 use Rattle.mmtel_b2bua.specs.declared.signals.Signal.{Signal}
 use Rattle.mmtel_b2bua.specs.declared.signals.Signal.TheVariants as signal
@@ -9,7 +9,7 @@ use Rattle.mmtel_focus.specs.declared.signals.RoomSignal.{RoomSignal}
 use Rattle.mmtel_focus.specs.declared.signals.RoomSignal.TheVariants as of_room
 use Rattle.mmtel_outside.specs.declared.events.Offer.TheVariants as offer
 use Rattle.mmtel_run.specs.Deadlines.{Alarm, Armed, Deadline, OfAlarm, OfCall, OfMessage, OfSeat}
-use Rattle.mmtel_run.specs.Rooms.{is_key_of_calls, is_of_calls}
+use Rattle.mmtel_run.specs.Rooms.{OfCalls, OfRooms, Whose, whose_key, whose_branch}
 use Rattle.mmtel_run.specs.Run.{IsSettled, due_in, fire_one, fired_if, settled}
 use Rattle.mmtel_run.specs.World.{World, alarmed, begun, calls_in, comes_of, emit_one, emitted, ended_of, fired, fired_in, heard_in_rooms, heard_now, rung, seated, signalled, silenced, struck}
 use Rattle.mmtel_transaction.specs.Answers.{Next, fires, next_due, says_due}
@@ -49,18 +49,18 @@ module _ (d : Directory) (token : List ℕ) where
       let deed = heard_in_rooms token at x w in
       emits_steps at (comes_of d deed w).out (housed_in deed (comes_of d deed w) w)
 
-  silenced_steps : (at : ℕ) (branch method : List ℕ) (of_calls : Bool) (w : World) → (silenced d token at branch method of_calls w).steps ≡ w.steps
-  silenced_steps at branch method true w = signal_steps at (signal.Silent branch method) w
-  silenced_steps at branch method false w = seat_steps at (of_room.Silent branch method) w
+  silenced_steps : (at : ℕ) (branch method : List ℕ) (whose : Whose) (w : World) → (silenced d token at branch method whose w).steps ≡ w.steps
+  silenced_steps at branch method OfCalls w = signal_steps at (signal.Silent branch method) w
+  silenced_steps at branch method OfRooms w = seat_steps at (of_room.Silent branch method) w
 
-  ended_steps : (at : ℕ) (key : TKey) (of_calls : Bool) (w : World) → (ended_of d token at key of_calls w).steps ≡ w.steps
-  ended_steps at key true w = signal_steps at (signal.Over key) w
-  ended_steps at key false w = seat_steps at (of_room.Over key) w
+  ended_steps : (at : ℕ) (key : TKey) (whose : Whose) (w : World) → (ended_of d token at key whose w).steps ≡ w.steps
+  ended_steps at key OfCalls w = signal_steps at (signal.Over key) w
+  ended_steps at key OfRooms w = seat_steps at (of_room.Over key) w
 
   rung_steps : (x : Due) (w : World) → (rung d token x w).steps ≡ w.steps
   rung_steps (due.Again peer at text) w = refl
-  rung_steps (due.Silent key branch method at) w = silenced_steps at branch method (is_of_calls (invite_silent branch method) (calls_in d w).entries) w
-  rung_steps (due.Over key at) w = ended_steps at key (is_key_of_calls key (calls_in d w).entries) w
+  rung_steps (due.Silent key branch method at) w = silenced_steps at branch method (whose_branch (invite_silent branch method) (calls_in d w).entries) w
+  rung_steps (due.Over key at) w = ended_steps at key (whose_key key (calls_in d w).entries) w
   rung_steps due.Nothing w = refl
 
   alarmed_steps : (at : ℕ) (x : Alarm) (w : World) → (alarmed d token at x w).steps ≡ w.steps
@@ -93,18 +93,18 @@ module _ (d : Directory) (token : List ℕ) where
   -- ---- firings only add
 
   module _ (law : AllDrawOn) where
-    pub silences : (at : ℕ) (branch method : List ℕ) (of_calls : Bool) (w : World) → Grows w (silenced d token at branch method of_calls w)
-    silences at branch method true w = signals law d token at (signal.Silent branch method) w
-    silences at branch method false w = seats law d token at (of_room.Silent branch method) w
+    pub silences : (at : ℕ) (branch method : List ℕ) (whose : Whose) (w : World) → Grows w (silenced d token at branch method whose w)
+    silences at branch method OfCalls w = signals law d token at (signal.Silent branch method) w
+    silences at branch method OfRooms w = seats law d token at (of_room.Silent branch method) w
 
-    pub ends_one : (at : ℕ) (key : TKey) (of_calls : Bool) (w : World) → Grows w (ended_of d token at key of_calls w)
-    ends_one at key true w = signals law d token at (signal.Over key) w
-    ends_one at key false w = seats law d token at (of_room.Over key) w
+    pub ends_one : (at : ℕ) (key : TKey) (whose : Whose) (w : World) → Grows w (ended_of d token at key whose w)
+    ends_one at key OfCalls w = signals law d token at (signal.Over key) w
+    ends_one at key OfRooms w = seats law d token at (of_room.Over key) w
 
     pub rings : (x : Due) (w : World) → Grows w (rung d token x w)
     rings (due.Again peer at text) w = adds (offer.To peer at text ∷ []) w
-    rings (due.Silent key branch method at) w = silences at branch method (is_of_calls (invite_silent branch method) (calls_in d w).entries) w
-    rings (due.Over key at) w = ends_one at key (is_key_of_calls key (calls_in d w).entries) w
+    rings (due.Silent key branch method at) w = silences at branch method (whose_branch (invite_silent branch method) (calls_in d w).entries) w
+    rings (due.Over key at) w = ends_one at key (whose_key key (calls_in d w).entries) w
     rings due.Nothing w = same w
 
     pub alarms : (at : ℕ) (x : Alarm) (w : World) → Grows w (alarmed d token at x w)

@@ -6,6 +6,7 @@ use Rattle.mmtel_focus.specs.Histories.{RoomsView}
 use Rattle.mmtel_outside.specs.declared.events.Offer.{Offer}
 use Rattle.mmtel_in_force.specs.Held.{IsRegisteredBy}
 use Rattle.mmtel_in_force.specs.Texts.{Texts}
+use Rattle.mmtel_run.specs.Answers.{further_methods}
 use Rattle.mmtel_run.specs.Events.{Happened}
 use Rattle.mmtel_run.specs.Run.{IsEnough, gives, world_after}
 use Rattle.mmtel_run.specs.Short.{IsShortRun}
@@ -21,13 +22,22 @@ calls_of directory world = record {
   home = directory.home;
   bound = directory.bound;
   country = directory.country;
+  reliable = directory.reliable;
+  timer = directory.timer;
+  mwi = directory.names.mwi;
   table = calls_in directory world;
   has_failed = false;
 }
 
 -- and its rooms
 abbrev pub rooms_of : Directory → World → RoomsView
-rooms_of directory world = record { sip = directory.sip; mixer = directory.mixer; table = rooms_in directory world; has_failed = false }
+rooms_of directory world = record {
+  sip = directory.sip;
+  mixer = directory.mixer;
+  methods = further_methods directory;
+  table = rooms_in directory world;
+  has_failed = false;
+}
 
 -- what a server keeps of what was done; one that has failed for want of memory stands for nothing
 pub record Stands (directory : Directory) (token : List ℕ) (server : Server) (world : World) : Type 0 where

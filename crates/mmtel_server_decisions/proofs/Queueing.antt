@@ -17,7 +17,7 @@ use Rattle.mmtel_timers.specs.Deadlines.{Deadline, armed_last, soonest, without}
 use Rattle.mmtel_run.specs.Deadlines as run
 use Rattle.mmtel_run.specs.Deadlines.{choose, chosen, first_armed, is_sooner, rank}
 use Rattle.mmtel_server_decisions.specs.Arming.{alarm_in, armed_in, first_in, queue_of}
-use Rattle.mmtel_server_decisions.specs.Queue.{AreKept, Follow, Numbered, armed_at, deadline_of, due_by, foremost, in_rank, in_ranks, key_of, of_rank, rank_of, run_of, sooner_of}
+use Rattle.mmtel_server_decisions.specs.Queue.{AreKept, Follow, Numbered, armed_at, deadline_of, due_by, first_of, foremost, in_rank, in_ranks, key_of, of_rank, rank_of, run_of, sooner_of}
 use Rattle.mmtel_server_decisions.specs.declared.armed.Armed.{Armed}
 use Rattle.mmtel_server_decisions.specs.declared.ranks.Ranks.{Ranks}
 use Rattle.mmtel_server_decisions.proofs.Leading.{Beats, Leads, Led, OfRank, all_weaken, both_led, found_number, is_number, other_number, own_number, rank_led, same_number}
@@ -63,35 +63,60 @@ module _ (now : ℕ) (q : Numbered) where
 -- ---- the foremost one leads all
 
 module _ (next step : ℕ) (ranks : Ranks) (es : List Numbered) (are : AreKept next step ranks es) where
-  abbrev LowRanks : Numbered → Type 0
-  LowRanks e = OfRank 0 e ⊎ OfRank 1 e
+  abbrev UpTo1 : Numbered → Type 0
+  UpTo1 e = OfRank 0 e ⊎ OfRank 1 e
+
+  abbrev UpTo2 : Numbered → Type 0
+  UpTo2 e = UpTo1 e ⊎ OfRank 2 e
+
+  abbrev UpTo3 : Numbered → Type 0
+  UpTo3 e = UpTo2 e ⊎ OfRank 3 e
 
   abbrev AnyRank : Numbered → Type 0
-  AnyRank e = LowRanks e ⊎ OfRank 2 e
+  AnyRank e = UpTo3 e ⊎ OfRank 4 e
+
+  below_2 : (e : Numbered) → UpTo1 e → rank_of e < 2
+  below_2 e (inl z) = omega (arith, z)
+  below_2 e (inr o) = omega (arith, o)
+
+  below_3 : (e : Numbered) → UpTo2 e → rank_of e < 3
+  below_3 e (inl p) = let l : rank_of e < 2 = below_2 e p in omega (arith, l)
+  below_3 e (inr t) = omega (arith, t)
+
+  below_4 : (e : Numbered) → UpTo3 e → rank_of e < 4
+  below_4 e (inl p) = let l : rank_of e < 3 = below_3 e p in omega (arith, l)
+  below_4 e (inr h) = omega (arith, h)
+
+  by_its_rank : (e : Numbered) → Ranked (alarm_in e.1.alarm) → AnyRank e
+  by_its_rank e (inl z) = inl (inl (inl (inl z)))
+  by_its_rank e (inr (inl o)) = inl (inl (inl (inr o)))
+  by_its_rank e (inr (inr (inl t))) = inl (inl (inr t))
+  by_its_rank e (inr (inr (inr (inl h)))) = inl (inr h)
+  by_its_rank e (inr (inr (inr (inr f)))) = inr f
 
   any_rank : (e : Numbered) → AnyRank e
-  any_rank e = elim (rank_is (alarm_in e.1.alarm)) [
-    | inl z ↦ inl (inl z)
-    | inr k ↦ elim k [ inl o ↦ inl (inr o) | inr t ↦ inr t ]
-  ]
+  any_rank e = by_its_rank e (rank_is (alarm_in e.1.alarm))
 
-  abbrev ranks_of : (no_replies caps no_acks : List Deadline) → Ranks
-  ranks_of no_replies caps no_acks = record { no_replies = no_replies; caps = caps; no_acks = no_acks }
+  abbrev ranks_of : (no_replies no_pracks caps no_acks expiries : List Deadline) → Ranks
+  ranks_of no_replies no_pracks caps no_acks expiries = record { no_replies = no_replies; no_pracks = no_pracks; caps = caps; no_acks = no_acks; expiries = expiries }
+
+  abbrev first : ℕ → Option Numbered
+  first r = first_of (of_rank r es) es
 
   foremost_led : Led AnyRank (foremost ranks es) es
   foremost_led =
       subst (λ (r : Ranks). Led AnyRank (foremost r es) es) ranks_are (
-      both_led LowRanks (OfRank 2) (λ a b p q s. elim p [ inl z ↦ absurd (omega (arith, z, q, s)) | inr o ↦ absurd (omega (arith, o, q, s)) ]) es
-      (sooner_of (armed_at (soonest (of_rank 0 es)) es) (armed_at (soonest (of_rank 1 es)) es)) (armed_at (soonest (of_rank 2 es)) es)
-      (both_led (OfRank 0) (OfRank 1) (λ a b p q s. absurd (omega (arith, p, q, s))) es (armed_at (soonest (of_rank 0 es)) es) (armed_at (soonest (of_rank 1 es)) es)
+      both_led UpTo3 (OfRank 4) (λ a b p q s. let l : rank_of a < 4 = below_4 a p in absurd (omega (arith, l, q, s))) es (sooner_of (sooner_of (sooner_of (first 0) (first 1)) (first 2)) (first 3)) (first 4)
+      (both_led UpTo2 (OfRank 3) (λ a b p q s. let l : rank_of a < 3 = below_3 a p in absurd (omega (arith, l, q, s))) es (sooner_of (sooner_of (first 0) (first 1)) (first 2)) (first 3)
+      (both_led UpTo1 (OfRank 2) (λ a b p q s. let l : rank_of a < 2 = below_2 a p in absurd (omega (arith, l, q, s))) es (sooner_of (first 0) (first 1)) (first 2)
+      (both_led (OfRank 0) (OfRank 1) (λ a b p q s. absurd (omega (arith, p, q, s))) es (first 0) (first 1)
       (rank_led 0 es are.in_order) (rank_led 1 es are.in_order))
       (rank_led 2 es are.in_order))
+      (rank_led 3 es are.in_order))
+      (rank_led 4 es are.in_order))
     where
-      ranks_are : ranks_of (of_rank 0 es) (of_rank 1 es) (of_rank 2 es) ≡ ranks
-      ranks_are =
-          ap (λ (l : List Deadline). ranks_of l (of_rank 1 es) (of_rank 2 es)) (sym are.no_replies)
-          ∙ (ap (λ (l : List Deadline). ranks_of ranks.no_replies l (of_rank 2 es)) (sym are.caps)
-          ∙ ap (λ (l : List Deadline). ranks_of ranks.no_replies ranks.caps l) (sym are.no_acks))
+      ranks_are : ranks_of (of_rank 0 es) (of_rank 1 es) (of_rank 2 es) (of_rank 3 es) (of_rank 4 es) ≡ ranks
+      ranks_are = λ i. ranks_of (sym are.no_replies i) (sym are.no_pracks i) (sym are.caps i) (sym are.no_acks i) (sym are.expiries i)
 
   beats_all : (q : Numbered) → Leads AnyRank q es → AllByRecursion (Beats q) es
   beats_all q leads = all_weaken (λ e. AnyRank e → Beats q e) (Beats q) (λ e b. b (any_rank e)) es leads.beats
@@ -223,8 +248,10 @@ kept_out next step ranks es n are = record {
   in_order = follow_out n es are.in_order;
   before = all_out (λ e. (e.0 < next) × (e.1.step ≤ step)) n es are.before;
   no_replies = ap (without (key_of n)) are.no_replies ∙ sym (of_rank_out 0 n es are.in_order);
-  caps = ap (without (key_of n)) are.caps ∙ sym (of_rank_out 1 n es are.in_order);
-  no_acks = ap (without (key_of n)) are.no_acks ∙ sym (of_rank_out 2 n es are.in_order);
+  no_pracks = ap (without (key_of n)) are.no_pracks ∙ sym (of_rank_out 1 n es are.in_order);
+  caps = ap (without (key_of n)) are.caps ∙ sym (of_rank_out 2 n es are.in_order);
+  no_acks = ap (without (key_of n)) are.no_acks ∙ sym (of_rank_out 3 n es are.in_order);
+  expiries = ap (without (key_of n)) are.expiries ∙ sym (of_rank_out 4 n es are.in_order);
 }
 
 -- ---- one more
@@ -290,22 +317,28 @@ module _ (next step : ℕ) (ranks : Ranks) (es : List Numbered) (are : AreKept n
 
       at_rank : (n : ℕ) → n ≡ rank_of new → in_rank n (armed_last a.at (key_of next)) ranks ≡ record {
         no_replies = cond (n == 0) (armed_last a.at (key_of next) ranks.no_replies) ranks.no_replies;
-        caps = cond (n == 1) (armed_last a.at (key_of next) ranks.caps) ranks.caps;
-        no_acks = cond (n == 2) (armed_last a.at (key_of next) ranks.no_acks) ranks.no_acks;
+        no_pracks = cond (n == 1) (armed_last a.at (key_of next) ranks.no_pracks) ranks.no_pracks;
+        caps = cond (n == 2) (armed_last a.at (key_of next) ranks.caps) ranks.caps;
+        no_acks = cond (n == 3) (armed_last a.at (key_of next) ranks.no_acks) ranks.no_acks;
+        expiries = cond (n == 4) (armed_last a.at (key_of next) ranks.expiries) ranks.expiries;
       } → AreKept (next + 1) a.step (in_rank n (armed_last a.at (key_of next)) ranks) (es ++ new ∷ [])
       at_rank n e parts = subst (λ (r : Ranks). AreKept (next + 1) a.step r (es ++ new ∷ [])) (sym parts) (record {
         in_order = in_order;
         before = before;
         no_replies = ranked_more n 0 ranks.no_replies e are.no_replies;
-        caps = ranked_more n 1 ranks.caps e are.caps;
-        no_acks = ranked_more n 2 ranks.no_acks e are.no_acks;
+        no_pracks = ranked_more n 1 ranks.no_pracks e are.no_pracks;
+        caps = ranked_more n 2 ranks.caps e are.caps;
+        no_acks = ranked_more n 3 ranks.no_acks e are.no_acks;
+        expiries = ranked_more n 4 ranks.expiries e are.expiries;
       })
 
+      of_its : (n : ℕ) → rank (alarm_in a.alarm) ≡ n → AreKept (next + 1) a.step (in_rank n (armed_last a.at (key_of next)) ranks) (es ++ new ∷ [])
+          → AreKept (next + 1) a.step (in_rank k (armed_last a.at (key_of next)) ranks) (es ++ new ∷ [])
+      of_its n e = subst (λ (n : ℕ). AreKept (next + 1) a.step (in_rank n (armed_last a.at (key_of next)) ranks) (es ++ new ∷ [])) (sym (is ∙ e))
+
       by_rank : Ranked (alarm_in a.alarm) → AreKept (next + 1) a.step (in_rank k (armed_last a.at (key_of next)) ranks) (es ++ new ∷ [])
-      by_rank ranked = elim ranked [
-        | inl z ↦ subst (λ (n : ℕ). AreKept (next + 1) a.step (in_rank n (armed_last a.at (key_of next)) ranks) (es ++ new ∷ [])) (sym (is ∙ z)) (at_rank 0 (sym z) refl)
-        | inr m ↦ elim m [
-          | inl o ↦ subst (λ (n : ℕ). AreKept (next + 1) a.step (in_rank n (armed_last a.at (key_of next)) ranks) (es ++ new ∷ [])) (sym (is ∙ o)) (at_rank 1 (sym o) refl)
-          | inr t ↦ subst (λ (n : ℕ). AreKept (next + 1) a.step (in_rank n (armed_last a.at (key_of next)) ranks) (es ++ new ∷ [])) (sym (is ∙ t)) (at_rank 2 (sym t) refl)
-        ]
-      ]
+      by_rank (inl z) = of_its 0 z (at_rank 0 (sym z) refl)
+      by_rank (inr (inl o)) = of_its 1 o (at_rank 1 (sym o) refl)
+      by_rank (inr (inr (inl t))) = of_its 2 t (at_rank 2 (sym t) refl)
+      by_rank (inr (inr (inr (inl h)))) = of_its 3 h (at_rank 3 (sym h) refl)
+      by_rank (inr (inr (inr (inr f)))) = of_its 4 f (at_rank 4 (sym f) refl)

@@ -38,11 +38,21 @@ of_rank r entries = map (λ e. deadline_of e) (filter (λ e. rank_of e == r) ent
 -- the deadlines of one rank are changed, and those of the others stay
 abbrev pub in_rank : ℕ → (List Deadline → List Deadline) → Ranks → Ranks
 in_rank r change ranks =
-    if r == 0 then record ranks { no_replies = change ranks.no_replies } else if r == 1 then record ranks { caps = change ranks.caps } else record ranks { no_acks = change ranks.no_acks }
+    if r == 0 then record ranks { no_replies = change ranks.no_replies }
+    else if r == 1 then record ranks { no_pracks = change ranks.no_pracks }
+    else if r == 2 then record ranks { caps = change ranks.caps }
+    else if r == 3 then record ranks { no_acks = change ranks.no_acks }
+    else record ranks { expiries = change ranks.expiries }
 
 -- those of all ranks are changed
 abbrev pub in_ranks : (List Deadline → List Deadline) → Ranks → Ranks
-in_ranks change ranks = record { no_replies = change ranks.no_replies; caps = change ranks.caps; no_acks = change ranks.no_acks }
+in_ranks change ranks = record {
+  no_replies = change ranks.no_replies;
+  no_pracks = change ranks.no_pracks;
+  caps = change ranks.caps;
+  no_acks = change ranks.no_acks;
+  expiries = change ranks.expiries;
+}
 
 -- ---- the first one
 
@@ -57,9 +67,17 @@ sooner_of None other = other
 sooner_of (Some one) None = Some one
 sooner_of (Some one) (Some other) = if is_sooner (run_of other) (run_of one) then Some other else Some one
 
+-- the first one of a rank
+abbrev pub first_of : List Deadline → List Numbered → Option Numbered
+first_of deadlines entries = armed_at (soonest deadlines) entries
+
+-- of those of calls that ring, and of invitations that do
+abbrev pub ringing : Ranks → List Numbered → Option Numbered
+ringing ranks entries = sooner_of (sooner_of (first_of ranks.no_replies entries) (first_of ranks.no_pracks entries)) (first_of ranks.caps entries)
+
 -- of the first ones of each rank, the one that comes first
 abbrev pub foremost : Ranks → List Numbered → Option Numbered
-foremost ranks entries = sooner_of (sooner_of (armed_at (soonest ranks.no_replies) entries) (armed_at (soonest ranks.caps) entries)) (armed_at (soonest ranks.no_acks) entries)
+foremost ranks entries = sooner_of (sooner_of (ringing ranks entries) (first_of ranks.no_acks entries)) (first_of ranks.expiries entries)
 
 -- one that is due
 abbrev pub due_by : ℕ → Option Numbered → Option Numbered
@@ -78,5 +96,7 @@ pub record AreKept (next step : ℕ) (ranks : Ranks) (entries : List Numbered) :
   pub in_order : Follow entries
   pub before : AllByRecursion (λ e. (e.0 < next) × (e.1.step ≤ step)) entries
   pub no_replies : ranks.no_replies ≡ of_rank 0 entries
-  pub caps : ranks.caps ≡ of_rank 1 entries
-  pub no_acks : ranks.no_acks ≡ of_rank 2 entries
+  pub no_pracks : ranks.no_pracks ≡ of_rank 1 entries
+  pub caps : ranks.caps ≡ of_rank 2 entries
+  pub no_acks : ranks.no_acks ≡ of_rank 3 entries
+  pub expiries : ranks.expiries ≡ of_rank 4 entries

@@ -39,7 +39,8 @@ pub struct Armed {
 }
 
 impl Armed {
-    /// Whether it fires before another one: by moment, then by the step that armed them, then no reply before the longest time before a missing ACK.
+    /// Whether it fires before another one: by moment, then by the step that armed them, then no reply before a missing PRACK before the longest time before a missing
+    /// ACK before the end of a session.
     pub fn is_sooner(&self, other: &Armed) -> bool
         ensures { result ≡ is_sooner (armed_in self.now) (armed_in other.now) }
     {
@@ -57,16 +58,18 @@ pub(crate) fn rank(alarm: Alarm) -> u64
     match alarm {
         Alarm::OfCall { call: _, what } => match what {
             DueWord::NoReply(_) => 0,
-            DueWord::Cap(_) => 1,
-            DueWord::NoAck(_) => 2,
+            DueWord::NoPrack(_) => 1,
+            DueWord::Cap(_) => 2,
+            DueWord::NoAck(_) => 3,
+            DueWord::Expired(_) => 4,
         },
         Alarm::OfSeat {
             room: _,
             seat: _,
             what,
         } => match what {
-            RoomWord::Cap(_) => 1,
-            RoomWord::NoAck(_) => 2,
+            RoomWord::Cap(_) => 2,
+            RoomWord::NoAck(_) => 3,
         },
     }
 }

@@ -1,17 +1,42 @@
 //! Whose a message is.
 ghost use Rattle.std.specs.Prelude.{◌≡◌};
 ghost use Rattle.std.specs.Option.{option_copied};
-ghost use Rattle.mmtel_run.specs.Rooms.{is_of_calls, is_with};
+ghost use Rattle.mmtel_run.specs.Rooms.{is_with, whose_branch, whose_key};
+ghost use Rattle.mmtel_server_decisions.specs.Belonging.{whose_in};
 
 use mmtel_b2bua::Calls;
+use mmtel_transaction::TKey;
 use mmtel_types::{Account, Peer};
 
-/// Whether the answer to a request that was sent with this branch, or its silence, is of the calls: an INVITE of one has that branch. All others are of the rooms (RFC 3261
-/// §17.1.3).
-pub fn is_answer_of_calls(calls: &Calls, branch: Option<&[u8]>) -> bool
-    ensures { result ≡ is_of_calls (option_copied branch.entry) calls.now.table.entries }
+/// Whose a request is that the server sent: its answer, its silence and the end of its transaction are theirs.
+#[derive(Clone, Copy)]
+pub enum Whose {
+    /// The calls'.
+    Calls,
+    /// The conference rooms'.
+    Rooms,
+}
+
+/// Whose the request is that was sent with this branch: the calls' where an INVITE of one has it, and else the rooms' (RFC 3261 §17.1.3).
+pub fn whose_branch(calls: &Calls, branch: Option<&[u8]>) -> Whose
+    ensures { whose_in result ≡ whose_branch (option_copied branch.entry) calls.now.table.entries }
 {
-    calls.has_sent(branch)
+    if calls.has_sent(branch) {
+        Whose::Calls
+    } else {
+        Whose::Rooms
+    }
+}
+
+/// Whose the request is that was answered in this client transaction: the calls' where that was an INVITE of one, and else the rooms'.
+pub fn whose_key(calls: &Calls, key: TKey) -> Whose
+    ensures { whose_in result ≡ whose_key key calls.now.table.entries }
+{
+    if calls.has_heard(key) {
+        Whose::Calls
+    } else {
+        Whose::Rooms
+    }
 }
 
 /// Whether a leg, of whom this is known, is of the peer that asks: a dialog is replaced for no other (RFC 3891 §3).

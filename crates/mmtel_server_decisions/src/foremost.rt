@@ -45,9 +45,12 @@ pub fn foremost(ranks: &Ranks, armed: &BTreeMap<u64, Armed>) -> Option<Numbered>
     ensures { result ≡ foremost ranks.now armed.now.entries }
 {
     let no_reply = armed_at(armed, ranks.no_replies.first());
+    let no_prack = armed_at(armed, ranks.no_pracks.first());
     let cap = armed_at(armed, ranks.caps.first());
     let no_ack = armed_at(armed, ranks.no_acks.first());
-    sooner_of(sooner_of(no_reply, cap), no_ack)
+    let expiry = armed_at(armed, ranks.expiries.first());
+    let ringing = sooner_of(sooner_of(no_reply, no_prack), cap);
+    sooner_of(sooner_of(ringing, no_ack), expiry)
 }
 
 /// The one, where it is due by a moment.

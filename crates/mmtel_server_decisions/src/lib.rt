@@ -11,6 +11,6 @@ mod rows;
 
 pub use alarms::Alarms;
 pub use armed::{Alarm, Armed};
-pub use belonging::{is_answer_of_calls, is_with};
+pub use belonging::{Whose, is_with, whose_branch, whose_key};
 pub use deadlines::{Deadline, first_of, moment_by};
 pub use rows::hand_rows;

@@ -12,21 +12,27 @@ use std::sync::ledger::Ledger;
 pub struct Ranks {
     /// Rank 0: that there is no reply.
     pub no_replies: Deadlines,
-    /// Rank 1: that the longest time is over.
+    /// Rank 1: that a PRACK is missing.
+    pub no_pracks: Deadlines,
+    /// Rank 2: that the longest time is over.
     pub caps: Deadlines,
-    /// Rank 2: that an ACK is missing.
+    /// Rank 3: that an ACK is missing.
     pub no_acks: Deadlines,
+    /// Rank 4: that a session was not refreshed.
+    pub expiries: Deadlines,
 }
 
 impl Ranks {
     /// None of any rank. It takes no memory.
     pub fn new() -> Ranks
-        ensures { result ≡ record { no_replies = []; caps = []; no_acks = [] } }
+        ensures { result ≡ record { no_replies = []; no_pracks = []; caps = []; no_acks = []; expiries = [] } }
     {
         Ranks {
             no_replies: Deadlines::new(),
+            no_pracks: Deadlines::new(),
             caps: Deadlines::new(),
             no_acks: Deadlines::new(),
+            expiries: Deadlines::new(),
         }
     }
 
@@ -49,8 +55,10 @@ impl Ranks {
     {
         match rank {
             0 => self.no_replies.arm(alloc, at, Key(number), steps),
-            1 => self.caps.arm(alloc, at, Key(number), steps),
-            _ => self.no_acks.arm(alloc, at, Key(number), steps),
+            1 => self.no_pracks.arm(alloc, at, Key(number), steps),
+            2 => self.caps.arm(alloc, at, Key(number), steps),
+            3 => self.no_acks.arm(alloc, at, Key(number), steps),
+            _ => self.expiries.arm(alloc, at, Key(number), steps),
         }
     }
 
@@ -60,7 +68,9 @@ impl Ranks {
         ensures cost { steps.new ≡ steps.old }
     {
         self.no_replies.disarm(Key(number), steps);
+        self.no_pracks.disarm(Key(number), steps);
         self.caps.disarm(Key(number), steps);
         self.no_acks.disarm(Key(number), steps);
+        self.expiries.disarm(Key(number), steps);
     }
 }

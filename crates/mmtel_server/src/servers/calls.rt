@@ -24,7 +24,7 @@ use mmtel_intake::{DialogName, Holder, arrived, dialog_name, plainly};
 use mmtel_outside::Offer;
 use mmtel_run::records_are_those_kept;
 use mmtel_scan::{List, NoMemory, Text};
-use mmtel_server_decisions::is_answer_of_calls;
+use mmtel_server_decisions::{Whose, whose_branch};
 use mmtel_timers::Steps;
 use mmtel_transaction::{Emits, TKey};
 use mmtel_types::CallNo;
@@ -287,12 +287,13 @@ impl Server {
                 return Err(error);
             }
         };
-        let is_of_calls = is_answer_of_calls(&self.calls, bytes_of(&branch));
+        let whose = whose_branch(&self.calls, bytes_of(&branch));
         drop(branch);
-        if is_of_calls {
-            self.signal(context, Signal::Answer { key, response }, out, steps)
-        } else {
-            self.seat_signal(context, RoomSignal::Answer { key, response }, out, steps)
+        match whose {
+            Whose::Calls => self.signal(context, Signal::Answer { key, response }, out, steps),
+            Whose::Rooms => {
+                self.seat_signal(context, RoomSignal::Answer { key, response }, out, steps)
+            }
         }
     }
 

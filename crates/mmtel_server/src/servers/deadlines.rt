@@ -5,7 +5,7 @@ ghost use Rattle.mmtel_outside.specs.declared.events.Offer.{Offer};
 ghost use Rattle.mmtel_run.specs.Deadlines as deadlines;
 ghost use Rattle.mmtel_run.specs.Deadlines.{Chosen, first_armed, first_of};
 ghost use Rattle.mmtel_desk.specs.Invites.{invite_silent};
-ghost use Rattle.mmtel_run.specs.Rooms.{is_key_of_calls, is_of_calls};
+ghost use Rattle.mmtel_run.specs.Rooms.{whose_branch, whose_key};
 ghost use Rattle.mmtel_run.specs.Run.{settled};
 ghost use Rattle.mmtel_run.specs.World.{alarmed, begun, calls_in, ended_of, fired, fired_in, rung, silenced, struck};
 ghost use Rattle.mmtel_server_decisions.specs.Arming.{IsChosen, alarm_in, kind_of, queue_of};
@@ -22,7 +22,9 @@ use mmtel_desk::invite_silent;
 use mmtel_focus::RoomSignal;
 use mmtel_outside::Offer;
 use mmtel_scan::{List, NoMemory, Text};
-use mmtel_server_decisions::{Alarm, Deadline, first_of, is_answer_of_calls, moment_by};
+use mmtel_server_decisions::{
+    Alarm, Deadline, Whose, first_of, moment_by, whose_branch, whose_key,
+};
 use mmtel_timers::Steps;
 use mmtel_transaction::{Due, TKey};
 use mmtel_types::Moment;
@@ -43,7 +45,7 @@ impl Server {
         self.steps = self.steps.saturating_add(1);
     }
 
-    /// A request was given up: the calls hear of an INVITE of theirs, and the rooms of all others.
+    /// A request was given up: whoever sent it hears of it, the calls of an INVITE of theirs, and the rooms of all others.
     fn silence<L: Ledger>(
         &mut self,
         context: &Context,
@@ -53,24 +55,22 @@ impl Server {
         steps: &mut Steps<L>,
     ) -> Result<(), NoMemory>
         ensures done { OnOk result (Follows self.old out.old self.new out.new
-            (λ d token world. silenced d token context.now.at branch method (is_of_calls
+            (λ d token world. silenced d token context.now.at branch method (whose_branch
             (invite_silent branch method) (calls_in d world).entries) world)) }
         ensures err { OnErr result (Breaks self.old out.old out.new
-            (λ d token world. silenced d token context.now.at branch method (is_of_calls
+            (λ d token world. silenced d token context.now.at branch method (whose_branch
             (invite_silent branch method) (calls_in d world).entries) world)) }
     {
-        let is_of_calls = is_answer_of_calls(
-            &self.calls,
-            invite_silent(branch.bytes(), method.bytes()),
-        );
-        if is_of_calls {
-            self.signal(context, Signal::Silent { branch, method }, out, steps)
-        } else {
-            self.seat_signal(context, RoomSignal::Silent { branch, method }, out, steps)
+        let whose = whose_branch(&self.calls, invite_silent(branch.bytes(), method.bytes()));
+        match whose {
+            Whose::Calls => self.signal(context, Signal::Silent { branch, method }, out, steps),
+            Whose::Rooms => {
+                self.seat_signal(context, RoomSignal::Silent { branch, method }, out, steps)
+            }
         }
     }
 
-    /// The client transaction of a request that was answered has ended: the calls hear of an INVITE of theirs, and the rooms of all others.
+    /// The client transaction of a request that was answered has ended: whoever sent it hears of it, the calls of an INVITE of theirs, and the rooms of all others.
     fn end_transaction<L: Ledger>(
         &mut self,
         context: &Context,
@@ -79,17 +79,16 @@ impl Server {
         steps: &mut Steps<L>,
     ) -> Result<(), NoMemory>
         ensures done { OnOk result (Follows self.old out.old self.new out.new
-            (λ d token world. ended_of d token context.now.at key (is_key_of_calls key
+            (λ d token world. ended_of d token context.now.at key (whose_key key
             (calls_in d world).entries) world)) }
         ensures err { OnErr result (Breaks self.old out.old out.new
-            (λ d token world. ended_of d token context.now.at key (is_key_of_calls key
+            (λ d token world. ended_of d token context.now.at key (whose_key key
             (calls_in d world).entries) world)) }
     {
-        let is_of_calls = self.calls.has_heard(key);
-        if is_of_calls {
-            self.signal(context, Signal::Over { key }, out, steps)
-        } else {
-            self.seat_signal(context, RoomSignal::Over { key }, out, steps)
+        let whose = whose_key(&self.calls, key);
+        match whose {
+            Whose::Calls => self.signal(context, Signal::Over { key }, out, steps),
+            Whose::Rooms => self.seat_signal(context, RoomSignal::Over { key }, out, steps),
         }
     }
 

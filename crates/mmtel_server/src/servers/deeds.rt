@@ -84,9 +84,9 @@ impl Server {
         ensures calls { self.new.calls ≡ self.old.calls }
     {
         numbers_are_distinct();
-        let text = message.text(context.alloc)?;
         self.transactions
             .ask(context.alloc, peer, message, context.at, steps)?;
+        let text = self.transactions.take_offered();
         offer_to(context.alloc, peer, context.at.ms(), text, out)
     }
 
@@ -104,10 +104,10 @@ impl Server {
         ensures err { OnErr result (out.new ≡ out.old) }
         ensures calls { self.new.calls ≡ self.old.calls }
     {
-        let text = message.text(context.alloc)?;
         let peer = self.transactions.peer(key, steps);
         self.transactions
             .reply(context.alloc, key, message, context.at, steps)?;
+        let text = self.transactions.take_offered();
         offer_to_peer(context.alloc, peer, context.at.ms(), text, out)
     }
 
@@ -125,9 +125,9 @@ impl Server {
         ensures err { OnErr result (out.new ≡ out.old) }
         ensures calls { self.new.calls ≡ self.old.calls }
     {
-        let text = message.text(context.alloc)?;
         let peer = self.transactions.peer(key, steps);
         self.transactions.ack(context.alloc, key, message, steps)?;
+        let text = self.transactions.take_offered();
         offer_to_peer(context.alloc, peer, context.at.ms(), text, out)
     }
 

@@ -6,6 +6,7 @@ ghost use Rattle.mmtel_directory.specs.declared.directories.Directory.{Directory
 ghost use Rattle.mmtel_focus.specs.Table.{no_rooms};
 ghost use Rattle.mmtel_in_force.specs.Texts.{Texts};
 ghost use Rattle.mmtel_outside.specs.declared.events.Offer.{Offer};
+ghost use Rattle.mmtel_run.specs.Answers.{further_methods};
 ghost use Rattle.mmtel_run.specs.Events.{Happened, digest_datagram, digest_event};
 ghost use Rattle.mmtel_run.specs.Run.{world_after};
 ghost use Rattle.mmtel_run.specs.World.{came, ended, met};
@@ -26,7 +27,7 @@ use mmtel_charging::Row;
 use mmtel_directory::Directory;
 use mmtel_focus::Rooms;
 use mmtel_in_force::Records;
-use mmtel_intake::{digest, moment};
+use mmtel_intake::{digest, further_methods, moment};
 use mmtel_keeper::Keeper;
 use mmtel_outside::{Event, Offer};
 use mmtel_run::{enough_comes, rows_are_filed};
@@ -80,17 +81,35 @@ fn none_yet(alloc: Global, directory: &Directory) -> Result<(Calls, Rooms), NoMe
           home = directory.now.home;
           bound = directory.now.bound;
           country = directory.now.country;
+          reliable = directory.now.reliable;
+          timer = directory.now.timer;
+          mwi = directory.now.names.mwi;
           table = no_calls;
           has_failed = false;
         }) }
     ensures rooms { IfOk result (λ made. made.1
-        ≡ record { sip = directory.now.sip; mixer = directory.now.mixer; table = no_rooms; has_failed = false }) }
+        ≡ record {
+          sip = directory.now.sip;
+          mixer = directory.now.mixer;
+          methods = further_methods directory.now;
+          table = no_rooms;
+          has_failed = false;
+        }) }
 {
     let home = directory.home.copied(alloc)?;
     let country = country_copied(alloc, &directory.country)?;
-    let calls = Calls::new(alloc, home, directory.sip, directory.bound, country)?;
+    let calls = Calls::new(
+        alloc,
+        home,
+        directory.sip,
+        directory.bound,
+        country,
+        directory.reliable,
+        directory.timer,
+    )?;
+    let calls = calls.with_mwi(directory.names.mwi);
     match Rooms::new(alloc, directory.mixer, directory.sip) {
-        Ok(rooms) => Ok((calls, rooms)),
+        Ok(rooms) => Ok((calls, rooms.with_methods(further_methods(directory)))),
         Err(error) => {
             calls.give_up();
             Err(error)

@@ -2,13 +2,15 @@ use Rattle.std.proofs.Common.{◌≡◌, ◌++◌, ◌∷◌, [], ◌∙◌, ap,
 use Rattle.std.proofs.lemmas.Result.{on_ok_weaker}
 use Rattle.mmtel_outside.specs.declared.events.Offer.TheVariants as offer
 use Rattle.mmtel_transaction.specs.Answers.{tkey}
-use Rattle.mmtel_transaction.specs.Calls.{opened}
+use Rattle.mmtel_transaction.specs.Calls.{DidAsk, opened}
 use Rattle.mmtel_server.proofs.Deeds.{asked}
 use Rattle.mmtel_server.proofs.servers.Server.ask.Goals as goal
 
 pub returns-clause-done : goal.returns-clause-done
 returns-clause-done g c = on_ok_weaker c.offer_to.result (λ offered.
-    asked c.numbers_are_distinct.ensures.few c.args.self.now c.ask.new.self c.args.out.now c.offer_to.new.out c.args.peer c.args.message.now c.args.context.now.at c.in_ok-text.text
-    (λ h. c.in_ok-ask.field-0 ≡ tkey (length (opened h))) c.in_ok-ask.ensures.done c.in_ok-text.ensures.text
-    (offered ∙ ap (λ (at : ℕ). c.args.out.now ++ offer.To c.args.peer at c.in_ok-text.text ∷ []) c.ms.ensures.number))
+    asked c.numbers_are_distinct.ensures.few c.args.self.now c.take_offered-text.new.self c.args.out.now c.offer_to.new.out c.args.peer c.args.message.now c.args.context.now.at c.take_offered-text.result
+    (λ h. c.in_ok-ask.field-0 ≡ tkey (length (opened h)))
+    (λ h st room. let d = c.in_ok-ask.ensures.done h st room in (c.take_offered-text.ensures.stands (DidAsk c.args.peer c.args.message.now c.args.context.now.at ∷ h) d.0, d.1))
+    (c.take_offered-text.ensures.text ∙ c.in_ok-ask.ensures.offered)
+    (offered ∙ ap (λ (at : ℕ). c.args.out.now ++ offer.To c.args.peer at c.take_offered-text.result ∷ []) c.ms.ensures.number))
     c.offer_to.ensures.done

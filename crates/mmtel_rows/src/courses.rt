@@ -11,7 +11,8 @@ use std::alloc::Global;
 
 /// A row is a request: `m` where it is merged, `f` where as many calls live as may and `u` where its peer is not trusted; `t` where To has a tag of no dialog, `d` and `e`
 /// where it names that of the caller and of the callee of call 3, `s` that of seat 2 of room 5, `x` where it names no account, and `o` where it offers audio; its method
-/// and Request-URI, and further lines, each ended by `|`. Below it stands what is done with it.
+/// and Request-URI, and further lines, each ended by `|`. Below it stands what is done with it. A line of `=` switches extensions on or off for the rows below it: `r` reliable
+/// answers, `t` session timers and `m` waiting messages; none is on before.
 const TABLE: &[u8] = br#"> -- INFO sip:bob@home.example
 405 Allow: INVITE, ACK, CANCEL, BYE, OPTIONS, REGISTER, REFER
 > -- INFO sips:bob@home.example
@@ -71,6 +72,20 @@ enter 3 caller
 > -d BYE sip:bob@home.example|Require: 100rel|
 420 Unsupported: 100rel
 > -d INFO sip:bob@home.example
+405 Allow: INVITE, ACK, CANCEL, BYE, OPTIONS, REGISTER, REFER
+> -- PRACK sip:bob@home.example|RAck: 1 7 INVITE|
+405 Allow: INVITE, ACK, CANCEL, BYE, OPTIONS, REGISTER, REFER
+> -d PRACK sip:bob@home.example|RAck: 1 7 INVITE|
+405 Allow: INVITE, ACK, CANCEL, BYE, OPTIONS, REGISTER, REFER
+> -d UPDATE sip:bob@home.example|Session-Expires: 90|
+405 Allow: INVITE, ACK, CANCEL, BYE, OPTIONS, REGISTER, REFER
+> -e UPDATE sip:bob@home.example|Require: timer|
+405 Allow: INVITE, ACK, CANCEL, BYE, OPTIONS, REGISTER, REFER
+> -- SUBSCRIBE sip:bob@home.example|Event: message-summary|
+405 Allow: INVITE, ACK, CANCEL, BYE, OPTIONS, REGISTER, REFER
+> -d SUBSCRIBE sip:bob@home.example|Event: message-summary|
+405 Allow: INVITE, ACK, CANCEL, BYE, OPTIONS, REGISTER, REFER
+> -s UPDATE sip:bob@home.example
 405 Allow: INVITE, ACK, CANCEL, BYE, OPTIONS, REGISTER, REFER
 > -d BYE sips:bob@home.example
 416
@@ -150,6 +165,45 @@ open
 open
 > -- OPTIONS sip:bob@home.example|History-Info: <sip:carol@home.example>;index=1|
 200 Allow: INVITE, ACK, CANCEL, BYE, OPTIONS, REGISTER, REFER
+= r--
+> -- PRACK sip:bob@home.example
+481
+> -- UPDATE sip:bob@home.example
+481
+> -d PRACK sip:bob@home.example
+enter 3 caller
+> -e UPDATE sip:bob@home.example
+enter 3 callee
+> -- OPTIONS sip:bob@home.example|Require: 100rel|
+200 Allow: INVITE, ACK, CANCEL, BYE, OPTIONS, REGISTER, REFER, PRACK, UPDATE
+> -- SUBSCRIBE sip:bob@home.example
+405 Allow: INVITE, ACK, CANCEL, BYE, OPTIONS, REGISTER, REFER, PRACK, UPDATE
+> -- INVITE sip:bob@home.example|Require: 100rel, timer|
+420 Unsupported: timer
+= -t-
+> -- INVITE sip:bob@home.example|Require: timer|
+open
+> -- INVITE sip:bob@home.example|Require: timer, Timer, 100rel|
+420 Unsupported: Timer Unsupported: 100rel
+> -- UPDATE sip:bob@home.example
+405 Allow: INVITE, ACK, CANCEL, BYE, OPTIONS, REGISTER, REFER
+= --m
+> -- OPTIONS sip:bob@home.example
+200 Allow: INVITE, ACK, CANCEL, BYE, OPTIONS, REGISTER, REFER, SUBSCRIBE
+> -- PRACK sip:bob@home.example
+405 Allow: INVITE, ACK, CANCEL, BYE, OPTIONS, REGISTER, REFER, SUBSCRIBE
+> -- BYE sip:bob@home.example|Require: mwi|
+420 Unsupported: mwi
+= rtm
+> -- OPTIONS sip:bob@home.example|Require: timer, histinfo, 100rel|
+200 Allow: INVITE, ACK, CANCEL, BYE, OPTIONS, REGISTER, REFER, PRACK, UPDATE, SUBSCRIBE
+= ---
+> -d PRACK sip:bob@home.example
+405 Allow: INVITE, ACK, CANCEL, BYE, OPTIONS, REGISTER, REFER
+> -d UPDATE sip:bob@home.example
+405 Allow: INVITE, ACK, CANCEL, BYE, OPTIONS, REGISTER, REFER
+> -- SUBSCRIBE sip:bob@home.example
+405 Allow: INVITE, ACK, CANCEL, BYE, OPTIONS, REGISTER, REFER
 "#;
 
 fn tell_answer(page: &mut Page, answer: &Answer) {
@@ -250,8 +304,20 @@ fn tell_row(page: &mut Page, directory: &Directory, whence: u8, to: u8, row: &[u
     }
 }
 
-fn tell_line(page: &mut Page, directory: &Directory, line: &[u8]) {
+/// Switches extensions on or off.
+fn switch(directory: &mut Directory, reliable: u8, timer: u8, mwi: u8) {
+    directory.reliable = reliable == b'r';
+    directory.timer = timer == b't';
+    directory.names.mwi = mwi == b'm';
+}
+
+fn tell_line(page: &mut Page, directory: &mut Directory, line: &[u8]) {
     match line {
+        [b'=', b' ', reliable, timer, mwi] => {
+            page.add(line);
+            page.add(b"\n");
+            switch(directory, *reliable, *timer, *mwi);
+        }
         [b'>', b' ', whence, to, b' ', row @ ..] => {
             page.add(line);
             page.add(b"\n");
@@ -261,9 +327,9 @@ fn tell_line(page: &mut Page, directory: &Directory, line: &[u8]) {
     }
 }
 
-fn tell_lines(page: &mut Page, directory: &Directory, table: &[u8]) {
+fn tell_lines(page: &mut Page, directory: &mut Directory, table: &[u8]) {
     let mut rest = table;
-    for _ in 0..200 {
+    for _ in 0..250 {
         let (line, later) = next_line(rest);
         tell_line(page, directory, line);
         rest = later;
@@ -272,7 +338,8 @@ fn tell_lines(page: &mut Page, directory: &Directory, table: &[u8]) {
 
 fn tell_all(page: &mut Page, table: &[u8]) {
     if let Some(directory) = directory(page) {
-        tell_lines(page, &directory, table);
+        let mut directory = directory;
+        tell_lines(page, &mut directory, table);
         drop(directory);
     }
 }

@@ -29,7 +29,8 @@ fn cause(number: u8) -> Cause {
         18 => Cause::Critical,
         19 => Cause::Merged,
         20 => Cause::Full,
-        _ => Cause::Ended,
+        21 => Cause::Ended,
+        _ => Cause::Unacknowledged,
     }
 }
 
@@ -56,11 +57,12 @@ critical 500
 merged 482
 full 503
 ended 0
+unacknowledged 500
 ";
 
 fn wrong_cause(alloc: Global) -> usize {
     let mut told = Told::new(alloc);
-    for number in 0..22 {
+    for number in 0..23 {
         let cause = cause(number);
         told.add(cause.word().as_bytes());
         told.add_spaced_number(u64::from(cause.status()));

@@ -1,4 +1,4 @@
-//! Which INVITE a response answers, or was given up.
+//! Which request a response answers, or was given up, of those whose answer is waited for.
 
 use crate::asserting::assert_right;
 use crate::messages::success;
@@ -8,12 +8,19 @@ use mmtel_scan::part;
 use mmtel_told::{Told, cut};
 use std::alloc::Global;
 
-/// A method and a branch; the branch behind its cookie of the INVITE that a response to it answers, and of the INVITE where it was given up (RFC 3261 §8.1.1.7, §17.1.3).
+/// A method and a branch; the branch behind its cookie of the request that a response to it answers, and of the request where it was given up, where its answer is waited
+/// for: an INVITE, a PRACK or an UPDATE (RFC 3261 §8.1.1.7, §17.1.3).
 /// Methods and the cookie are compared byte for byte.
 const BRANCHES: &[u8] = b"INVITE z9hG4bKx-1: x-1 x-1
 INVITE z9hG4bKz9hG4bK: z9hG4bK z9hG4bK
 INVITE x-1: none none
 INVITE Z9HG4BKx-1: none none
+PRACK z9hG4bKx-1: x-1 x-1
+UPDATE z9hG4bKx-1: x-1 x-1
+UPDATE x-1: none none
+Update z9hG4bKx-1: none none
+SUBSCRIBE z9hG4bKx-1: none none
+NOTIFY z9hG4bKx-1: none none
 BYE z9hG4bKx-1: none none
 CANCEL z9hG4bKx-1: none none
 invite z9hG4bKx-1: none none

@@ -380,7 +380,7 @@ fn play(told: &mut Told, table: &[u8]) {
     let mut world = quiet_world(told);
     put_record(told, &mut world, 2, b"waiting 2");
     let home = told.copy(b"home.example");
-    let calls = Calls::new(told.alloc, home, SIP, 5, None);
+    let calls = Calls::new(told.alloc, home, SIP, 5, None, false, false);
     if let Some(mut calls) = told.noted(calls) {
         play_over(told, &world, &mut calls, table);
         calls.give_up();

@@ -437,6 +437,60 @@ reply 8: 403 Forbidden, 10 REFER
 > 180 callee BYE 4
 reply 9: 500 Server Internal Error, 4 BYE
 -> ringing
+# a reliable answer goes on as any other; PRACK, UPDATE and SUBSCRIBE are of no use in a call; no PRACK is missed and no session ends
+> 0 invite 1 alice@home.example sip:bob@home.example
+reply 0: 100 Trying, 7 INVITE
+ask 1 to 1: INVITE sip:bob@home.example, 1 INVITE
+ P-Asserted-Identity: <sip:alice@home.example>
+due cap 1 at 180000
+-> asked
+> 10 caller UPDATE 8
+reply 2: 481 Call/Transaction Does Not Exist, 8 UPDATE
+-> asked
+> 20 due no-prack 1
+-> asked
+> 30 due expired 1
+-> asked
+> 100 answer 1 b 180 Ringing|Require: 100rel|RSeq: 900
+reply 0: 180 Ringing, 7 INVITE
+-> ringing
+> 110 caller PRACK 9|RAck: 1 7 INVITE
+reply 3: 481 Call/Transaction Does Not Exist, 9 PRACK
+-> ringing
+> 120 callee UPDATE 5
+reply 4: 481 Call/Transaction Does Not Exist, 5 UPDATE
+-> ringing
+> 130 caller SUBSCRIBE 10
+reply 5: 481 Call/Transaction Does Not Exist, 10 SUBSCRIBE
+-> ringing
+> 140 due no-prack 1
+-> ringing
+> 150 due expired 1
+-> ringing
+> 200 answer 1 b 200 OK|Session-Expires: 90
+reply 0: 200 OK, 7 INVITE
+due no-ack 1 at 32200
+-> answered caller
+> 210 callee UPDATE 6
+reply 6: 481 Call/Transaction Does Not Exist, 6 UPDATE
+-> answered caller
+> 220 due no-prack 1
+-> answered caller
+> 230 due expired 1
+-> answered caller
+> 300 caller ACK 7
+plain to 1: ACK sip:b@127.0.0.1:5071, 1 ACK
+-> talking
+> 310 caller UPDATE 11
+reply 7: 481 Call/Transaction Does Not Exist, 11 UPDATE
+-> talking
+> 320 callee PRACK 7
+reply 8: 481 Call/Transaction Does Not Exist, 7 PRACK
+-> talking
+> 330 due no-prack 1
+-> talking
+> 90200 due expired 1
+-> talking
 "#;
 
 #[test]

@@ -88,6 +88,9 @@ fn setting(world: &World) -> Setting<'_> {
         home: b"home.example",
         bound,
         country: None,
+        reliable: false,
+        timer: false,
+        mwi: false,
         peers: &world.peers,
         accounts: &world.accounts,
     }
@@ -301,8 +304,12 @@ fn due(told: &mut Told, words: &[u8]) -> Signal {
     let number = number(told, digits);
     let what = if is(kind, b"no-reply") {
         DueWord::NoReply(number)
+    } else if is(kind, b"no-prack") {
+        DueWord::NoPrack(number)
     } else if is(kind, b"cap") {
         DueWord::Cap(number)
+    } else if is(kind, b"expired") {
+        DueWord::Expired(number)
     } else {
         DueWord::NoAck(number)
     };

@@ -220,8 +220,10 @@ fn tell_deadline(told: &mut Told, word: &[u8], number: u64, at: u64) {
 fn tell_due(told: &mut Told, what: DueWord, at: u64) {
     match what {
         DueWord::NoReply(number) => tell_deadline(told, b" no-reply ", number, at),
+        DueWord::NoPrack(number) => tell_deadline(told, b" no-prack ", number, at),
         DueWord::Cap(number) => tell_deadline(told, b" cap ", number, at),
         DueWord::NoAck(number) => tell_deadline(told, b" no-ack ", number, at),
+        DueWord::Expired(number) => tell_deadline(told, b" expired ", number, at),
     }
 }
 

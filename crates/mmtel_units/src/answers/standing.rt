@@ -1,10 +1,10 @@
-//! Legs that stand: what is relayed in their dialogs, and their end.
+//! Legs in a dialog, early or confirmed: what is relayed in it, and their end.
 
 use crate::answers::heard::{OPENING, SIP, desk, hearing, tell_desk};
 use crate::asserting::assert_right;
 use mmtel_answers::{Hearing, called, calling, first_aim};
 use mmtel_desk::Desk;
-use mmtel_leg::{Asked, CalleeLeg, CallerLeg, Dialogue, Ended, Released, Remote, Standing};
+use mmtel_leg::{Asked, CalleeLeg, CallerLeg, Dialogue, Early, Ended, Released, Remote, Standing};
 use mmtel_lex::List;
 use mmtel_message::{Line, add_bytes};
 use mmtel_told::Told;
@@ -109,6 +109,57 @@ Content-Length: 0
 
 "##;
 
+const PRACKED: &[u8] = br##"PRACK sip:127.0.0.1:5060 SIP/2.0
+Via: SIP/2.0/UDP 127.0.0.1:5071;branch=z9hG4bKa4
+Max-Forwards: 70
+From: "Erin" <sip:erin@other.example>;tag=a
+To: <sip:bob@far.example>;tag=t1
+Call-ID: c1
+CSeq: 8 PRACK
+RAck: 1 7 INVITE
+Content-Length: 0
+
+"##;
+
+const UPDATED: &[u8] = br##"UPDATE sip:127.0.0.1:5060 SIP/2.0
+Via: SIP/2.0/UDP 127.0.0.1:5071;branch=z9hG4bKa5
+Max-Forwards: 70
+From: "Erin" <sip:erin@other.example>;tag=a
+To: <sip:bob@far.example>;tag=t1
+Call-ID: c1
+CSeq: 9 UPDATE
+Contact: <sip:erin@127.0.0.1:5071>
+Content-Type: text/plain
+Content-Length: 2
+
+up"##;
+
+/// The PRACK has no Contact, and the UPDATE that of the server (RFC 3262 §7, RFC 3311 §5.1).
+const TOLD_EARLY: &[u8] = br##"ask 2
+PRACK sip:bob@127.0.0.1:5072 SIP/2.0
+Via: SIP/2.0/UDP 127.0.0.1:5060;branch=z9hG4bK0123456789abcdef-1
+Max-Forwards: 69
+From: "Anonymous" <sip:anonymous@anonymous.invalid>;tag=t2
+To: <sip:bob@far.example>;tag=b
+Call-ID: c2
+CSeq: 2 PRACK
+RAck: 900 1 INVITE
+Content-Length: 0
+
+ask 2
+UPDATE sip:bob@127.0.0.1:5072 SIP/2.0
+Via: SIP/2.0/UDP 127.0.0.1:5060;branch=z9hG4bK0123456789abcdef-2
+Max-Forwards: 69
+From: "Anonymous" <sip:anonymous@anonymous.invalid>;tag=t2
+To: <sip:bob@far.example>;tag=b
+Call-ID: c2
+CSeq: 3 UPDATE
+Contact: <sip:127.0.0.1:5060>
+Content-Type: text/plain
+Content-Length: 2
+
+up"##;
+
 /// A list of one line.
 fn line(told: &mut Told, name: &[u8], value: &[u8]) -> List<Line> {
     let mut lines = List::new();
@@ -134,6 +185,19 @@ fn callee(told: &mut Told, opening: &Hearing, answer: &Hearing) -> Option<Callee
     let remote = told.noted(remote)?;
     match dialogue(told, opening) {
         Some(dialogue) => Some(CalleeLeg::<Asked>::begun(dialogue, None).stand(remote)),
+        None => {
+            drop(remote);
+            None
+        }
+    }
+}
+
+/// The leg to which the INVITE was offered, once this answer to it rang.
+fn early_callee(told: &mut Told, opening: &Hearing, answer: &Hearing) -> Option<CalleeLeg<Early>> {
+    let remote = Remote::read(told.alloc, &answer.message, Side::Callee);
+    let remote = told.noted(remote)?;
+    match dialogue(told, opening) {
+        Some(dialogue) => Some(CalleeLeg::<Asked>::begun(dialogue, None).early(remote)),
         None => {
             drop(remote);
             None
@@ -224,6 +288,65 @@ fn wrong_relays(alloc: Global) -> usize {
     tell_desk(&mut told, &desk);
     drop(desk);
     told.wrong_line(TOLD)
+}
+
+/// Asks an early leg for the request of the caller, with this line of it.
+fn ask_early(
+    told: &mut Told,
+    desk: &mut Desk,
+    leg: &mut CalleeLeg<Early>,
+    method: &[u8],
+    heard: &[u8],
+    name: &[u8],
+    value: &[u8],
+) {
+    let request = hearing(told, heard, 1, 5071, true);
+    let passed = line(told, name, value);
+    let done = desk.ask_for(told.alloc, SIP, method, leg, &passed, &request);
+    drop(passed);
+    drop(request);
+    told.noted(done);
+}
+
+/// What an early dialog is asked, the caller's PRACK and its UPDATE, with the numbers behind that of the INVITE (RFC 3261 §12.2.1.1).
+fn wrong_early(alloc: Global) -> usize {
+    let mut told = Told::new(alloc);
+    let opening = hearing(&mut told, OPENING, 1, 5071, true);
+    let rings = hearing(&mut told, RINGS, 2, 5072, false);
+    let mut desk = desk(&mut told);
+    if let Some(leg) = early_callee(&mut told, &opening, &rings) {
+        let mut leg = leg;
+        ask_early(
+            &mut told,
+            &mut desk,
+            &mut leg,
+            b"PRACK",
+            PRACKED,
+            b"RAck",
+            b"900 1 INVITE",
+        );
+        ask_early(
+            &mut told,
+            &mut desk,
+            &mut leg,
+            b"UPDATE",
+            UPDATED,
+            b"Content-Type",
+            b"text/plain",
+        );
+        let ended = leg.leave();
+        end(&mut told, ended);
+    }
+    drop(opening);
+    drop(rings);
+    tell_desk(&mut told, &desk);
+    drop(desk);
+    told.wrong_line(TOLD_EARLY)
+}
+
+#[test]
+fn asks_early_dialogs(rt: HostRuntime) {
+    assert_right(&rt, "early dialogs", wrong_early(rt.alloc()));
 }
 
 #[test]

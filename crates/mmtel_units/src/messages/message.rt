@@ -193,6 +193,7 @@ X-Thing: as it stands
 Allow: INVITE,ACK
 Supported: 100rel,
 privacy: x-new
+X : 90
 allow:BYE
 max-forwards: 068
 l: 2
@@ -216,6 +217,7 @@ X-Thing: as it stands
 Allow: INVITE, ACK, BYE
 Supported: 100rel
 Supported: 
+Session-Expires: 90
 Max-Forwards: 068
 Content-Length: 2
 

@@ -7,7 +7,8 @@ use mmtel_message::{Msg, ReadFault, Span, read_held};
 use mmtel_told::Told;
 use std::alloc::Global;
 
-/// An INVITE whose Via value begins at 41 and has 43 bytes, and whose Max-Forwards begins at 100; its Contact is folded, and its Route has two values on one line.
+/// An INVITE whose Via value begins at 41 and has 43 bytes, and whose Max-Forwards begins at 100; its Contact is folded within its
+/// value; its Route has two values on one line, its Record-Route one on each of two, and its Subject stands on the second of its lines.
 const INVITE: &[u8] = b"INVITE sip:bob@far.example SIP/2.0
 Via: SIP/2.0/UDP 127.0.0.1:5071;branch=z9hG4bKa1
 Max-Forwards: 68
@@ -18,14 +19,19 @@ CSeq: 7 INVITE
 Contact: \"E\"
  <sip:erin@127.0.0.1:5071>
 Route: <sip:r@h;lr>, <sip:s@h;lr>
+Record-Route: <sip:q@h;lr>,
+ <sip:p@h;lr>
+Subject:
+ lunch
 Content-Length: 0
 
 ";
 
 /// What is told of it: the place of each line's value, or that it is an edit; the same after Max-Forwards is set; the values of Route; how many bytes were received of a
 /// message that the server built.
-const PLACES: &[u8] = b"41+43 100+2 110+37 153+21 185+2 195+8 edit 254+12 268+12 298+1
-41+43 edit 110+37 153+21 185+2 195+8 edit 254+12 268+12 298+1
+const PLACES: &[u8] =
+    b"41+43 100+2 110+37 153+21 185+2 195+8 edit 254+12 268+12 296+12 312+12 337+5 360+1
+41+43 edit 110+37 153+21 185+2 195+8 edit 254+12 268+12 296+12 312+12 337+5 360+1
 <sip:r@h;lr>|<sip:s@h;lr>|
 0
 ";

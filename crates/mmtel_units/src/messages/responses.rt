@@ -73,6 +73,8 @@ Request Timeout
 Unsupported URI Scheme
 > 420
 Bad Extension
+> 422
+Session Interval Too Small
 > 433
 Anonymity Disallowed
 > 480
@@ -89,6 +91,8 @@ Busy Here
 Request Terminated
 > 488
 Not Acceptable Here
+> 489
+Bad Event
 > 491
 Request Pending
 > 500
@@ -183,6 +187,7 @@ fn tell_plain(told: &mut Told, method: &[u8], code: u16, named: &[u8]) {
 /// A 200 of an INVITE has Record-Route and Contact, what is passed on, what is named for it and the body.
 /// A 100 without the tag; a 400 of an INVITE without Record-Route and Contact; a 405 that names the methods; a 420 that names two extensions, one a line.
 /// A tag in To is kept; a 202 of a REFER has Contact, but no Record-Route.
+/// A 200 of a SUBSCRIBE has both, one of an UPDATE Contact alone, and one of a PRACK neither; a refusal has neither, whatever it refuses.
 /// Last the reply that a fault of reading carries is completed from its own lines.
 const RESPONSES: &[u8] = b"SIP/2.0 200 OK
 Via: SIP/2.0/UDP h;rport=5071;branch=z9hG4bKa;received=127.0.0.1
@@ -244,6 +249,55 @@ To: <sip:b@h>;x;tag=b
 Call-ID: c1
 CSeq: 2 REFER
 Contact: <sip:127.0.0.1:5060>
+Content-Length: 0
+
+SIP/2.0 200 OK
+Via: SIP/2.0/UDP h;rport=5071;branch=z9hG4bKa;received=127.0.0.1
+Via: SIP/2.0/UDP far.example;rport;branch=z9hG4bKb
+From: <sip:a@h>;tag=a
+To: <sip:b@h>;tag=T-1
+Call-ID: c1
+CSeq: 1 INVITE
+Record-Route: <sip:r.example;lr>
+Contact: <sip:127.0.0.1:5060>
+Expires: 3600
+Content-Length: 0
+
+SIP/2.0 481 Call/Transaction Does Not Exist
+Via: SIP/2.0/UDP h;rport=5071;branch=z9hG4bKa;received=127.0.0.1
+Via: SIP/2.0/UDP far.example;rport;branch=z9hG4bKb
+From: <sip:a@h>;tag=a
+To: <sip:b@h>;tag=T-1
+Call-ID: c1
+CSeq: 1 INVITE
+Content-Length: 0
+
+SIP/2.0 200 OK
+Via: SIP/2.0/UDP h;rport=5071;branch=z9hG4bKa;received=127.0.0.1
+Via: SIP/2.0/UDP far.example;rport;branch=z9hG4bKb
+From: <sip:a@h>;tag=a
+To: <sip:b@h>;tag=T-1
+Call-ID: c1
+CSeq: 1 INVITE
+Contact: <sip:127.0.0.1:5060>
+Content-Length: 0
+
+SIP/2.0 491 Request Pending
+Via: SIP/2.0/UDP h;rport=5071;branch=z9hG4bKa;received=127.0.0.1
+Via: SIP/2.0/UDP far.example;rport;branch=z9hG4bKb
+From: <sip:a@h>;tag=a
+To: <sip:b@h>;tag=T-1
+Call-ID: c1
+CSeq: 1 INVITE
+Content-Length: 0
+
+SIP/2.0 200 OK
+Via: SIP/2.0/UDP h;rport=5071;branch=z9hG4bKa;received=127.0.0.1
+Via: SIP/2.0/UDP far.example;rport;branch=z9hG4bKb
+From: <sip:a@h>;tag=a
+To: <sip:b@h>;tag=T-1
+Call-ID: c1
+CSeq: 1 INVITE
 Content-Length: 0
 
 SIP/2.0 400 Bad Request
@@ -315,6 +369,11 @@ fn wrong_response(alloc: Global) -> usize {
     let refer = asked(&mut told, b"REFER", IN_A_DIALOG);
     tell_answer(&mut told, &refer, 202, b"", b"", b"");
     drop(refer);
+    tell_plain(&mut told, b"SUBSCRIBE", 200, b"Expires: 3600\n");
+    tell_plain(&mut told, b"SUBSCRIBE", 481, b"");
+    tell_plain(&mut told, b"UPDATE", 200, b"");
+    tell_plain(&mut told, b"UPDATE", 491, b"");
+    tell_plain(&mut told, b"PRACK", 200, b"");
     tell_bad(&mut told);
     told.wrong_line(RESPONSES)
 }

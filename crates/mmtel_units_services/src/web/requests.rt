@@ -44,7 +44,11 @@ fn accounts(told: &mut Told) -> Accounts {
 fn directory(told: &mut Told) -> WebDirectory {
     let accounts = accounts(told);
     let operator = uri(told, b"sip:op@home.example");
-    WebDirectory { accounts, operator }
+    WebDirectory {
+        accounts,
+        operator,
+        mwi: false,
+    }
 }
 
 /// A server of records over a keeper in memory.

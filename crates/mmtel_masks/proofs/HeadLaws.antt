@@ -10,7 +10,8 @@ use Rattle.mmtel_message.specs.Fields.{call_in, first_part, only_value, via_at}
 use Rattle.mmtel_message.specs.Message.{Line, Message, named}
 use Rattle.mmtel_message.specs.declared.fields.Via.{Via}
 use Rattle.mmtel_message.specs.declared.messages.Start.{Start}
-use Rattle.mmtel_message.proofs.CanonicalLaws.{head_value, only_kept, only_named, only_of}
+use Rattle.mmtel_message.proofs.CanonicalLaws.{only_kept, only_named, only_of}
+use Rattle.mmtel_message.proofs.WalkLaws.{head_value}
 use Rattle.mmtel_transaction.specs.Heads.{head_of, param_text}
 use Rattle.mmtel_transaction.specs.HeadsRead.{HeadsRestOnFields, tag_read}
 use Rattle.mmtel_trust.specs.Digest.{HeardMessage}

@@ -3,7 +3,7 @@ ghost use Rattle.std.specs.Prelude.{◌≡◌, ◌≤◌, length, is_some, true,
 ghost use Rattle.std.specs.Option.{option_copied, option_map};
 ghost use Rattle.std.specs.Str.{str_eq_ignore_ascii_case};
 ghost use Rattle.mmtel_lex.specs.Borrowed.{params_in};
-ghost use Rattle.mmtel_lex.specs.Params.{param_value};
+ghost use Rattle.mmtel_lex.specs.Params.{first_param, has_param, param_value};
 ghost use Rattle.mmtel_lex.specs.Reading.{value_at, param_at, all_params_at};
 
 use crate::faults::LexFault;
@@ -85,10 +85,18 @@ impl<'a> ParamRef<'a> {
 impl<'a> ParamsRef<'a> {
     /// The value of the first parameter of the name, which is compared without case (RFC 3261 §7.3.1); None where there is none of that name, or the first has no value.
     /// It takes no memory.
+    #[tactic(auto, using(crate::proofs::ParamsSeek::none_valued, crate::proofs::ParamsSeek::one_valued))]
     pub fn value(&self, name: &[u8]) -> Option<&'a [u8]>
         ensures { option_copied result ≡ param_value name.now self.now }
     {
-        value_in(self.bytes, name)
+        first_in(self.bytes, name)?.value()
+    }
+
+    /// Whether there is a parameter of the name, which is compared without case (RFC 3261 §7.3.1), with a value or without. It takes no memory.
+    pub fn has(&self, name: &[u8]) -> bool
+        ensures { result ≡ has_param name.now self.now }
+    {
+        first_in(self.bytes, name).is_some()
     }
 
     /// A copy of the parameters.
@@ -161,16 +169,16 @@ fn after_params(bytes: &[u8]) -> Option<&[u8]>
     Some(rest)
 }
 
-/// The value of the first parameter of the name among those at the front.
-fn value_in<'a>(bytes: &'a [u8], name: &[u8]) -> Option<&'a [u8]>
+/// The first parameter of the name among those at the front.
+fn first_in<'a>(bytes: &'a [u8], name: &[u8]) -> Option<ParamRef<'a>>
     requires { is_some (all_params_at bytes.now) ≡ true }
-    ensures { option_copied result ≡ param_value name.now (params_in bytes.now) }
+    ensures { result ≡ first_param name.now (params_in bytes.now) }
 {
     let mut rest = bytes;
     'params: while let Some(tail) = skip_byte(b';', rest) {
         let (param, after) = param_ref(tail)?;
         if param.is_named(name) {
-            return param.value();
+            return Some(param);
         }
         rest = after;
     }

@@ -1,6 +1,6 @@
 use Rattle.std.proofs.Common.{length}
 use Rattle.mmtel_lex.proofs.ParamsSeek.{SeeksOn}
-use Rattle.mmtel_lex.proofs.param_refs.value_in.Given as goal
+use Rattle.mmtel_lex.proofs.param_refs.first_in.Given as goal
 
 abbrev pub invariant-params : goal.invariant-params
 invariant-params l = SeeksOn l.name l.rest l.fn.bytes

@@ -9,6 +9,7 @@ mod FiveLaws
 mod FoldLaws
 mod HeaderLaws
 mod HeldLaws
+mod IdentifierLaws
 mod LineLaws
 mod NameLaws
 mod PartLaws

@@ -10,6 +10,7 @@ pub mod Texts
 pub mod Starts
 pub mod Fields
 pub mod FiveLines
+pub mod Identifiers
 pub mod Entries
 pub mod Faults
 pub mod Expansion

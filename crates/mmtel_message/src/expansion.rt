@@ -216,7 +216,7 @@ fn expanded_in(
     ensures { IfOk result (λ ls. held_lines bytes.now ls ≡
         expanded_from (privacy_text whole.now.values) (allow_text whole.now.values) [] (held_lines bytes.now lines.now)) }
 {
-    let mut out = List::new();
+    let mut out = List::with_room(alloc, lines.len())?;
     for i in 0..lines.len() {
         add_lines_for(alloc, &mut out, bytes, whole, &lines[..i], &lines[i])?;
     }

@@ -12,6 +12,7 @@ mod fields;
 mod five_lines;
 mod headers;
 mod held;
+mod identifiers;
 pub mod laws;
 mod line_values;
 mod lines;
@@ -33,6 +34,7 @@ pub use faults::{is_method, is_readable, is_request};
 pub use field_refs::{CSeqRef, FiveRef, ViaRef, cseq_ref, five_ref, via_ref};
 pub use fields::{CSeq, Five, Via, read_cseq, read_five, read_via};
 pub use held::{Lines, NamedLine, Span};
+pub use identifiers::Identifiers;
 pub use line_values::ValuesIn;
 pub use messages::{
     Line, Msg, Start, first_of, has_line, is_line, is_named, line_texts, values_named,

@@ -1,14 +1,16 @@
 //! Messages: their parts, what is found by a name, and edits (RFC 3261 §7 and §7.3.1).
-ghost use Rattle.std.specs.Prelude.{◌≡◌, ◌∷◌, ◌+◌, ◌++◌, ◌≤◌, ◌<◌, ℕ, List, length, IfOk, OnOk, OnErr, take, drop, filter, not, position, []};
+ghost use Rattle.std.specs.Prelude.{◌≡◌, ◌∷◌, ◌+◌, ◌++◌, ◌≤◌, ◌<◌, Some, ℕ, List, length, IfOk, OnOk, OnErr, take, drop, filter, not, position, []};
 ghost use Rattle.std.specs.Option.{option_copied};
 ghost use Rattle.std.specs.Str.{str_eq_ignore_ascii_case};
 ghost use Rattle.mmtel_message.specs.Values.{base};
 ghost use Rattle.mmtel_message.specs.declared.values.Mode.TheVariants.{Plain};
 ghost use Rattle.mmtel_message.specs.Held.{held_lines, lines_of, value_of};
+ghost use Rattle.mmtel_message.specs.Identifiers.{identifiers_in};
 ghost use Rattle.mmtel_message.specs.Message.{is_line, has_line, first_value, dropped, replaced, line_texts, values_named};
 
 use crate::edits::Edit;
 use crate::held::{Held, HeldValue, Lines, Span, value_of};
+use crate::identifiers::{Identifiers, KeptIdentifiers, identifiers_in};
 use crate::values::{Mode, values_in};
 use mmtel_lex::{List, NoMemory, Text};
 use std::alloc::Global;
@@ -28,7 +30,7 @@ pub type Line = (Text, Text);
 
 /// A message (RFC 3261 §7): its start line, its header lines in order, and its body.
 ///
-/// A message that `read` gave has names in full and one value of a listed name a line; edits keep the names that they are given.
+/// A message that `read` gave has names in full and one value of a listed name a line; edits keep the names that they are given. It keeps what its five fields say until it is edited.
 ///
 /// The values of a message that was received are places among the bytes that came, as long as nobody edits their lines.
 #[derive(Drop)]
@@ -38,16 +40,23 @@ pub struct Msg {
     held: List<Held>,
     added: List<Line>,
     body: HeldValue,
+    /// What its five fields say, where it was read and its lines were not edited since.
+    identifiers: Option<Box<KeptIdentifiers>>,
 }
 
 impl Model for Msg {
+    ghost use Rattle.std.specs.Prelude.{◌≡◌, IfSome, Some};
     ghost use Rattle.mmtel_message.specs.Message.{Message};
     ghost use Rattle.mmtel_message.specs.Held.{lines_of, value_of};
+    ghost use Rattle.mmtel_message.specs.Identifiers.{identifiers_in};
     ghost use Rattle.mmtel_message.specs.declared.messages.Start.{Start};
 
     ghost Value = { Message Start };
 
     ghost view = { λ m. record { start = m.start; lines = lines_of m.received m.held m.added; body = value_of m.received m.body } };
+
+    // What is kept of the five fields is what they say.
+    ghost invariant = { λ m. IfSome m.identifiers (λ kept. identifiers_in (lines_of m.received m.held m.added) ≡ Some kept.value) };
 }
 
 /// Whether a name is this one, which is compared without case (RFC 3261 §7.3.1).
@@ -232,11 +241,19 @@ impl Msg {
             held: List::new(),
             added: lines,
             body: HeldValue::Edited(Edit::of(body)),
+            identifiers: None,
         }
     }
 
-    /// A message that was received as these bytes: its lines, and its body, which are places among them or edits.
-    pub fn held(start: Start, received: Text, held: List<Held>, body: HeldValue) -> Msg
+    /// A message that was received as these bytes: its lines, and its body, which are places among them or edits; and what its five fields say.
+    pub fn held(
+        start: Start,
+        received: Text,
+        held: List<Held>,
+        body: HeldValue,
+        identifiers: Box<KeptIdentifiers>,
+    ) -> Msg
+        requires { identifiers_in (held_lines received held) ≡ Some identifiers.value }
         ensures { result ≡ record { start = start; lines = held_lines received held; body = value_of received body } }
     {
         Msg {
@@ -245,6 +262,7 @@ impl Msg {
             held,
             added: List::new(),
             body,
+            identifiers: Some(identifiers),
         }
     }
 
@@ -272,6 +290,17 @@ impl Msg {
     /// The bytes that were received, of a message that `read` or `read_held` gave; none of one that the server built.
     pub fn received(&self) -> &[u8] {
         self.received.bytes()
+    }
+
+    /// What the five fields say of the message's transaction and its dialog; None exactly where one of them cannot be read. A message that was read and not edited keeps it, of
+    /// another one the fields are read. It takes no memory.
+    pub fn identifiers(&self) -> Option<Identifiers<'_>>
+        ensures { result ≡ identifiers_in self.now.lines }
+    {
+        match &self.identifiers {
+            None => identifiers_in(&self.lines()),
+            Some(kept) => Some(kept.lent()),
+        }
     }
 
     /// Where the value of a line stands in `received`; None where the line is an edit or is not there. What stands there is the value: see `Lines::span`.
@@ -307,6 +336,7 @@ impl Msg {
         ensures err { OnErr result (self.new ≡ self.old) }
     {
         let name = Text::of(alloc, name)?;
+        self.identifiers = None;
         self.added.push(alloc, (name, value))?;
         Ok(())
     }
@@ -320,6 +350,7 @@ impl Msg {
         ensures ok { OnOk result (self.new ≡ record self.old { lines = (name.now, value) ∷ self.old.lines }) }
         ensures err { OnErr result (self.new ≡ self.old) }
     {
+        self.identifiers = None;
         push_line(alloc, &mut self.held, &mut self.added, name, value)
     }
 
@@ -327,6 +358,7 @@ impl Msg {
     pub fn drop_all(&mut self, name: &[u8])
         ensures { self.new ≡ record self.old { lines = dropped name.now self.old.lines } }
     {
+        self.identifiers = None;
         drop_lines(&mut self.held, &mut self.added, name);
     }
 
@@ -339,6 +371,7 @@ impl Msg {
         ensures ok { OnOk result (self.new ≡ record self.old { lines = replaced name.now value self.old.lines }) }
         ensures err { OnErr result (self.new ≡ self.old) }
     {
+        self.identifiers = None;
         set_line(alloc, &mut self.held, &mut self.added, name, value)
     }
 }

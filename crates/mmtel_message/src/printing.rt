@@ -93,17 +93,28 @@ fn room_with(room: usize, name: &[u8], value: &[u8]) -> usize {
         .saturating_add(b": \r\n".len())
 }
 
-/// How many bytes the lines take.
-fn lines_room(lines: &Lines<'_>) -> usize {
-    let (received, held, added) = lines.parts();
-    let mut room: usize = 0;
+/// The room for what is before and these lines, which were received.
+fn room_with_received(before: usize, received: &[u8], held: &[Held]) -> usize {
+    let mut room = before;
     for line in held {
         room = room_with(room, line.0.bytes(), value_of(received, &line.1));
     }
+    room
+}
+
+/// The room for what is before and these lines, which were added.
+fn room_with_added(before: usize, added: &[Line]) -> usize {
+    let mut room = before;
     for line in added {
         room = room_with(room, line.0.bytes(), line.1.bytes());
     }
     room
+}
+
+/// How many bytes the lines take.
+fn lines_room(lines: &Lines<'_>) -> usize {
+    let (received, held, added) = lines.parts();
+    room_with_added(room_with_received(0, received, held), added)
 }
 
 /// Room for the text of a message. What finds none there still is added.

@@ -1,9 +1,11 @@
 //! Reading.
-ghost use Rattle.std.specs.Prelude.{◌≡◌, ◌≤◌, ◌<◌, ◌+◌, ℕ, List, Some, Err, IfOk, codes, drop, length, map, take};
+ghost use Rattle.std.specs.Prelude.{◌≡◌, ◌≤◌, ◌<◌, ◌+◌, ℕ, List, Some, Ok, Err, IfOk, MatchResult, codes, drop, length, map, take};
+ghost use Rattle.mmtel_message.specs.Expansion.{expanded};
 ghost use Rattle.mmtel_message.specs.Headers.{header_line};
 ghost use Rattle.mmtel_message.specs.Held.{held_lines, value_of};
 ghost use Rattle.mmtel_message.specs.Canonical.{IsCanonical};
-ghost use Rattle.mmtel_message.specs.Reads.{reads, Reads, large_of, large_reply, body_of, message_head, head_in_lines, head_in, after_head, after_faults};
+ghost use Rattle.mmtel_message.specs.Identifiers.{identifiers_in};
+ghost use Rattle.mmtel_message.specs.Reads.{reads, Reads, Stops, large_of, large_reply, body_of, message_of, message_head, head_in_lines, head_in, after_head};
 ghost use Rattle.mmtel_message.specs.Replies.{reply_to};
 ghost use Rattle.mmtel_message.specs.declared.reading.ReadFault.TheVariants as fault;
 
@@ -12,6 +14,7 @@ use crate::faults::first_fault;
 use crate::field_refs::five_ref;
 use crate::headers::headers;
 use crate::held::{Held, HeldValue, Lines, Span, value_of};
+use crate::identifiers::KeptIdentifiers;
 use crate::lines::{Break, lines, place, whole_end};
 use crate::messages::{Msg, Start, first_of};
 use crate::replies::reply_to;
@@ -56,53 +59,101 @@ fn body_len(lines: &Lines<'_>, rest: usize) -> usize
     }
 }
 
-fn too_many(alloc: Global, start: &Start, bytes: &[u8], lines: &[Held]) -> Result<Msg, ReadFault>
-    ensures { Reads result (Err (fault.TooMany (reply_to start.now 513 (codes "Message Too Large") (held_lines bytes.now lines.now)))) }
+/// Refuses a message that has too many lines.
+fn too_many(alloc: Global, start: &Start, bytes: &[u8], lines: &[Held]) -> ReadFault
+    ensures { Stops result (Err (fault.TooMany (reply_to start.now 513 (codes "Message Too Large") (held_lines bytes.now lines.now)))) }
 {
-    let reply = reply_to(alloc, start, 513, b"Message Too Large", bytes, lines)?;
-    Err(ReadFault::TooMany { reply })
+    match reply_to(alloc, start, 513, b"Message Too Large", bytes, lines) {
+        Ok(reply) => ReadFault::TooMany { reply },
+        Err(NoMemory) => ReadFault::NoMemory,
+    }
 }
 
-fn bad(
+/// Refuses a message that has a fault.
+fn bad(alloc: Global, start: &Start, bytes: &[u8], lines: &[Held], at: usize) -> ReadFault
+    ensures { Stops result (Err (fault.Bad at (reply_to start.now 400 (codes "Bad Request") (held_lines bytes.now lines.now)))) }
+{
+    match reply_to(alloc, start, 400, b"Bad Request", bytes, lines) {
+        Ok(reply) => ReadFault::Bad { at, reply },
+        Err(NoMemory) => ReadFault::NoMemory,
+    }
+}
+
+/// Those in a box of their own.
+fn boxed(alloc: Global, identifiers: KeptIdentifiers) -> Result<Box<KeptIdentifiers>, NoMemory>
+    ensures { IfOk result (λ b. b.value ≡ identifiers) }
+{
+    match Box::new(alloc, identifiers) {
+        Ok(boxed) => Ok(boxed),
+        Err(refused) => {
+            drop(refused.value);
+            Err(NoMemory)
+        }
+    }
+}
+
+/// What the five fields say of a message whose head ends at a place of these bytes and has this start line and these header lines, where nothing is wrong with it.
+#[tactic(auto, using(crate::proofs::IdentifierLaws::read_whole))]
+fn looked_over(
     alloc: Global,
     start: &Start,
     bytes: &[u8],
+    end: usize,
     lines: &[Held],
-    at: usize,
-) -> Result<Msg, ReadFault>
-    ensures { Reads result (Err (fault.Bad at (reply_to start.now 400 (codes "Bad Request") (held_lines bytes.now lines.now)))) }
+) -> Result<Box<KeptIdentifiers>, ReadFault>
+    requires { end + 4 ≤ length bytes.now }
+    ensures read { let hs = held_lines bytes.now lines.now in let rest = drop (end + 4) bytes.now in
+        MatchResult result (λ _. after_head (message_head (Some start.now) hs) rest ≡ Ok (message_of start.now hs rest))
+        (λ e. Stops e (after_head (message_head (Some start.now) hs) rest)) }
+    ensures said { IfOk result (λ b. identifiers_in (expanded (held_lines bytes.now lines.now)) ≡ Some b.value) }
 {
-    let reply = reply_to(alloc, start, 400, b"Bad Request", bytes, lines)?;
-    Err(ReadFault::Bad { at, reply })
+    let room = bytes.len() - (end + 4);
+    let whole = Lines::of(bytes, lines, &[]);
+    match five_ref(&whole) {
+        None => Err(ReadFault::NotSip),
+        Some(five) => {
+            if lines.len() > 128 {
+                return Err(too_many(alloc, start, bytes, lines));
+            }
+            match first_fault(start, &five, room as u64, &whole) {
+                Some(at) => Err(bad(alloc, start, bytes, lines, at)),
+                None => {
+                    let identifiers = KeptIdentifiers::of(alloc, &five)?;
+                    Ok(boxed(alloc, identifiers)?)
+                }
+            }
+        }
+    }
 }
 
-/// The message of these bytes, whose head ends at a place.
-fn after_faults(
+/// The message of these bytes, whose head ends at a place of them, with this start line, these header lines, and what their five fields say.
+fn whole_message(
     alloc: Global,
     start: Start,
     bytes: Text,
     end: usize,
     lines: &[Held],
-    at: Option<usize>,
-) -> Result<Msg, ReadFault>
-    requires { end + 4 ≤ length bytes }
-    ensures { Reads result (after_faults start (held_lines bytes lines.now) (drop (end + 4) bytes) at) }
+    identifiers: Box<KeptIdentifiers>,
+) -> Result<Msg, NoMemory>
+    requires head { end + 4 ≤ length bytes }
+    requires said { identifiers_in (expanded (held_lines bytes lines.now)) ≡ Some identifiers.value }
+    ensures { IfOk result (λ m. m ≡ message_of start (held_lines bytes lines.now) (drop (end + 4) bytes)) }
 {
-    match at {
-        Some(at) => {
-            let refused = bad(alloc, &start, bytes.bytes(), lines, at);
+    let from = end + 4;
+    let len = body_len(
+        &Lines::of(bytes.bytes(), lines, &[]),
+        bytes.bytes().len() - from,
+    );
+    match expanded(alloc, bytes.bytes(), lines) {
+        Err(NoMemory) => {
+            drop(identifiers);
             drop(bytes);
             drop(start);
-            refused
+            Err(NoMemory)
         }
-        None => {
-            let from = end + 4;
-            let len = body_len(
-                &Lines::of(bytes.bytes(), lines, &[]),
-                bytes.bytes().len() - from,
-            );
-            let lines = expanded(alloc, bytes.bytes(), lines)?;
-            Ok(Msg::held(start, bytes, lines, HeldValue::Received(Span { from, len })))
+        Ok(lines) => {
+            let body = HeldValue::Received(Span { from, len });
+            Ok(Msg::held(start, bytes, lines, body, identifiers))
         }
     }
 }
@@ -117,20 +168,14 @@ fn after_head(
     requires { end + 4 ≤ length bytes }
     ensures { Reads result (after_head (message_head (Some start) (held_lines bytes lines.now)) (drop (end + 4) bytes)) }
 {
-    let room = bytes.bytes().len() - (end + 4);
-    let at = {
-        let whole = Lines::of(bytes.bytes(), lines, &[]);
-        match five_ref(&whole) {
-            None => return Err(ReadFault::NotSip),
-            Some(five) => {
-                if lines.len() > 128 {
-                    return too_many(alloc, &start, bytes.bytes(), lines);
-                }
-                first_fault(&start, &five, room as u64, &whole)
-            }
+    match looked_over(alloc, &start, bytes.bytes(), end, lines) {
+        Err(fault) => {
+            drop(bytes);
+            drop(start);
+            Err(fault)
         }
-    };
-    after_faults(alloc, start, bytes, end, lines, at)
+        Ok(identifiers) => Ok(whole_message(alloc, start, bytes, end, lines, identifiers)?),
+    }
 }
 
 /// Reads a message whose head ends at a place of its bytes and has this start line and these header lines.

@@ -21,6 +21,7 @@ mod Arming
 mod Among
 mod Acknowledged
 mod HeadLines
+mod Identified
 mod Naming
 mod Telling
 mod Changing

@@ -1,21 +1,16 @@
 -- What the transactions read of a message: what names its transaction (RFC 3261 §17.1.3, §17.2.3), its dialogue's names and number (§12, §13.2.2.4), and its status (§7.2, §21).
 use Rattle.std.specs.Prelude.{ℕ, Bool, ◌&&◌, ◌==◌, List, [], codes, Option, Some, None}
-use Rattle.std.specs.Option.{unwrap_or}
 use Rattle.std.specs.Str.{bytes_eq}
 use Rattle.mmtel_message.specs.Message.{Message}
-use Rattle.mmtel_lex.specs.Params.{param_value}
 pub use Rattle.mmtel_message.specs.Faults.{is_request}
+pub use Rattle.mmtel_message.specs.Identifiers.{param_text}
+use Rattle.mmtel_message.specs.Identifiers.{Identifiers}
 use Rattle.mmtel_message.specs.Fields.{five_at}
 use Rattle.mmtel_message.specs.declared.messages.Start.{Start}
 use Rattle.mmtel_message.specs.declared.messages.Start.TheVariants.{Request, Status}
 use Rattle.mmtel_message.specs.declared.fields.Five.{Five}
-use Rattle.mmtel_lex.specs.declared.values.Param.{Param}
 pub use Rattle.mmtel_sip_rules.specs.Statuses.{is_provisional, is_refusal, is_success}
 use Rattle.mmtel_transaction.specs.declared.heads.Head.{Head}
-
--- the value of a parameter; an absent tag or branch is empty (§12.1.1)
-abbrev pub param_text : List ℕ → List Param → List ℕ
-param_text name params = unwrap_or (param_value name params) []
 
 -- the status; 0 of a request
 abbrev pub code_of : Start → ℕ
@@ -51,6 +46,20 @@ head_with start (Some five) = record {
       param_text (codes "tag") five.to.params;
   call_id = five.call_id;
   number = five.cseq.number;
+}
+
+-- the same of what its five fields say, as it is kept with a message; private functions alone cite this
+abbrev pub head_by : Start → Identifiers → Head
+head_by start ids = record {
+  is_request = is_request start;
+  status = code_of start;
+  method = method_of start ids.method;
+  branch = ids.branch;
+  sent_by = ids.sent_by;
+  from_tag = ids.from_tag;
+  to_tag = ids.to_tag;
+  call_id = ids.call_id;
+  number = ids.number;
 }
 
 -- what is read of a message

@@ -1,9 +1,9 @@
 //! What the transactions read of a message.
-ghost use Rattle.std.specs.Prelude.{◌≡◌, [], IfOk, None, Some};
+ghost use Rattle.std.specs.Prelude.{◌≡◌, [], IfOk, None};
 ghost use Rattle.std.specs.Option.{option_copied, unwrap_or};
-ghost use Rattle.mmtel_transaction.specs.Heads.{code_of, head_of, head_with, is_ack, is_cancel, is_invite, is_same_call, method_of};
+ghost use Rattle.mmtel_transaction.specs.Heads.{code_of, head_by, head_of, head_with, is_ack, is_cancel, is_invite, is_same_call, method_of};
 
-use mmtel_message::{FiveRef, Msg, Start, five_ref, is_request};
+use mmtel_message::{Identifiers, Msg, Start, five_ref, is_request};
 use mmtel_scan::{NoMemory, Text};
 use std::alloc::Global;
 
@@ -88,20 +88,20 @@ fn head_without(alloc: Global, start: &Start) -> Result<Head, NoMemory>
     })
 }
 
-/// What is read of a message with these five fields.
-fn head_with(alloc: Global, start: &Start, five: &FiveRef<'_>) -> Result<Head, NoMemory>
-    ensures { IfOk result (λ head. head ≡ head_with start.now (Some five.now)) }
+/// What is read of a message whose five fields say this.
+fn head_by(alloc: Global, start: &Start, identifiers: &Identifiers<'_>) -> Result<Head, NoMemory>
+    ensures { IfOk result (λ head. head ≡ head_by start.now identifiers.now) }
 {
     Ok(Head {
         is_request: is_request(start),
         status: code_of(start),
-        method: method_of(alloc, start, five.cseq().method())?,
-        branch: or_empty(alloc, five.via().param(b"branch"))?,
-        sent_by: Text::of(alloc, five.via().sent_by())?,
-        from_tag: or_empty(alloc, five.from().param(b"tag"))?,
-        to_tag: or_empty(alloc, five.to().param(b"tag"))?,
-        call_id: Text::of(alloc, five.call_id())?,
-        number: five.cseq().number(),
+        method: method_of(alloc, start, identifiers.method)?,
+        branch: Text::of(alloc, identifiers.branch)?,
+        sent_by: Text::of(alloc, identifiers.sent_by)?,
+        from_tag: Text::of(alloc, identifiers.from_tag)?,
+        to_tag: Text::of(alloc, identifiers.to_tag)?,
+        call_id: Text::of(alloc, identifiers.call_id)?,
+        number: identifiers.number,
     })
 }
 
@@ -129,13 +129,13 @@ impl Head {
     /// # Errors
     ///
     /// Want of memory alone.
-    #[tactic(auto, unfolding(crate::specs::Heads::head_of))]
+    #[tactic(auto, using(crate::proofs::Identified::head_known, crate::proofs::Identified::head_unknown), unfolding(crate::specs::Heads::head_of))]
     pub fn of(alloc: Global, m: &Msg) -> Result<Head, NoMemory>
         ensures { IfOk result (λ head. head ≡ head_of m.now) }
     {
-        match five_ref(&m.lines()) {
+        match m.identifiers() {
             None => head_without(alloc, m.start()),
-            Some(five) => head_with(alloc, m.start(), &five),
+            Some(identifiers) => head_by(alloc, m.start(), &identifiers),
         }
     }
 

@@ -1,0 +1,4 @@
+mod AnswerLaws
+mod EventLaws
+mod RackLaws
+mod Standing

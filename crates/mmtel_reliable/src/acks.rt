@@ -1,0 +1,142 @@
+//! The reliable answers that are relayed to a caller, and their acknowledgement (RFC 3262 §3, §4).
+ghost use Rattle.std.specs.Prelude.{◌≡◌, [], ◌∷◌, IfOk, List};
+ghost use Rattle.mmtel_reliable.specs.Acks.{after_ack, after_relay, callee_number, comes_next, has_own, is_named, next_attempt, no_answers, own_number};
+ghost use Rattle.mmtel_reliable.specs.Histories.{Acknowledges, Deed, Leaves, Relays, Stands};
+
+use crate::racks::{GREATEST_NUMBER, Rack};
+use mmtel_scan::NoMemory;
+use std::alloc::Global;
+use std::collections::VecDeque;
+use std::marker::Model;
+
+/// How many answers may wait for their PRACK at once.
+const MOST_WAITING: usize = 16;
+
+/// A reliable answer that was relayed.
+#[derive(Clone, Copy, Debug, PartialEq, Eq)]
+pub struct Answer {
+    /// The server's own number, which its RSeq line says to the caller.
+    pub own: u32,
+    /// The callee's number, as its RSeq line said it to the server.
+    pub callee: u32,
+}
+
+/// The reliable answers to the INVITE of a caller that were relayed, over all attempts of the call.
+///
+/// The caller has one dialog with the server, whoever is asked: the numbers that it sees are 1, 2, 3 and so on, and those of an attempt are the callee's own.
+#[derive(Drop)]
+pub struct Acks {
+    cseq: u32,
+    given: u32,
+    last_relayed: Option<u32>,
+    waiting: VecDeque<Answer>,
+}
+
+impl Model for Acks {
+    ghost use Rattle.mmtel_reliable.specs.Acks.{AcksView};
+
+    ghost Value = { AcksView };
+
+    ghost use Rattle.std.specs.Prelude.{◌≡◌};
+    ghost use Rattle.std.specs.VecDeque.{deque_capacity};
+
+    ghost view = { λ acks. record { cseq = acks.cseq; given = acks.given; last_relayed = acks.last_relayed; waiting = acks.waiting.items } };
+
+    ghost invariant = { λ acks. deque_capacity acks.waiting ≡ 16 };
+}
+
+impl Acks {
+    /// No answer was relayed to the INVITE of this CSeq number. It takes room for 16 answers, so that no other call takes memory.
+    ///
+    /// # Errors
+    ///
+    /// Want of memory alone.
+    pub fn new(alloc: Global, cseq: u32) -> Result<Acks, NoMemory>
+        ensures none { IfOk result (λ acks. acks ≡ no_answers cseq) }
+        ensures stands { IfOk result (λ acks. Stands acks []) }
+    {
+        let waiting = VecDeque::with_capacity(alloc, MOST_WAITING)?;
+        Ok(Acks {
+            cseq,
+            given: 0,
+            last_relayed: None,
+            waiting,
+        })
+    }
+
+    /// Relays an answer of the callee that has this number, and gives its own number towards the caller.
+    ///
+    /// It is None exactly where the number is not one more than that of the last answer of this attempt that was relayed (the first may have any), where 16 answers wait for
+    /// their PRACK, or where the own number would pass 2^31 - 1. Nothing has then changed.
+    pub fn relay(&mut self, rseq: u32) -> Option<u32>
+        ensures number { result ≡ own_number rseq self.old }
+        ensures after { self.new ≡ after_relay rseq self.old }
+        ensures stands { (deeds : List Deed) → Stands self.old deeds → Stands self.new (Relays rseq ∷ deeds) }
+    {
+        if !comes_next(rseq, self.last_relayed)
+            || self.waiting.len() >= MOST_WAITING
+            || self.given >= GREATEST_NUMBER
+        {
+            return None;
+        }
+        let own = self.given + 1;
+        match self.waiting.push_back(Answer { own, callee: rseq }) {
+            Ok(()) => {}
+            Err(_) => unreachable!(),
+        }
+        self.given = own;
+        self.last_relayed = Some(rseq);
+        Some(own)
+    }
+
+    /// Takes a PRACK of the caller, and gives the callee's number of the answer that it acknowledges.
+    ///
+    /// It is None exactly where it does not name the answer that has waited longest, or the caller's INVITE by its CSeq. Nothing has then changed.
+    pub fn acked(&mut self, rack: &Rack) -> Option<u32>
+        ensures number { result ≡ callee_number rack.now self.old }
+        ensures after { self.new ≡ after_ack rack.now self.old }
+        ensures stands { (deeds : List Deed) → Stands self.old deeds → Stands self.new (Acknowledges rack.now ∷ deeds) }
+    {
+        match self.waiting.front() {
+            Some(first) if is_named(rack, self.cseq, *first) => {
+                let callee = first.callee;
+                let _ = self.waiting.pop_front();
+                Some(callee)
+            }
+            _ => None,
+        }
+    }
+
+    /// Leaves the attempt: none of its answers is waited for any more, and the next callee counts from any number. Own numbers go on.
+    pub fn next_attempt(&mut self)
+        ensures after { self.new ≡ next_attempt self.old }
+        ensures stands { (deeds : List Deed) → Stands self.old deeds → Stands self.new (Leaves ∷ deeds) }
+    {
+        self.waiting.clear();
+        self.last_relayed = None;
+    }
+
+    /// Whether the answer of this own number waits for its PRACK: it is of the attempt that is under way, and was not acknowledged.
+    pub fn is_waiting(&self, own: u32) -> bool
+        ensures test { result ≡ has_own own self.now.waiting }
+    {
+        self.waiting.iter().any(|answer| answer.own == own)
+    }
+}
+
+/// Whether the callee's number is that of its next answer.
+fn comes_next(rseq: u32, last: Option<u32>) -> bool
+    ensures { result ≡ comes_next rseq last }
+{
+    match last {
+        None => true,
+        Some(last) => last.checked_add(1) == Some(rseq),
+    }
+}
+
+/// Whether a PRACK acknowledges this answer to the INVITE of this CSeq number.
+fn is_named(rack: &Rack, cseq: u32, answer: Answer) -> bool
+    ensures { result ≡ is_named rack.now cseq answer }
+{
+    rack.answer == answer.own && rack.cseq == cseq && rack.invite
+}

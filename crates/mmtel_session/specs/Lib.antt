@@ -1,0 +1,5 @@
+-- What public clauses cite.
+pub mod Intervals
+pub mod SessionExpires
+
+-- What private functions alone cite: nothing.

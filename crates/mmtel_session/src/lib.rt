@@ -1,0 +1,8 @@
+//! Session timers (RFC 4028): what a Session-Expires header field says, whether a request may ask for it, and when the session of a 2xx expires. Its calls take no memory.
+#![tactic(auto)]
+
+mod intervals;
+mod values;
+
+pub use intervals::{LEAST_INTERVAL, SessionFault, check, expiry_after};
+pub use values::{SessionExpires, read_session};

@@ -17,7 +17,7 @@ use Rattle.mmtel_types.specs.declared.addrs.Addr.{Addr}
 use Rattle.mmtel_trust.specs.Kinds.{Row, group_rows, is_among, kind_in, kind_of, single_rows}
 use Rattle.mmtel_trust.specs.Mask.{Places, hide_if, is_kept, masked, masked_line, masked_lines, masked_value, places_in, redirects}
 use Rattle.mmtel_trust.specs.declared.kinds.HeaderKind.{HeaderKind}
-use Rattle.mmtel_trust.specs.declared.kinds.HeaderKind.TheVariants.{From, To, Contact, Asserted, Served, Privacy, History, Options, Passed, Personal, Trusted, Other}
+use Rattle.mmtel_trust.specs.declared.kinds.HeaderKind.TheVariants.{From, To, Contact, Asserted, Served, Privacy, History, Options, Session, Passed, Personal, Trusted, Other}
 use Rattle.mmtel_trust.proofs.ByName.{named-changed, named_inside}
 use Rattle.mmtel_trust.proofs.HeardLaws.{call_id_kept, cseq_kept, via_kept, way_kept}
 use Rattle.mmtel_trust.proofs.Kept.{from_value, kind_like, named-masked}
@@ -94,6 +94,7 @@ is_from Served = false
 is_from Privacy = false
 is_from History = false
 is_from Options = false
+is_from Session = false
 is_from Passed = false
 is_from Personal = false
 is_from Trusted = false
@@ -127,6 +128,7 @@ alone_value b Served v e = refl
 alone_value b Privacy v e = refl
 alone_value b History v e = refl
 alone_value b Options v e = refl
+alone_value b Session v e = refl
 alone_value b Passed v e = refl
 alone_value b Personal v e = refl
 alone_value b Trusted v e = refl

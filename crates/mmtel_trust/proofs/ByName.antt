@@ -9,7 +9,7 @@ use Rattle.mmtel_message.specs.Message.{Line, dropped, has_line, is_line, line_t
 use Rattle.mmtel_trust.specs.Kinds.{kind_of}
 use Rattle.mmtel_trust.specs.Mask.{Places, hide_if, is_kept, is_left, masked_line, masked_lines, masked_value, unless_gone, with_name, with_value}
 use Rattle.mmtel_trust.specs.declared.kinds.HeaderKind.{HeaderKind}
-use Rattle.mmtel_trust.specs.declared.kinds.HeaderKind.TheVariants.{From, To, Contact, Asserted, Served, Privacy, History, Options, Passed, Personal, Trusted, Other}
+use Rattle.mmtel_trust.specs.declared.kinds.HeaderKind.TheVariants.{From, To, Contact, Asserted, Served, Privacy, History, Options, Session, Passed, Personal, Trusted, Other}
 use Rattle.mmtel_trust.proofs.Kept.{kind_like, named-masked}
 use Rattle.mmtel_trust.proofs.Masked.{hidden_params}
 
@@ -63,6 +63,7 @@ stays_as p Served v name n e = refl
 stays_as p Privacy v name n e = refl
 stays_as p History v name n e = refl
 stays_as p Options v name n e = refl
+stays_as p Session v name n e = refl
 stays_as p Passed v name n e = refl
 stays_as p Personal v name n e = stays_if p.personal v name n e
 stays_as p Trusted v name n e = refl

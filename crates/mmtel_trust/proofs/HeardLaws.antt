@@ -1,7 +1,8 @@
 -- What is heard of a masked message: each field that is never private is that of the message, and the others are hidden.
 use Rattle.std.proofs.Common.{◌≡◌, ◌++◌, ◌∷◌, [], ℕ, List, refl, sym, ap, ◌∙◌, Bool, true, false, ◌||◌, codes, Option, Some, None, cond, map}
-use Rattle.std.specs.Prelude.{option_to_list}
+use Rattle.std.specs.Prelude.{is_some, option_to_list}
 use Rattle.std.specs.Option.{option_map}
+use Rattle.std.proofs.lemmas.List.{length-map}
 use Rattle.mmtel_lex.specs.Reading.{name_addr_of}
 use Rattle.mmtel_history.specs.HistoryInfo as History
 use Rattle.mmtel_history.specs.HistoryInfo.{entry_of, masked_entry, masked_list, masked_uri}
@@ -9,14 +10,14 @@ use Rattle.mmtel_history.specs.MaskedValues.{is_hidden, is_marked_value, masked_
 use Rattle.mmtel_history.specs.declared.entries.Entry.{Entry}
 use Rattle.mmtel_history.proofs.ListLaws.{masked_once}
 use Rattle.mmtel_history.proofs.MaskedValueLaws.{masked_entry_of}
-use Rattle.mmtel_message.specs.Faults.{is_request}
+use Rattle.mmtel_message.specs.Faults.{are_readable, is_one_readable, is_readable, is_request}
 use Rattle.mmtel_message.specs.Message.{Line, Message, first_value, line_texts}
 use Rattle.mmtel_message.specs.declared.messages.Start.{Start}
 use Rattle.mmtel_trust.specs.Digest.{HeardMessage, heard, history_in, if_redirect, if_request, served_by, tag_of, uri_bytes}
 use Rattle.mmtel_trust.specs.Kinds.{kind_of}
 use Rattle.mmtel_trust.specs.Mask.{Entries, NoEntries, MarkedEntries, AllEntries, Places, hidden_entries, hidden_uri, hide_if, is_kept, masked, masked_entries, masked_lines, masked_value, places_in, redirects, serve_if}
 use Rattle.mmtel_trust.specs.MaskedMessages.{hide, public_part}
-use Rattle.mmtel_trust.proofs.ByName.{texts-changed, texts-masked}
+use Rattle.mmtel_trust.proofs.ByName.{params_hidden, texts-changed, texts-masked}
 use Rattle.mmtel_trust.proofs.Kept.{changed, first-masked, from_tag-masked, to_tag-masked, to_value, wants-masked}
 use Rattle.mmtel_trust.proofs.Masked.{hidden_uris, lines_again, served_told}
 
@@ -65,6 +66,18 @@ refer_to_kept p = refl
 pub event_kept : (p : Places) → is_kept p (kind_of (codes "Event")) ≡ true
 unfolding kind_of
 event_kept p = refl
+
+rseq_kept : (p : Places) → is_kept p (kind_of (codes "RSeq")) ≡ true
+unfolding kind_of
+rseq_kept p = refl
+
+rack_kept : (p : Places) → is_kept p (kind_of (codes "RAck")) ≡ true
+unfolding kind_of
+rack_kept p = refl
+
+session_kept : (p : Places) → is_kept p (kind_of (codes "Session-Expires")) ≡ true
+unfolding kind_of
+session_kept p = refl
 
 -- ---- To of a request
 
@@ -116,6 +129,31 @@ redirect-masked : (p : Places) (start : Start) (ls : List Line) → if_redirect 
 redirect-masked p start ls =
     ap (λ (v : Option (List ℕ)). if_redirect start (uri_bytes v)) (changed (places_in start p) (codes "Contact") (hide_if (places_in start p).contact) ls (contact_value (places_in start p)))
     ∙ redirect_if (redirects start) p.redirect p.contact (first_value (codes "Contact") ls)
+
+-- ---- one Contact
+
+is_some_mapped : {A B : Type 0} (f : A → B) (o : Option A) → is_some (option_map f o) ≡ is_some o
+is_some_mapped f None = refl
+is_some_mapped f (Some x) = refl
+
+-- a value that is hidden can be read where it could
+readable_hidden : (b : Bool) (v : List ℕ) → is_readable (hide_if b v) ≡ is_readable v
+readable_hidden b v =
+    sym (is_some_mapped (λ n. n.params) (name_addr_of (hide_if b v)))
+    ∙ (ap (λ ps. is_some ps) (params_hidden b v)
+    ∙ is_some_mapped (λ n. n.params) (name_addr_of v))
+
+readable_each : (b : Bool) (vs : List (List ℕ)) → are_readable (map (hide_if b) vs) ≡ are_readable vs
+readable_each b [] = refl
+readable_each b (v ∷ vs) = rw (readable_hidden b v, readable_each b vs) refl
+
+one_hidden : (b : Bool) (vs : List (List ℕ)) → is_one_readable (map (hide_if b) vs) ≡ is_one_readable vs
+one_hidden b vs = rw (length-map vs (hide_if b), readable_each b vs) refl
+
+one_contact-masked : (p : Places) (ls : List Line) → is_one_readable (line_texts (codes "Contact") (masked_lines p ls)) ≡ is_one_readable (line_texts (codes "Contact") ls)
+one_contact-masked p ls =
+    ap (λ (vs : List (List ℕ)). is_one_readable vs) (texts-changed p (codes "Contact") (hide_if p.contact) (contact_value p) ls)
+    ∙ one_hidden p.contact (line_texts (codes "Contact") ls)
 
 -- ---- History-Info
 
@@ -189,6 +227,10 @@ heard-masked p trusted m =
       served-masked q m.lines,
       texts-masked q (codes "Refer-To") m.lines (refer_to_kept q),
       first-masked q (codes "Event") m.lines (event_kept q),
+      first-masked q (codes "RSeq") m.lines (rseq_kept q),
+      first-masked q (codes "RAck") m.lines (rack_kept q),
+      texts-masked q (codes "Session-Expires") m.lines (session_kept q),
+      one_contact-masked q m.lines,
       wants-masked q m.lines,
       history-masked q m.lines,
       redirect-masked p m.start m.lines,

@@ -22,7 +22,7 @@ use Rattle.mmtel_trust.specs.Passed.{is_shown, passed, attempt_from}
 use Rattle.mmtel_trust.specs.declared.accounts.AccountIdentity.{AccountIdentity}
 use Rattle.mmtel_trust.specs.declared.showing.Facing.{Facing}
 use Rattle.mmtel_trust.specs.declared.kinds.HeaderKind.{HeaderKind}
-use Rattle.mmtel_trust.specs.declared.kinds.HeaderKind.TheVariants.{From, To, Contact, Asserted, Served, Privacy, History, Options, Passed, Personal, Trusted, Other}
+use Rattle.mmtel_trust.specs.declared.kinds.HeaderKind.TheVariants.{From, To, Contact, Asserted, Served, Privacy, History, Options, Session, Passed, Personal, Trusted, Other}
 use Rattle.mmtel_trust.proofs.Absorbed.{filtered}
 use Rattle.mmtel_trust.proofs.Masked.{hidden_params}
 
@@ -58,6 +58,7 @@ kept_value p Served v e = ap (λ w. Some w) (serve_not p.served v e)
 kept_value p Privacy v e = refl
 kept_value p History v e = ap (λ w. Some w) (public_entries p.history v e)
 kept_value p Options v e = refl
+kept_value p Session v e = refl
 kept_value p Passed v e = refl
 kept_value p Personal v e = gone_not p.personal v e
 kept_value p Trusted v e = refl
@@ -186,6 +187,7 @@ shown_kind es f to_trusted Served l e = refl
 shown_kind es f to_trusted Privacy l e = refl
 shown_kind es f to_trusted History l e = rw e refl
 shown_kind es f to_trusted Options l e = refl
+shown_kind es f to_trusted Session l e = refl
 shown_kind es f to_trusted Passed l e = refl
 shown_kind es f to_trusted Personal l e = refl
 shown_kind es f to_trusted Trusted l e = refl

@@ -23,7 +23,7 @@ use Rattle.mmtel_trust.specs.Passed.{is_shown, asserted_lines, passed}
 use Rattle.mmtel_trust.specs.Mask.{Entries, NoEntries, MarkedEntries, AllEntries, hidden, hidden_value, is_orig, served_value, Places, places_in, hide_if, serve_if, unless_gone, masked_entries, masked_value, with_name, masked_line, masked_lines, masked}
 use Rattle.mmtel_trust.specs.declared.showing.Facing.{Facing}
 use Rattle.mmtel_trust.specs.declared.kinds.HeaderKind.{HeaderKind}
-use Rattle.mmtel_trust.specs.declared.kinds.HeaderKind.TheVariants.{From, To, Contact, Asserted, Served, Privacy, History, Options, Passed, Personal, Trusted, Other}
+use Rattle.mmtel_trust.specs.declared.kinds.HeaderKind.TheVariants.{From, To, Contact, Asserted, Served, Privacy, History, Options, Session, Passed, Personal, Trusted, Other}
 use Rattle.mmtel_trust.proofs.Absorbed.{absorbed, filtered}
 
 -- ---- values
@@ -142,6 +142,7 @@ kind_once p Served v = ap (λ w. Some w) (serve_once p.served v)
 kind_once p Privacy v = refl
 kind_once p History v = ap (λ w. Some w) (entries_once p.history v)
 kind_once p Options v = refl
+kind_once p Session v = refl
 kind_once p Passed v = refl
 kind_once p Personal v = gone_once p.personal v
 kind_once p Trusted v = refl
@@ -178,6 +179,7 @@ shown_as p f r Served l e = rw e refl
 shown_as p f r Privacy l e = refl
 shown_as p f r History l e = rw e refl
 shown_as p f r Options l e = refl
+shown_as p f r Session l e = refl
 shown_as p f r Passed l e = refl
 shown_as p f r Personal l e = gone_shown f p.personal l (rw (e, r) refl)
 shown_as p f r Trusted l e = refl

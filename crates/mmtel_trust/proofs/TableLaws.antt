@@ -17,7 +17,7 @@ use Rattle.mmtel_trust.specs.Passed.{asserted_lines, has_history_row, history_li
 use Rattle.mmtel_trust.specs.Privacy.{restricted_text}
 use Rattle.mmtel_trust.specs.declared.showing.Facing.{Facing}
 use Rattle.mmtel_trust.specs.declared.kinds.HeaderKind.{HeaderKind}
-use Rattle.mmtel_trust.specs.declared.kinds.HeaderKind.TheVariants.{From, To, Contact, Asserted, Served, Privacy, History, Options, Passed, Personal, Trusted, Other}
+use Rattle.mmtel_trust.specs.declared.kinds.HeaderKind.TheVariants.{From, To, Contact, Asserted, Served, Privacy, History, Options, Session, Passed, Personal, Trusted, Other}
 use Rattle.mmtel_trust.proofs.Kept.{kind_like}
 use Rattle.mmtel_trust.proofs.Masked.{passed_alike}
 
@@ -32,6 +32,7 @@ is_never Served = true
 is_never Privacy = false
 is_never History = true
 is_never Options = false
+is_never Session = false
 is_never Passed = false
 is_never Personal = false
 is_never Trusted = false
@@ -46,6 +47,7 @@ is_history Served = false
 is_history Privacy = false
 is_history History = true
 is_history Options = false
+is_history Session = false
 is_history Passed = false
 is_history Personal = false
 is_history Trusted = false
@@ -60,6 +62,7 @@ passes_kind f b Served v e = absurd cc
 passes_kind f b Privacy v e = refl
 passes_kind f b History v e = absurd cc
 passes_kind f b Options v e = refl
+passes_kind f b Session v e = refl
 passes_kind f b Passed v e = refl
 passes_kind f b Personal v e = refl
 passes_kind f b Trusted v e = refl

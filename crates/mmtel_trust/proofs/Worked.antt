@@ -24,6 +24,7 @@ use Rattle.mmtel_trust.specs.MaskedMessages.{Answers, Restriction, hide, mask}
 use Rattle.mmtel_trust.specs.declared.accounts.AccountIdentity.{AccountIdentity}
 use Rattle.mmtel_trust.specs.Kinds.{kind_of}
 use Rattle.mmtel_trust.specs.Passed.{passed, is_shown}
+use Rattle.mmtel_trust.specs.declared.showing.Facing.{Facing}
 use Rattle.mmtel_trust.specs.Mask.{MarkedEntries, Places, answered, answering, only, opening, masked_lines, masked_line, hidden, hidden_value, served_value}
 
 abbrev lines : List Line
@@ -53,13 +54,13 @@ worked_mask : masked_lines opening lines ≡
 unfolding Scanning.closes masked_line kind_of hidden hidden_value served_value Reading.name_addr_of Reading.words_of Reading.quoted_of Reading.angle_of Reading.bare_of Reading.all_params_at Reading.params_at Reading.param_at Reading.token_at Reading.value_at Reading.text_at Classes.in_class Scanning.run Scanning.after_run Scanning.trimmed Scanning.parted
 worked_mask = refl
 
-worked_untrusted : passed (record { from_trusted = true; restricted = true; present = true; mask_all = false }) false [] lines ≡
+worked_untrusted : passed (record { from_trusted = true; restricted = true; present = true; mask_all = false; reliable = false; timer = false }) false [] lines ≡
     (codes "Supported", codes "histinfo") ∷
     (codes "Accept", codes "application/sdp") ∷ []
 unfolding is_shown kind_of
 worked_untrusted = refl
 
-worked_trusted : passed (record { from_trusted = true; restricted = true; present = true; mask_all = false }) true [] lines ≡
+worked_trusted : passed (record { from_trusted = true; restricted = true; present = true; mask_all = false; reliable = false; timer = false }) true [] lines ≡
     (codes "P-Asserted-Identity", codes "<sip:bob@home>") ∷
     (codes "Privacy", codes "user;id") ∷
     (codes "Supported", codes "histinfo") ∷
@@ -69,13 +70,37 @@ unfolding is_shown kind_of Values.parts Scanning.trimmed Scanning.after_run Clas
 worked_trusted = refl
 
 -- an unrestricted message of a peer that is not trusted shows no identity that it asserts
-worked_disbelieved : passed (record { from_trusted = false; restricted = false; present = true; mask_all = false }) true [] lines ≡
+worked_disbelieved : passed (record { from_trusted = false; restricted = false; present = true; mask_all = false; reliable = false; timer = false }) true [] lines ≡
     (codes "Privacy", codes "none;user") ∷
     (codes "subject", codes "me") ∷
     (codes "Supported", codes "histinfo") ∷
     (codes "Accept", codes "application/sdp") ∷ []
 unfolding is_shown kind_of
 worked_disbelieved = refl
+
+-- what belongs to reliable provisional responses and to session timers: passed where these are served
+abbrev of_extensions : List Line
+of_extensions =
+    (codes "Require", codes "100rel") ∷
+    (codes "Supported", codes "timer") ∷
+    (codes "Supported", codes "precondition") ∷
+    (codes "Session-Expires", codes "90") ∷
+    (codes "min-se", codes "90") ∷ []
+
+abbrev served : Bool → Bool → Facing
+served reliable timer = record { from_trusted = true; restricted = false; present = true; mask_all = false; reliable = reliable; timer = timer }
+
+record OfPassedOptions : Type 0 where
+  neither : passed (served false false) true [] of_extensions ≡ []
+  reliable : passed (served true false) false [] of_extensions ≡ (codes "Require", codes "100rel") ∷ []
+  timer : passed (served false true) false [] of_extensions ≡
+      (codes "Supported", codes "timer") ∷
+      (codes "Session-Expires", codes "90") ∷
+      (codes "min-se", codes "90") ∷ []
+
+worked_options : OfPassedOptions
+unfolding is_shown kind_of
+worked_options = record { neither = refl; reliable = refl; timer = refl }
 
 -- ---- whose record restricts, and entries of History-Info
 
@@ -244,6 +269,31 @@ record OfNumbers : Type 0 where
 worked_numbers : OfNumbers
 unfolding Numbers.number_of Numbers.within Classes.in_class
 worked_numbers = record { most = refl; hops = refl; expires = refl; later = refl; padded = refl; no_number = refl }
+
+-- the number of a reliable response is one from 1 on, and of several lines the first counts
+record OfReliable : Type 0 where
+  rseq : (of_lines ((codes "RSeq", codes "0900") ∷ [])).rseq ≡ Some 900
+  most : (of_lines ((codes "RSeq", codes "2147483647") ∷ [])).rseq ≡ Some 2147483647
+  more : (of_lines ((codes "RSeq", codes "2147483648") ∷ [])).rseq ≡ None
+  zero : (of_lines ((codes "RSeq", codes "0") ∷ (codes "RSeq", codes "1") ∷ [])).rseq ≡ None
+  none : (of_lines []).rseq ≡ None
+  rack : (of_lines ((codes "RAck", codes "900 1 INVITE") ∷ [])).rack ≡ Some (codes "900 1 INVITE")
+
+worked_reliable : OfReliable
+unfolding Numbers.number_of Numbers.within Classes.in_class
+worked_reliable = record { rseq = refl; most = refl; more = refl; zero = refl; none = refl; rack = refl }
+
+-- how long a session lasts; and whether there is one Contact that can be read
+record OfSession : Type 0 where
+  session : (of_lines ((codes "Session-Expires", codes "90;refresher=uac") ∷ (codes "Min-SE", codes "90") ∷ [])).session ≡ codes "90;refresher=uac" ∷ []
+  one : (of_lines ((codes "Contact", codes "<sip:a@h>") ∷ [])).one_contact ≡ true
+  two : (of_lines ((codes "Contact", codes "<sip:a@h>") ∷ (codes "Contact", codes "<sip:b@h>") ∷ [])).one_contact ≡ false
+  unreadable : (of_lines ((codes "Contact", codes "<sip:a@h") ∷ [])).one_contact ≡ false
+  none : (of_lines []).one_contact ≡ false
+
+worked_session : OfSession
+unfolding Reading.name_addr_of Reading.words_of Reading.quoted_of Reading.angle_of Reading.bare_of Reading.all_params_at Reading.params_at Reading.param_at Reading.token_at Reading.value_at Reading.text_at Classes.in_class Scanning.closes Scanning.run Scanning.after_run Scanning.trimmed Scanning.parted
+worked_session = record { session = refl; one = refl; two = refl; unreadable = refl; none = refl }
 
 -- the originating user is nobody in what is never private, and of two users the first counts
 abbrev origin_served : HeardMessage

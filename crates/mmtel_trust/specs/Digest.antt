@@ -3,7 +3,7 @@
 -- between a message and the masked one. Each line of a listed name has one value, as the reader leaves them (RFC 3261 §7.3.1).
 --
 -- What is decided of a private place is asked here too: the account of the caller, and whether the caller has an identity.
-use Rattle.std.specs.Prelude.{ℕ, Bool, true, false, ◌&&◌, ◌||◌, Option, Some, None, is_some, List, codes, if◌then◌else◌}
+use Rattle.std.specs.Prelude.{ℕ, Bool, true, false, ◌==◌, ◌&&◌, ◌||◌, Option, Some, None, is_some, List, codes, if◌then◌else◌}
 use Rattle.std.specs.Option.{option_map}
 use Rattle.mmtel_scan.specs.Chain.{◌>>=◌}
 use Rattle.mmtel_scan.specs.Numbers.{number_of}
@@ -13,7 +13,7 @@ use Rattle.mmtel_lex.specs.declared.values.Param.{Param}
 use Rattle.mmtel_lex.specs.Params.{param_value}
 use Rattle.mmtel_history.specs.HistoryInfo as History
 use Rattle.mmtel_history.specs.declared.entries.Entry.{Entry}
-use Rattle.mmtel_message.specs.Faults.{is_request}
+use Rattle.mmtel_message.specs.Faults.{is_one_readable, is_request}
 use Rattle.mmtel_message.specs.Message.{Line, Message, first_value, line_texts}
 use Rattle.mmtel_message.specs.declared.messages.Start.{Start}
 use Rattle.mmtel_types.specs.declared.numbers.Account.{Account}
@@ -91,7 +91,13 @@ pub record HeardMessage : Type 0 where
   -- the Refer-To values (RFC 3515 §2.1), and Event (RFC 6665 §8.2.1)
   pub refer_to : List (List ℕ)
   pub event : Option (List ℕ)
-  -- here is the place of what else will be read that is not private: RSeq and RAck (RFC 3262 §7), Session-Expires and Min-SE (RFC 4028 §4, §5)
+  -- the first RSeq, where it is a number from 1 to 2147483647, and the first RAck (RFC 3262 §7.1, §7.2)
+  pub rseq : Option ℕ
+  pub rack : Option (List ℕ)
+  -- the Session-Expires values (RFC 4028 §4)
+  pub session : List (List ℕ)
+  -- there is one Contact value, and it can be read (RFC 3261 §8.1.1.8)
+  pub one_contact : Bool
   -- the words of Privacy
   pub wants : PrivacySet
   pub body : List ℕ
@@ -120,6 +126,10 @@ if_redirect start v = if redirects start then v else None
 abbrev pub history_in : List Line → List Entry
 history_in ls = History.entries_of (line_texts (codes "History-Info") ls)
 
+-- a number from 1 on
+abbrev pub unless_zero : ℕ → Option ℕ
+unless_zero n = if n == 0 then None else Some n
+
 -- what is heard, where the message comes from a trusted peer or not
 abbrev pub heard : Bool → Message Start → HeardMessage
 heard trusted m = record {
@@ -140,6 +150,10 @@ heard trusted m = record {
   served = served_by (first_value (codes "P-Served-User") m.lines);
   refer_to = line_texts (codes "Refer-To") m.lines;
   event = first_value (codes "Event") m.lines;
+  rseq = first_value (codes "RSeq") m.lines >>= number_of 2147483647 >>= unless_zero;
+  rack = first_value (codes "RAck") m.lines;
+  session = line_texts (codes "Session-Expires") m.lines;
+  one_contact = is_one_readable (line_texts (codes "Contact") m.lines);
   wants = wants m.lines;
   body = m.body;
   history = history_in m.lines;

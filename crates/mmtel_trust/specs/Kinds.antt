@@ -2,11 +2,15 @@
 use Rattle.std.specs.Prelude.{ℕ, Bool, false, List, [], ◌∷◌, ◌++◌, codes, if◌then◌else◌, ◌||◌}
 use Rattle.std.specs.Str.{str_eq_ignore_ascii_case}
 use Rattle.mmtel_trust.specs.declared.kinds.HeaderKind.{HeaderKind}
-use Rattle.mmtel_trust.specs.declared.kinds.HeaderKind.TheVariants.{From, To, Contact, Asserted, Served, Privacy, History, Options, Passed, Personal, Trusted, Other}
+use Rattle.mmtel_trust.specs.declared.kinds.HeaderKind.TheVariants.{From, To, Contact, Asserted, Served, Privacy, History, Options, Session, Passed, Personal, Trusted, Other}
 
 -- lines that tell who somebody is (RFC 3323 §4.1.1)
 abbrev pub personal_names : List (List ℕ)
 personal_names = codes "Subject" ∷ codes "Call-Info" ∷ codes "Organization" ∷ codes "User-Agent" ∷ codes "Server" ∷ codes "Reply-To" ∷ codes "In-Reply-To" ∷ []
+
+-- lines that say how long a session lasts unless it is refreshed (RFC 4028 §4, §5)
+abbrev pub session_names : List (List ℕ)
+session_names = codes "Session-Expires" ∷ codes "Min-SE" ∷ []
 
 -- lines of the trust domain (RFC 7315 §4.4, RFC 6050 §4.1, RFC 5009 §8)
 abbrev pub trusted_names : List (List ℕ)
@@ -42,6 +46,7 @@ single_rows =
 abbrev pub group_rows : List Row
 group_rows =
     record { kind = Options; names = codes "Supported" ∷ codes "Require" ∷ [] } ∷
+    record { kind = Session; names = session_names } ∷
     record { kind = Personal; names = personal_names } ∷
     record { kind = Trusted; names = trusted_names } ∷
     record { kind = Passed; names = content_names } ∷

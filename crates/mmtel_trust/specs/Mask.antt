@@ -19,7 +19,7 @@ use Rattle.mmtel_history.specs.declared.entries.Entry.{Entry}
 use Rattle.mmtel_types.specs.declared.privacy.PrivacySet.{PrivacySet}
 use Rattle.mmtel_trust.specs.Kinds.{kind_of}
 use Rattle.mmtel_trust.specs.declared.kinds.HeaderKind.{HeaderKind}
-use Rattle.mmtel_trust.specs.declared.kinds.HeaderKind.TheVariants.{From, To, Contact, Asserted, Served, Privacy, History, Options, Passed, Personal, Trusted, Other}
+use Rattle.mmtel_trust.specs.declared.kinds.HeaderKind.TheVariants.{From, To, Contact, Asserted, Served, Privacy, History, Options, Session, Passed, Personal, Trusted, Other}
 
 -- ---- values
 
@@ -157,6 +157,7 @@ masked_value p Served v = Some (serve_if p.served v)
 masked_value p Privacy v = Some v
 masked_value p History v = Some (masked_entries p.history v)
 masked_value p Options v = Some v
+masked_value p Session v = Some v
 masked_value p Passed v = Some v
 masked_value p Personal v = unless_gone p.personal v
 masked_value p Trusted v = Some v
@@ -216,6 +217,7 @@ is_left p Served = true
 is_left p Privacy = true
 is_left p History = true
 is_left p Options = true
+is_left p Session = true
 is_left p Passed = true
 is_left p Personal = not p.personal
 is_left p Trusted = true
@@ -236,6 +238,7 @@ is_kept p Served = not p.served
 is_kept p Privacy = true
 is_kept p History = are_public p.history
 is_kept p Options = true
+is_kept p Session = true
 is_kept p Passed = true
 is_kept p Personal = not p.personal
 is_kept p Trusted = true

@@ -1,6 +1,6 @@
--- The lines of a message that are passed on where it is relayed: the header table of the server (RFC 3325 §5 and §7, RFC 3323 §5.1, RFC 7044 §7), and the From of a message
--- that the server makes of it (RFC 3323 §4.1.1.3).
-use Rattle.std.specs.Prelude.{Option, Some, None, ℕ, Bool, true, false, not, List, [], ◌∷◌, ◌++◌, codes, if◌then◌else◌, ◌&&◌, ◌==◌, filter, map}
+-- The lines of a message that are passed on where it is relayed: the header table of the server (RFC 3325 §5 and §7, RFC 3323 §5.1, RFC 7044 §7, RFC 3262 §3, RFC 4028
+-- §4 and §5), and the From of a message that the server makes of it (RFC 3323 §4.1.1.3).
+use Rattle.std.specs.Prelude.{Option, Some, None, ℕ, Bool, true, false, not, List, [], ◌∷◌, ◌++◌, codes, if◌then◌else◌, ◌&&◌, ◌||◌, ◌==◌, filter, map}
 use Rattle.std.specs.Str.{bytes_eq}
 use Rattle.mmtel_identity.specs.TrustDomain.{shows_identity, unless_restricted}
 use Rattle.mmtel_lex.specs.Grammar.{name_addr_text}
@@ -15,7 +15,7 @@ use Rattle.mmtel_trust.specs.Kinds.{kind_of}
 use Rattle.mmtel_trust.specs.Privacy.{restricted_text}
 use Rattle.mmtel_trust.specs.declared.showing.Facing.{Facing}
 use Rattle.mmtel_trust.specs.declared.kinds.HeaderKind.{HeaderKind}
-use Rattle.mmtel_trust.specs.declared.kinds.HeaderKind.TheVariants.{From, To, Contact, Asserted, Served, Privacy, History, Options, Passed, Personal, Trusted, Other}
+use Rattle.mmtel_trust.specs.declared.kinds.HeaderKind.TheVariants.{From, To, Contact, Asserted, Served, Privacy, History, Options, Session, Passed, Personal, Trusted, Other}
 
 -- the identities that a trusted peer asserts, to whom they may be shown
 abbrev pub asserted_lines : Facing → Bool → List Line → List Line
@@ -24,6 +24,10 @@ asserted_lines f to_trusted ls = if shows_identity f.from_trusted f.present to_t
 -- Privacy, for trusted peers
 abbrev pub privacy_lines : Facing → Bool → List Line → List Line
 privacy_lines f to_trusted ls = if not to_trusted then [] else if f.restricted then (codes "Privacy", restricted_text ls) ∷ [] else named (codes "Privacy") ls
+
+-- an option that is passed where it is supported or required: History-Info always, reliable provisional responses and session timers where these are served
+abbrev pub passes_option : Facing → List ℕ → Bool
+passes_option f v = bytes_eq v (codes "histinfo") || (f.reliable && bytes_eq v (codes "100rel")) || (f.timer && bytes_eq v (codes "timer"))
 
 -- whether a line of the kind, with this value, is among the other lines that are passed
 abbrev pub passes : Facing → Bool → HeaderKind → List ℕ → Bool
@@ -34,7 +38,8 @@ passes f to_trusted Asserted v = false
 passes f to_trusted Served v = false
 passes f to_trusted Privacy v = false
 passes f to_trusted History v = false
-passes f to_trusted Options v = bytes_eq v (codes "histinfo")
+passes f to_trusted Options v = passes_option f v
+passes f to_trusted Session v = f.timer
 passes f to_trusted Passed v = true
 passes f to_trusted Personal v = not f.restricted
 passes f to_trusted Trusted v = f.from_trusted && to_trusted

@@ -1,6 +1,6 @@
 //! The header table: header names by what becomes of their lines where a message is relayed.
 ghost use Rattle.std.specs.Prelude.{◌≡◌};
-ghost use Rattle.mmtel_trust.specs.Kinds.{group_rows, kind_in, personal_names, trusted_names, content_names, further_names, is_among, kind_of};
+ghost use Rattle.mmtel_trust.specs.Kinds.{group_rows, kind_in, personal_names, session_names, trusted_names, content_names, further_names, is_among, kind_of};
 
 use crate::texts::is;
 
@@ -21,8 +21,10 @@ pub enum HeaderKind {
     Privacy,
     /// History-Info (RFC 7044): the server writes its own.
     History,
-    /// Supported and Require: the option `histinfo` alone is passed.
+    /// Supported and Require: the option `histinfo` is passed, and `100rel` and `timer` where these are served.
     Options,
+    /// Session-Expires and Min-SE (RFC 4028 §4, §5): passed where session timers are served.
+    Session,
     /// Passed to everybody.
     Passed,
     /// Tells who somebody is: passed where that one is not restricted.
@@ -43,6 +45,12 @@ fn is_personal(name: &[u8]) -> bool
         || is(name, b"Server")
         || is(name, b"Reply-To")
         || is(name, b"In-Reply-To")
+}
+
+fn is_session(name: &[u8]) -> bool
+    ensures { result ≡ is_among session_names name.now }
+{
+    is(name, b"Session-Expires") || is(name, b"Min-SE")
 }
 
 fn is_trusted(name: &[u8]) -> bool
@@ -85,6 +93,9 @@ fn grouped(name: &[u8]) -> HeaderKind
 {
     if is(name, b"Supported") || is(name, b"Require") {
         return HeaderKind::Options;
+    }
+    if is_session(name) {
+        return HeaderKind::Session;
     }
     if is_personal(name) {
         return HeaderKind::Personal;

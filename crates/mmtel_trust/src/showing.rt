@@ -4,7 +4,7 @@ ghost use Rattle.mmtel_identity.specs.TrustDomain.{shows_identity, unless_restri
 ghost use Rattle.mmtel_message.specs.Message.{first_value, named};
 ghost use Rattle.mmtel_history.specs.HistoryInfo.{masked_list};
 ghost use Rattle.mmtel_history.specs.declared.entries.Entry.{Entry};
-ghost use Rattle.mmtel_trust.specs.Passed.{passes, is_shown, asserted_lines, privacy_lines, other_lines, passed, history_line, history_lines, has_history_row, history_row};
+ghost use Rattle.mmtel_trust.specs.Passed.{passes, passes_option, is_shown, asserted_lines, privacy_lines, other_lines, passed, history_line, history_lines, has_history_row, history_row};
 ghost use Rattle.mmtel_trust.specs.Passed.{shown_lines, nobody, named_text, attempt_from, read_by};
 
 use crate::kinds::{HeaderKind, kind_of};
@@ -27,6 +27,10 @@ pub struct Facing {
     pub present: bool,
     /// Untrusted peers are shown no entry of the call's History-Info as it is: the Privacy of the INVITE that opened the call has `history` (RFC 7044 §10.1).
     pub mask_all: bool,
+    /// The option `100rel` is passed (RFC 3262 §3).
+    pub reliable: bool,
+    /// The option `timer` is passed, and so are Session-Expires and Min-SE (RFC 4028 §4, §5).
+    pub timer: bool,
 }
 
 /// Whether the asserted identities are passed.
@@ -71,6 +75,15 @@ fn add_privacy(
     add_named(alloc, out, b"Privacy", &m.lines())
 }
 
+/// Whether an option that a message supports or requires is passed.
+fn passes_option(f: Facing, option: &[u8]) -> bool
+    ensures { result ≡ passes_option f option.now }
+{
+    option == b"histinfo".as_slice()
+        || f.reliable && option == b"100rel".as_slice()
+        || f.timer && option == b"timer".as_slice()
+}
+
 /// Whether a line of the kind, with this value, is among the other lines that are passed.
 fn passes(f: Facing, to_trusted: bool, kind: HeaderKind, value: &[u8]) -> bool
     ensures { result ≡ passes f to_trusted kind value.now }
@@ -83,7 +96,8 @@ fn passes(f: Facing, to_trusted: bool, kind: HeaderKind, value: &[u8]) -> bool
         HeaderKind::Served => false,
         HeaderKind::Privacy => false,
         HeaderKind::History => false,
-        HeaderKind::Options => value == b"histinfo".as_slice(),
+        HeaderKind::Options => passes_option(f, value),
+        HeaderKind::Session => f.timer,
         HeaderKind::Passed => true,
         HeaderKind::Personal => !f.restricted,
         HeaderKind::Trusted => f.from_trusted && to_trusted,

@@ -16,7 +16,7 @@ use Rattle.mmtel_directory.specs.declared.config_lines.LineKind.TheVariants as k
 use Rattle.mmtel_directory.specs.declared.directories.Directory.{Directory}
 use Rattle.mmtel_directory.specs.declared.directories.DirectoryFault.{DirectoryFault}
 use Rattle.mmtel_directory.specs.Lines.{lines_of, is_remark, number_from, and_then, said_by}
-use Rattle.mmtel_directory.specs.Directory.{ip_of, addr_of, is_host, trust_of, peer_of, readable, identities_of, is_country, is_store_name, route_words, account_words, kind_and_rest, line_of_words, line_of_kind, line_of}
+use Rattle.mmtel_directory.specs.Directory.{ip_of, addr_of, is_host, trust_of, peer_of, readable, identities_of, is_country, extension_of, is_store_name, route_words, account_words, kind_and_rest, line_of_words, line_of_kind, line_of}
 use Rattle.mmtel_directory.specs.Directory.{bound_in, stands, next_said, first_of, first_said, directory_by, directory_from, directory_of, usual_bound, sip_in, home_in, Answers}
 use Rattle.mmtel_directory.proofs.DraftLaws.{one_more}
 
@@ -62,6 +62,7 @@ small_kind kind.Operator s = of_each (readable (uri_of s)) _ (λ uri. tt)
 small_kind kind.Factory s = of_each (readable (uri_of s)) _ (λ uri. tt)
 small_kind kind.Bound s = of_known (plain_number 16 s) _ (number_within 16 s (plain_number 16 s) refl) (λ n is. is)
 small_kind kind.Country s = of_either (is_country s) _ _ tt tt
+small_kind kind.Extension s = of_each (extension_of s) _ (λ which. tt)
 small_kind kind.Mixer s = of_each (parted 32 s) _ (λ x. of_each (ip_of x.0) _ (λ ip. of_each (number_from 1 65535 x.1) _ (λ port. tt)))
 small_kind kind.Store s = of_either (is_store_name s) _ _ tt tt
 

@@ -1,17 +1,18 @@
 -- A draft that is gathered line by line gives the directory of what the lines say.
-use Rattle.std.proofs.Common.{◌≡◌, ◌==◌, Bool, true, false, is_none, cond, ℕ, suc, ◌+◌, List, [], ◌∷◌, ◌++◌, length, Option, Some, None, Result, Ok, Err, refl, ap, sym, subst, ◌∙◌, arith, add-zero}
+use Rattle.std.proofs.Common.{◌≡◌, ◌==◌, Bool, true, false, is_none, not, cond, ℕ, suc, ◌+◌, List, [], ◌∷◌, ◌++◌, length, Option, Some, None, Result, Ok, Err, refl, ap, sym, subst, ◌∙◌, arith, add-zero}
 use Rattle.std.specs.List.{flat_map}
 use Rattle.std.proofs.lemmas.Bool.Decides.{nat_tests}
 use Rattle.std.proofs.lemmas.List.{length-append, append-nil}
 use Rattle.std.proofs.lemmas.Grind.{flat_map-append}
 use Rattle.mmtel_scan.specs.Chain.{◌>>=◌}
 use Rattle.mmtel_types.specs.declared.addrs.Addr.{Addr}
+use Rattle.mmtel_directory.specs.declared.config_lines.Extension.TheVariants as extension
 use Rattle.mmtel_directory.specs.declared.config_lines.Line.{Line}
 use Rattle.mmtel_directory.specs.declared.config_lines.Line.TheVariants as line
 use Rattle.mmtel_directory.specs.declared.drafts.Draft.{Draft}
 use Rattle.mmtel_directory.specs.Lines.{lines_of, and_then, said_by}
 use Rattle.mmtel_directory.specs.Directory.{line_of, next_said, stands, first_of, first_said, directory_by, directory_from, directory_of, table_of}
-use Rattle.mmtel_directory.specs.Directory.{sip_in, web_in, home_in, route_in, account_in, identities_in, operator_in, factory_in, bound_in, country_in, mixer_in, store_in}
+use Rattle.mmtel_directory.specs.Directory.{sip_in, web_in, home_in, route_in, account_in, identities_in, operator_in, factory_in, bound_in, country_in, timer_in, mixer_in, store_in, is_said}
 use Rattle.mmtel_directory.specs.Directory.{Answers}
 use Rattle.mmtel_directory.specs.Drafts.{Reads, drafted, step, takes, with_line, finished, finished_by, empty_draft}
 use Rattle.mmtel_directory.specs.declared.directories.Directory.{Directory}
@@ -33,7 +34,7 @@ draft_of said = record {
   bound = first_said bound_in said;
   country = first_said country_in said;
   reliable = false;
-  timer = false;
+  timer = is_said timer_in said;
   mwi = false;
   mixer = first_said mixer_in said;
   store = first_said store_in said;
@@ -48,6 +49,11 @@ none_first : {A : Type 0} (xs : List A) → is_none (first_of xs) ≡ (length xs
 none_first [] = refl
 none_first (x ∷ xs) = sym (grind (arith, nat_tests))
 
+-- what is not said once more is unsaid
+not_said : (b : Bool) → not (not b) ≡ b
+not_said true = refl
+not_said false = refl
+
 takes_is : (said : List Line) (l : Line) → takes (draft_of said) l ≡ stands said l
 takes_is said line.Remark = refl
 takes_is said (line.Sip addr) = none_first (flat_map sip_in said)
@@ -60,12 +66,17 @@ takes_is said (line.Operator uri) = none_first (flat_map operator_in said)
 takes_is said (line.Factory uri) = none_first (flat_map factory_in said)
 takes_is said (line.Bound n) = none_first (flat_map bound_in said)
 takes_is said (line.Country digits) = none_first (flat_map country_in said)
+takes_is said (line.Extension extension.Timer) = not_said (length (flat_map timer_in said) == 0)
 takes_is said (line.Mixer mixer) = none_first (flat_map mixer_in said)
 takes_is said (line.Store name) = none_first (flat_map store_in said)
 
 alone_first : {A : Type 0} (xs : List A) (x : A) → (length xs == 0) ≡ true → Some x ≡ first_of (xs ++ x ∷ [])
 alone_first [] x empty = refl
 alone_first (y ∷ xs) x empty = absurd (grind (arith, nat_tests, empty))
+
+said_last : {A : Type 0} (xs : List A) (x : A) → not (length (xs ++ x ∷ []) == 0) ≡ true
+said_last [] x = refl
+said_last (y ∷ xs) x = grind (arith, nat_tests)
 
 with_line_is : (said : List Line) (l : Line) → stands said l ≡ true → with_line (draft_of said) l ≡ draft_of (said ++ l ∷ [])
 with_line_is said line.Remark ok = simp (one_more, append-nil)
@@ -79,6 +90,7 @@ with_line_is said (line.Operator uri) ok = simp (one_more, append-nil, alone_fir
 with_line_is said (line.Factory uri) ok = simp (one_more, append-nil, alone_first (flat_map factory_in said) uri ok)
 with_line_is said (line.Bound n) ok = simp (one_more, append-nil, alone_first (flat_map bound_in said) n ok)
 with_line_is said (line.Country digits) ok = simp (one_more, append-nil, alone_first (flat_map country_in said) digits ok)
+with_line_is said (line.Extension extension.Timer) ok = simp (one_more, append-nil, said_last (flat_map timer_in said) extension.Timer)
 with_line_is said (line.Mixer mixer) ok = simp (one_more, append-nil, alone_first (flat_map mixer_in said) mixer ok)
 with_line_is said (line.Store name) ok = simp (one_more, append-nil, alone_first (flat_map store_in said) name ok)
 

@@ -24,6 +24,8 @@ use Rattle.mmtel_directory.specs.declared.directories.DirectoryFault.{DirectoryF
 use Rattle.mmtel_directory.specs.declared.directories.DirectoryFault.TheVariants.{BadLine, NoMemory}
 use Rattle.mmtel_directory.specs.declared.config_lines.LineKind.{LineKind}
 use Rattle.mmtel_directory.specs.declared.config_lines.LineKind.TheVariants as kind
+use Rattle.mmtel_directory.specs.declared.config_lines.Extension.{Extension}
+use Rattle.mmtel_directory.specs.declared.config_lines.Extension.TheVariants as extension
 use Rattle.mmtel_directory.specs.declared.config_lines.Line.{Line}
 use Rattle.mmtel_directory.specs.declared.config_lines.Line.TheVariants as line
 use Rattle.mmtel_directory.specs.Lines.{lines_of, words_of, is_remark, number_from, said_by}
@@ -64,6 +66,7 @@ kind_of word =
     else if bytes_eq word (codes "factory") then Some kind.Factory
     else if bytes_eq word (codes "bound") then Some kind.Bound
     else if bytes_eq word (codes "country") then Some kind.Country
+    else if bytes_eq word (codes "extension") then Some kind.Extension
     else if bytes_eq word (codes "mixer") then Some kind.Mixer
     else if bytes_eq word (codes "store") then Some kind.Store
     else None
@@ -196,6 +199,16 @@ is_country s = nat_le 1 (length s) && (nat_le (length s) 3 && list_all (in_class
 abbrev pub country_line : List ℕ → Option Line
 country_line s = if is_country s then Some (line.Country s) else None
 
+-- the extensions that may be switched on
+abbrev pub extension_of : List ℕ → Option Extension
+extension_of word = if bytes_eq word (codes "timer") then Some extension.Timer else None
+
+-- `extension WORD`
+abbrev pub extension_line : List ℕ → Option Line
+extension_line s = do
+  which ← extension_of s
+  Some (line.Extension which)
+
 -- `mixer IP PORT`
 abbrev pub mixer_line : List ℕ → Option Line
 mixer_line s = do
@@ -220,6 +233,7 @@ line_of_kind kind.Operator s = operator_line s
 line_of_kind kind.Factory s = factory_line s
 line_of_kind kind.Bound s = bound_line s
 line_of_kind kind.Country s = country_line s
+line_of_kind kind.Extension s = extension_line s
 line_of_kind kind.Mixer s = mixer_line s
 line_of_kind kind.Store s = store_line s
 
@@ -289,6 +303,10 @@ abbrev pub country_in : Line → List (List ℕ)
 country_in (line.Country digits) = digits ∷ []
 country_in _ = []
 
+abbrev pub timer_in : Line → List Extension
+timer_in (line.Extension extension.Timer) = extension.Timer ∷ []
+timer_in _ = []
+
 abbrev pub mixer_in : Line → List Mixer
 mixer_in (line.Mixer mixer) = mixer ∷ []
 mixer_in _ = []
@@ -307,6 +325,10 @@ table_of said = record { known = flat_map peer_in said; routes = flat_map route_
 abbrev pub is_unsaid : {A : Type 0} → (Line → List A) → List Line → Bool
 is_unsaid part said = length (flat_map part said) == 0
 
+-- a line says it
+abbrev pub is_said : {A : Type 0} → (Line → List A) → List Line → Bool
+is_said part said = not (is_unsaid part said)
+
 -- there is such an account: it has an identity
 abbrev pub is_account : List AccountIdentity → Account → Bool
 is_account identities account = list_any (λ identity. identity.account.0 == account.0) identities
@@ -317,7 +339,7 @@ are_new identities [] = true
 are_new identities (one ∷ more) = not (has_identity one.uri identities) && are_new (identities ++ one ∷ []) more
 
 -- whether a line may stand right behind these: a peer of a new number and a new address; a route of a new name to a peer that is named above, and of routes 4,096;
--- an account of a new number and of identities that stand nowhere else, and of accounts 10,000; and each other kind once
+-- an account of a new number and of identities that stand nowhere else, and of accounts 10,000; each extension once, and each other kind
 abbrev pub stands : List Line → Line → Bool
 stands said line.Remark = true
 stands said (line.Sip addr) = is_unsaid sip_in said
@@ -332,6 +354,7 @@ stands said (line.Operator uri) = is_unsaid operator_in said
 stands said (line.Factory uri) = is_unsaid factory_in said
 stands said (line.Bound n) = is_unsaid bound_in said
 stands said (line.Country digits) = is_unsaid country_in said
+stands said (line.Extension extension.Timer) = is_unsaid timer_in said
 stands said (line.Mixer mixer) = is_unsaid mixer_in said
 stands said (line.Store name) = is_unsaid store_in said
 
@@ -364,7 +387,7 @@ first_of (x ∷ xs) = Some x
 abbrev pub first_said : {A : Type 0} → (Line → List A) → List Line → Option A
 first_said part said = first_of (flat_map part said)
 
--- the directory of a server with this address and this home domain; no line switches an extension on
+-- the directory of a server with this address and this home domain
 abbrev pub directory_with : Addr → List ℕ → List Line → Directory
 directory_with sip home said = record {
   sip = sip;
@@ -376,7 +399,7 @@ directory_with sip home said = record {
   bound = unwrap_or (first_said bound_in said) usual_bound;
   country = first_said country_in said;
   reliable = false;
-  timer = false;
+  timer = is_said timer_in said;
   mixer = unwrap_or (first_said mixer_in said) usual_mixer;
   store = unwrap_or (first_said store_in said) usual_store;
 }

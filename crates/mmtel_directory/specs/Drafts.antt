@@ -3,6 +3,7 @@ use Rattle.std.specs.Prelude.{ℕ, Bool, true, false, nat_lt, not, is_none, ◌&
 use Rattle.mmtel_scan.specs.Chain.{◌>>=◌}
 use Rattle.mmtel_trust.specs.Peers.{Peers, has_number, has_addr, has_name, with_peer, with_route}
 use Rattle.mmtel_types.specs.declared.addrs.Addr.{Addr}
+use Rattle.mmtel_directory.specs.declared.config_lines.Extension.TheVariants as extension
 use Rattle.mmtel_directory.specs.declared.config_lines.Line.{Line}
 use Rattle.mmtel_directory.specs.declared.config_lines.Line.TheVariants as line
 use Rattle.mmtel_directory.specs.declared.directories.Directory.{Directory}
@@ -45,6 +46,7 @@ takes draft (line.Operator uri) = is_none draft.operator
 takes draft (line.Factory uri) = is_none draft.factory
 takes draft (line.Bound n) = is_none draft.bound
 takes draft (line.Country digits) = is_none draft.country
+takes draft (line.Extension extension.Timer) = not draft.timer
 takes draft (line.Mixer mixer) = is_none draft.mixer
 takes draft (line.Store name) = is_none draft.store
 
@@ -61,6 +63,7 @@ with_line draft (line.Operator uri) = record draft { operator = Some uri }
 with_line draft (line.Factory uri) = record draft { factory = Some uri }
 with_line draft (line.Bound n) = record draft { bound = Some n }
 with_line draft (line.Country digits) = record draft { country = Some digits }
+with_line draft (line.Extension extension.Timer) = record draft { timer = true }
 with_line draft (line.Mixer mixer) = record draft { mixer = Some mixer }
 with_line draft (line.Store name) = record draft { store = Some name }
 

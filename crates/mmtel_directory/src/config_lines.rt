@@ -5,7 +5,7 @@ ghost use Rattle.mmtel_lex.specs.Reading.{uri_of};
 ghost use Rattle.mmtel_trust.specs.Peers.{is_prefix};
 ghost use Rattle.mmtel_scan.specs.Numbers.{plain_number};
 ghost use Rattle.mmtel_directory.specs.Directory.{route_words, ip_of, addr_of, kind_of, is_host, is_route_name, trust_of, peer_of, account_number, readable, identities_of};
-ghost use Rattle.mmtel_directory.specs.Directory.{is_country, country_line, is_one_word, is_store_name};
+ghost use Rattle.mmtel_directory.specs.Directory.{is_country, country_line, extension_line, extension_of, is_one_word, is_store_name};
 ghost use Rattle.mmtel_directory.specs.Lines.{words_of};
 ghost use Rattle.mmtel_directory.specs.Directory.{uris_of, kind_and_rest, sip_line, web_line, home_line, peer_line, route_line, account_words, account_line, operator_line};
 ghost use Rattle.mmtel_directory.specs.Directory.{factory_line, bound_line, mixer_line, store_line, line_of_kind, line_of_words, line_of};
@@ -32,8 +32,16 @@ pub enum LineKind {
     Factory,
     Bound,
     Country,
+    Extension,
     Mixer,
     Store,
+}
+
+/// An extension that a configuration may switch on.
+#[derive(Clone, Copy, Debug, PartialEq, Eq)]
+pub enum Extension {
+    /// Session timers (RFC 4028).
+    Timer,
 }
 
 /// What a line says.
@@ -66,6 +74,8 @@ pub enum Line {
     Bound(u16),
     /// The digits of the home country.
     Country(Text),
+    /// An extension is switched on.
+    Extension(Extension),
     /// Where the mixer of rooms takes media.
     Mixer(Mixer),
     /// The name of the store.
@@ -123,6 +133,8 @@ fn kind_of(word: &[u8]) -> Option<LineKind>
         Some(LineKind::Bound)
     } else if word == b"country".as_slice() {
         Some(LineKind::Country)
+    } else if word == b"extension".as_slice() {
+        Some(LineKind::Extension)
     } else if word == b"mixer".as_slice() {
         Some(LineKind::Mixer)
     } else if word == b"store".as_slice() {
@@ -352,6 +364,23 @@ fn country_line(alloc: Global, rest: &[u8]) -> Result<Option<Line>, NoMemory>
     Ok(Some(Line::Country(Text::of(alloc, rest)?)))
 }
 
+fn extension_of(word: &[u8]) -> Option<Extension>
+    ensures { result ≡ extension_of word.now }
+{
+    if word == b"timer".as_slice() {
+        Some(Extension::Timer)
+    } else {
+        None
+    }
+}
+
+fn extension_line(rest: &[u8]) -> Option<Line>
+    ensures { result ≡ extension_line rest.now }
+{
+    let extension = extension_of(rest)?;
+    Some(Line::Extension(extension))
+}
+
 fn mixer_line(rest: &[u8]) -> Option<Line>
     ensures { result ≡ mixer_line rest.now }
 {
@@ -399,6 +428,7 @@ fn line_of_kind(alloc: Global, kind: LineKind, rest: &[u8]) -> Result<Option<Lin
         LineKind::Factory => factory_line(alloc, rest),
         LineKind::Bound => Ok(bound_line(rest)),
         LineKind::Country => country_line(alloc, rest),
+        LineKind::Extension => Ok(extension_line(rest)),
         LineKind::Mixer => Ok(mixer_line(rest)),
         LineKind::Store => store_line(alloc, rest),
     }

@@ -1,10 +1,10 @@
 //! A directory while its lines are read.
-ghost use Rattle.std.specs.Prelude.{◌≡◌, ◌++◌, Some, is_none, unwrap_or, IfOk};
+ghost use Rattle.std.specs.Prelude.{◌≡◌, ◌++◌, Some, is_none, not, true, unwrap_or, IfOk};
 ghost use Rattle.mmtel_directory.specs.Directory.{Answers, are_new, entries_of, usual_mixer, usual_store, usual_web};
 ghost use Rattle.mmtel_directory.specs.Drafts.{Adds, Steps, empty_draft, finished, step, takes, with_line};
 ghost use Rattle.mmtel_directory.specs.declared.config_lines.Line.TheVariants as said;
 
-use crate::config_lines::{Line, read_line};
+use crate::config_lines::{Extension, Line, read_line};
 use crate::directories::{Directory, DirectoryFault, WebDirectory};
 use mmtel_lex::Uri;
 use mmtel_scan::{List, NoMemory, Text};
@@ -43,6 +43,17 @@ fn say_once<T: Drop>(place: &mut Option<T>, number: u64, said: T) -> Result<(), 
         return Err(DirectoryFault::BadLine { line: number });
     }
     *place = Some(said);
+    Ok(())
+}
+
+/// Switches an extension on by the line of this number, where no line did it yet.
+fn switch_on(switch: &mut bool, number: u64) -> Result<(), DirectoryFault>
+    ensures { Adds result number (not switch.old) true switch.new }
+{
+    if *switch {
+        return Err(DirectoryFault::BadLine { line: number });
+    }
+    *switch = true;
     Ok(())
 }
 
@@ -194,6 +205,7 @@ impl Draft {
             Line::Factory(uri) => say_once(&mut self.factory, number, uri),
             Line::Bound(bound) => say_once(&mut self.bound, number, bound),
             Line::Country(digits) => say_once(&mut self.country, number, digits),
+            Line::Extension(Extension::Timer) => switch_on(&mut self.timer, number),
             Line::Mixer(mixer) => say_once(&mut self.mixer, number, mixer),
             Line::Store(name) => say_once(&mut self.store, number, name),
         }

@@ -4,6 +4,7 @@ mod Moving
 pub mod Living
 mod Concluding
 mod Watching
+mod Sessions
 mod Own
 mod Tabling
 mod Cleaning

@@ -6,18 +6,20 @@ use Rattle.mmtel_charging.specs.declared.rows.Row.{Row}
 use Rattle.mmtel_call_decisions.specs.Site.{Site}
 use Rattle.mmtel_call_laws.specs.GoingOn.{CallsGoOn}
 use Rattle.mmtel_call_laws.specs.Laws.{ChargingIsExact, ComesToItsOutcome, DiversionsAreCounted, ShowsItsOutcome, ShowsNothingLater}
+use Rattle.mmtel_call_laws.specs.Session.Laws.{IsSessionSeen, SessionsAreSeen, SessionsExpireAsSeen}
 use Rattle.mmtel_call_laws.specs.Trace.Laws.{AttemptsAreSeen, EndingsAreSeen, IsSeen}
 use Rattle.mmtel_b2bua.specs.Histories.{Deed, Drops, Finishes, Hears, Releases, Restores, table_after}
 use Rattle.mmtel_b2bua.specs.Tables.{Table}
 use Rattle.mmtel_b2bua_laws.specs.Deeds.{call_of, entry_in, handed_after, handed_by, number_by, out_by, rows_after, rows_by}
 use Rattle.mmtel_b2bua_laws.specs.Laws.{CallsBringForthTheirOwn, CallsOfTablesAreExact, CallsTakeTheirSteps, NothingIsOfNobody, RowsAreInOrder}
 use Rattle.mmtel_b2bua_laws.specs.Lives.{call_after}
-use Rattle.mmtel_b2bua_laws.specs.Watched.{no_reply_after, watch_after}
+use Rattle.mmtel_b2bua_laws.specs.Watched.{no_reply_after, session_after, watch_after}
 use Rattle.mmtel_b2bua_laws.proofs.Concluding.{lives_charged, lives_come, lives_counted, lives_show, lives_stay}
 use Rattle.mmtel_b2bua_laws.proofs.Keys.{life_others}
 use Rattle.mmtel_b2bua_laws.proofs.Moving.{ComesTo, Effect, Nobodys, Opens, finished-effect, hears-effect}
 use Rattle.mmtel_b2bua_laws.proofs.Own.{holds_after}
 use Rattle.mmtel_b2bua_laws.proofs.Tables.{finds}
+use Rattle.mmtel_b2bua_laws.proofs.Sessions.{lives_expire, lives_keep}
 use Rattle.mmtel_b2bua_laws.proofs.Watching.{lives_end_as_seen, lives_show_throughout, lives_watched}
 
 -- ---- a deed of nobody
@@ -73,8 +75,8 @@ take_steps law charged site deeds number few = (holds_after (lives_stay law char
 pub bring_own : CallsGoOn → ChargingIsExact → CallsBringForthTheirOwn
 bring_own law charged site deeds number life few is = (holds_after (lives_stay law charged) site deeds few).brings number life is
 
-pub calls_exact : CallsGoOn → ChargingIsExact → ComesToItsOutcome → ShowsItsOutcome → ShowsNothingLater → AttemptsAreSeen → EndingsAreSeen → DiversionsAreCounted → CallsOfTablesAreExact
-calls_exact law charged comes shows later attempts endings counted site deeds number life few is =
+pub calls_exact : CallsGoOn → ChargingIsExact → ComesToItsOutcome → ShowsItsOutcome → ShowsNothingLater → AttemptsAreSeen → EndingsAreSeen → DiversionsAreCounted → SessionsAreSeen → SessionsExpireAsSeen → CallsOfTablesAreExact
+calls_exact law charged comes shows later attempts endings counted sessions expire site deeds number life few is =
     let holds = holds_after (lives_stay law charged) site deeds few in
     let own = holds.brings number life is in
     let charges = lives_charged law charged in
@@ -88,6 +90,10 @@ calls_exact law charged comes shows later attempts endings counted site deeds nu
       watched =
           subst (λ (site : Site). IsSeen site.bound (no_reply_after life.start life.events) (call_after life.start life.events).phase (watch_after life.start life.events)) own.opening.0
           (lives_watched law charged attempts life.start life.events);
+      session =
+          subst (λ (site : Site). IsSessionSeen site.timer (call_after life.start life.events) (session_after life.start life.events)) own.opening.0
+          (lives_keep law charged sessions life.start life.events);
+      expires = λ later earlier x number came due. lives_expire law charged sessions expire life.start earlier x number due;
       counted = lives_counted law charged counted life.start life.events;
       answered = charges.answered life.start life.events;
       runs = λ back goes. let (run, none) = charges.runs life.start life.events (holds.fits back number life is) goes in (run, own.rows ∙ none);

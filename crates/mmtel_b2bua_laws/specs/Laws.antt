@@ -1,24 +1,28 @@
 -- What is said of every table of calls, in the subject's words.
-use Rattle.std.specs.Prelude.{◌++◌, ◌≡◌, ◌+◌, ◌==◌, ℕ, Bool, false, true, List, [], Some, None, filter, find, is_some}
+use Rattle.std.specs.Prelude.{◌++◌, ◌≡◌, ◌+◌, ◌==◌, ℕ, Bool, false, true, List, [], ◌∷◌, Some, None, filter, find, is_some}
 use Rattle.mmtel_charging.specs.declared.rows.Row.{Row}
 use Rattle.mmtel_precedence.specs.Laws.{diversions_made}
+use Rattle.mmtel_transaction.specs.declared.words.DueWord.TheVariants as due
 use Rattle.mmtel_types.specs.declared.causes.Cause.{Cause}
 use Rattle.mmtel_types.specs.declared.causes.Cause.TheVariants.{Ended}
 use Rattle.mmtel_call_decisions.specs.Site.{Site}
+use Rattle.mmtel_call.specs.Table.{step}
 use Rattle.mmtel_call.specs.declared.calls.Phase.TheVariants.{Over}
+use Rattle.mmtel_call.specs.declared.signals.Signal.TheVariants as signal
 use Rattle.mmtel_call_laws.specs.Charged.{running}
 use Rattle.mmtel_call_laws.specs.Endings.{answer_in}
 use Rattle.mmtel_call_laws.specs.Known.{left_at_first, result_of}
+use Rattle.mmtel_call_laws.specs.Session.Laws.{ExpiresAsSeen, IsSessionSeen}
 use Rattle.mmtel_call_laws.specs.Shown.{sign_of_result, signs_of, signs_of_targets}
-use Rattle.mmtel_call_laws.specs.Story.{Start, is_over, opening_in}
+use Rattle.mmtel_call_laws.specs.Story.{Heard, Start, is_over, opening_in}
 use Rattle.mmtel_call_laws.specs.Trace.Laws.{IsSeen}
 use Rattle.mmtel_b2bua.specs.Entries.{is_numbered}
 use Rattle.mmtel_b2bua.specs.Histories.{Deed, table_after}
 use Rattle.mmtel_b2bua_laws.specs.Deeds.{ArePutBack, HasNumbers, HaveOwnKeys, call_of, emits_of, entry_in, handed_after, life_of, out_by, rows_after as rows_of_all}
 use Rattle.mmtel_b2bua_laws.specs.Deeds.{rows_by, rows_of}
 use Rattle.mmtel_b2bua_laws.specs.Known.{AreFitting, AreOthers, HaveOwnDesks, charges_after, endings_after, outcome_after, parts_after}
-use Rattle.mmtel_b2bua_laws.specs.Lives.{Event, Life, call_after, emits_after, emits_while_offered, rows_after}
-use Rattle.mmtel_b2bua_laws.specs.Watched.{endings_seen, no_reply_after, signs_after, watch_after}
+use Rattle.mmtel_b2bua_laws.specs.Lives.{Event, Hears, Life, call_after, emits_after, emits_while_offered, rows_after}
+use Rattle.mmtel_b2bua_laws.specs.Watched.{endings_seen, no_reply_after, session_after, signs_after, watch_after}
 
 -- ---- a life, as a story of its call
 
@@ -43,6 +47,18 @@ LivesEndAsIsSeen = (s : Start) (events : List Event) → endings_after s events 
 -- while it is offered its attempt is the one that is on its way, with its deadlines, each at its moment; and else none is on its way
 abbrev pub LivesAreWatched : Type 0
 LivesAreWatched = (s : Start) (events : List Event) → IsSeen s.site.bound (no_reply_after s events) (call_after s events).phase (watch_after s events)
+
+-- the deadline of its session that counts is that of the last 2xx which it passed on
+abbrev pub LivesKeepTheirSession : Type 0
+LivesKeepTheirSession = (s : Start) (events : List Event) → IsSessionSeen s.site.timer (call_after s events) (session_after s events)
+
+-- by that a call that talks or asks is over, and by none that went out before
+abbrev pub ExpiresOn : Start → (earlier : List Event) → (x : Heard) → (number : ℕ) → Type 0
+ExpiresOn s earlier x number =
+    ExpiresAsSeen (call_after s earlier) (session_after s earlier) number x.desk (step s.site x.now x.signal (call_after s earlier) x.desk)
+
+abbrev pub LivesExpireAsSeen : Type 0
+LivesExpireAsSeen = (s : Start) (earlier : List Event) (x : Heard) (number : ℕ) → x.signal ≡ signal.Due (due.Expired number) → ExpiresOn s earlier x number
 
 -- so many diversions are left as the bound leaves after those that the call came with and those that were made
 abbrev pub LivesAreCounted : Type 0
@@ -113,6 +129,9 @@ pub record CallIsExact (site : Site) (deeds : List Deed) (number : ℕ) (life : 
       ≡ signs_of_targets (opening_in life.start) (outcome_after life.start life.events).targets ++ sign_of_result (outcome_after life.start life.events).result
   pub seen : endings_after life.start life.events ≡ endings_seen life.start life.events
   pub watched : IsSeen site.bound (no_reply_after life.start life.events) (call_after life.start life.events).phase (watch_after life.start life.events)
+  pub session : IsSessionSeen site.timer (call_after life.start life.events) (session_after life.start life.events)
+  pub expires : (later earlier : List Event) (x : Heard) (number : ℕ) → life.events ≡ later ++ Hears x ∷ earlier → x.signal ≡ signal.Due (due.Expired number) →
+      ExpiresOn life.start earlier x number
   pub counted : (call_after life.start life.events).diversions.left + diversions_made (outcome_after life.start life.events) ≡ left_at_first life.start
   pub answered : (call_after life.start life.events).answered ≡ answer_in (endings_after life.start life.events)
   pub runs : ArePutBack site deeds → is_over (call_after life.start life.events).phase ≡ false →

@@ -1,6 +1,7 @@
--- What is seen of a life from outside: what it shows in each step, and its attempts, by what goes out and is heard while it is offered (RFC 3261 §13.2.1, §13.3.1, §14 and §21).
+-- What is seen of a life from outside: what it shows in each step, its attempts, by what goes out and is heard while it is offered (RFC 3261 §13.2.1, §13.3.1, §14 and §21), and
+-- its session (RFC 4028 §10).
 -- A leg that is taken out or put back, or the end without one, is of an answered call, of which no attempt is on its way.
-use Rattle.std.specs.Prelude.{ℕ, Option, List, [], ◌∷◌, ◌++◌, option_to_list}
+use Rattle.std.specs.Prelude.{ℕ, Option, None, List, [], ◌∷◌, ◌++◌, option_to_list}
 use Rattle.std.specs.Option.{option_map}
 use Rattle.mmtel_precedence.specs.Calls.{Ended}
 use Rattle.mmtel_transaction.specs.declared.words.Emit.{Emit}
@@ -9,6 +10,7 @@ use Rattle.mmtel_call_decisions.specs.Decisions.{time_of}
 use Rattle.mmtel_call.specs.declared.calls.Call.{Call}
 use Rattle.mmtel_call_laws.specs.Endings.{ended_at}
 use Rattle.mmtel_call_laws.specs.Known.{last_record}
+use Rattle.mmtel_call_laws.specs.Session.Seen.{Session, agreed_by, expiries_of, session_at_first, session_by}
 use Rattle.mmtel_call_laws.specs.Shown.{Sign, shown_by, signs_of}
 use Rattle.mmtel_call_laws.specs.Story.{Start, added, first_step}
 use Rattle.mmtel_call_laws.specs.Trace.Seen.{Going, Mark, Watch, ends_watched, first_last, last_by, marks_first, marks_of, nothing_yet, on_marks, watched_next}
@@ -73,3 +75,16 @@ endings_seen s (x ∷ earlier) = endings_seen s earlier ++ ends_in s.arrival.key
 -- where the record of the account that is served at the last target has a rule for no answer, as it stood when the call reached it
 abbrev pub no_reply_after : Start → List Event → Option ℕ
 no_reply_after s events = time_of (last_record (known_after s events) 0 (outcome_after s events).targets)
+
+-- ---- the session
+
+-- as a leg is taken out or put back nothing is passed on and nothing goes out; where the call ends without one no 2xx is heard
+abbrev pub session_in : Start → Event → Call → Session → Session
+session_in s (Hears x) c w = session_by x.now.at s.arrival.number x.signal (emits_by s.site (Hears x) c) w
+session_in s (Releases side) c w = w
+session_in s (Restores away) c w = w
+session_in s (Finishes at desk) c w = agreed_by at w None (expiries_of s.arrival.number (emits_by s.site (Finishes at desk) c))
+
+unfoldable pub session_after : Start → List Event → Session
+session_after s [] = session_at_first s.arrival.number (added s.desk.out (first_step s).desk.out)
+session_after s (x ∷ earlier) = session_in s x (call_after s earlier) (session_after s earlier)

@@ -1,6 +1,6 @@
 //! What each call of a table comes to. These are laws, and no code.
 ghost use Rattle.mmtel_b2bua_laws.specs.Clean.{CallsSendCleanMessages, DeedsSendCleanMessages, LegsGoOutClean};
-ghost use Rattle.mmtel_b2bua_laws.specs.Laws.{CallsBringForthTheirOwn, CallsOfTablesAreExact, CallsTakeTheirSteps, LivesAreCharged, LivesAreCounted};
+ghost use Rattle.mmtel_b2bua_laws.specs.Laws.{CallsBringForthTheirOwn, CallsOfTablesAreExact, CallsTakeTheirSteps, LivesAreCharged, LivesAreCounted, LivesExpireAsSeen, LivesKeepTheirSession};
 ghost use Rattle.mmtel_b2bua_laws.specs.Laws.{LivesAreWatched, LivesComeToTheirOutcome, LivesEndAsIsSeen, LivesShowTheirOutcome, LivesShowThroughout, NothingIsOfNobody, RowsAreInOrder, RowsAreOfTheirCalls};
 ghost use Rattle.mmtel_b2bua_laws.specs.Legs.{LegsGoBack};
 ghost use Rattle.mmtel_b2bua_laws.specs.Replies.{CallsReplyInTheirOwn, LivesReplyInTheirOwn};
@@ -8,6 +8,7 @@ ghost use Rattle.mmtel_b2bua_laws.specs.Replies.{CallsReplyInTheirOwn, LivesRepl
 use mmtel_call_laws::{
     calls_are_what_is_seen, calls_come_to_their_outcome, calls_go_on, calls_reply_in_their_own,
     calls_send_clean_messages, calls_show_their_outcome, charging_is_exact, diversions_are_counted,
+    sessions_are_seen, sessions_expire,
 };
 
 /// A call of which legs are taken out and put back, or that is ended without one, comes to what a call comes to that only hears signals: its Outcome, what goes out while it
@@ -18,6 +19,9 @@ pub fn lives_come_to_their_outcome()
     ensures throughout { LivesShowThroughout }
     ensures seen { LivesEndAsIsSeen }
     ensures watched { LivesAreWatched }
+    // Its session, and how it ends by it (RFC 4028 §10).
+    ensures session { LivesKeepTheirSession }
+    ensures expires { LivesExpireAsSeen }
     ensures counted { LivesAreCounted }
     ensures charged { LivesAreCharged }
 {
@@ -27,6 +31,8 @@ pub fn lives_come_to_their_outcome()
     calls_show_their_outcome();
     calls_are_what_is_seen();
     diversions_are_counted();
+    sessions_are_seen();
+    sessions_expire();
 }
 
 /// Each call of a table takes just the steps of its own signals: it stands there as its life has it, and what goes out and is filed in its deeds is what its life brings forth.
@@ -63,6 +69,8 @@ pub fn calls_of_tables_are_exact()
     calls_show_their_outcome();
     calls_are_what_is_seen();
     diversions_are_counted();
+    sessions_are_seen();
+    sessions_expire();
 }
 
 /// A leg that is taken out of a call fits where it was, and put back it leaves the calls as they were (RFC 4579 §5.6, RFC 3891 §3).

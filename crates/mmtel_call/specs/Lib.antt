@@ -10,6 +10,7 @@ pub mod Requests
 pub mod Ringing
 pub mod Answered
 pub mod Reinvites
+pub mod Expiring
 pub mod Stages
 pub mod Leaving
 pub mod Table

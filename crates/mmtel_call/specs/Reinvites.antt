@@ -25,7 +25,7 @@ use Rattle.mmtel_call_decisions.specs.Site.{Site}
 use Rattle.mmtel_call.specs.Answered.{at_stage, bye_to, leg_of, shown_across, with_leg}
 use Rattle.mmtel_call.specs.Calls.{Answered, Asking, Call, Pair, Reinvite, Stood, Talking}
 use Rattle.mmtel_call.specs.Closing.{Step, onward, over_stood}
-use Rattle.mmtel_call.specs.Ringing.{awaiting_ack, next_success, success_of, taken_by, with_loose}
+use Rattle.mmtel_call.specs.Ringing.{awaiting_ack, awaiting_expiry, next_success, success_of, taken_by, with_loose}
 use Rattle.mmtel_call.specs.Sending.{replied_to}
 
 -- ---- it goes to the other side
@@ -77,7 +77,7 @@ agreed site at x side q key m c desk = record {
     taken = c.taken ++ taken_by key m true q.invitation ∷ [];
     phase = Stood x (Answered side (success_of c q.request q.invitation));
   };
-  desk = awaiting_ack at c (relayed_back site x side q m c desk);
+  desk = awaiting_expiry site at m c (awaiting_ack at c (relayed_back site x side q m c desk));
 }
 
 -- ACK, and it comes back

@@ -17,12 +17,15 @@ use Rattle.mmtel_leg.specs.declared.remotes.Remote.{Remote}
 use Rattle.mmtel_precedence.specs.Attempts.{end_by_final, end_by_time, rings}
 use Rattle.mmtel_precedence.specs.Calls.{End, NoReply, NotReachable, Standing}
 use Rattle.mmtel_scan.specs.Numbers.{next_number}
+use Rattle.mmtel_session.specs.Intervals.{expiry_after}
 pub use Rattle.mmtel_sip_rules.specs.Requests.{ack_time}
 use Rattle.mmtel_transaction.specs.declared.words.DueWord.{DueWord}
 use Rattle.mmtel_transaction.specs.declared.words.DueWord.TheVariants as due
+use Rattle.mmtel_transaction.specs.declared.words.Emit.{Emit}
 use Rattle.mmtel_transaction.specs.declared.words.Emit.TheVariants as emit
 use Rattle.mmtel_transaction.specs.declared.words.TKey.{TKey}
 use Rattle.mmtel_types.specs.declared.causes.Cause.TheVariants as causes
+use Rattle.mmtel_types.specs.declared.numbers.CallNo.{CallNo}
 use Rattle.mmtel_types.specs.declared.sides.Side.{Side}
 use Rattle.mmtel_types.specs.declared.sides.Side.TheVariants.{Caller, Callee}
 use Rattle.mmtel_call_decisions.specs.Decisions.{its_sheet, redirect_of, time_of}
@@ -99,6 +102,20 @@ next_success c = next_number c.successes
 abbrev pub awaiting_ack : (at : ℕ) → Call → Desk → Desk
 awaiting_ack at c desk = emitted (emit.Arm c.opening.number (due.NoAck (next_success c)) (at + ack_time)) desk
 
+-- its session expires, where sessions have timers and it says when (RFC 4028 §10)
+abbrev pub session_deadline : Option ℕ → (at : ℕ) → CallNo → (number : ℕ) → List Emit
+session_deadline None at call number = []
+session_deadline (Some time) at call number = emit.Arm call (due.Expired number) (at + time) ∷ []
+
+abbrev pub expiry_in : Option ℕ → (at : ℕ) → Call → List Emit
+expiry_in time at c = session_deadline time at c.opening.number (next_success c)
+
+abbrev pub expiries : (timer : Bool) → (at : ℕ) → Said → Call → List Emit
+expiries timer at m c = if timer then expiry_in (expiry_after m.heard.session) at c else []
+
+abbrev pub awaiting_expiry : Site → (at : ℕ) → Said → Call → Desk → Desk
+awaiting_expiry site at m c desk = record desk { out = desk.out ++ expiries site.timer at m c }
+
 -- the INVITE had this 2xx
 abbrev pub taken_by : TKey → Said → (within : Bool) → Invitation → Taken
 taken_by key m within i = record { invitation = has_said key i; tag = tag_given m; within = within }
@@ -120,7 +137,7 @@ answered site at x key m c desk = record {
     taken = c.taken ++ taken_by key m false x.attempt.invitation ∷ [];
     phase = Stood (pair_of x m) (Answered Caller (success_of c c.opening.invite x.attempt.invitation));
   };
-  desk = awaiting_ack at c (relayed_to_caller site c x.attempt.service m desk);
+  desk = awaiting_expiry site at m c (awaiting_ack at c (relayed_to_caller site c x.attempt.service m desk));
 }
 
 -- ---- a final from 300, silence, its time

@@ -13,6 +13,7 @@ use Rattle.mmtel_call_decisions.specs.Site.{Site}
 use Rattle.mmtel_call.specs.Answered.{acked_across, acknowledges, at_stage, bye_across, bye_before_ack, is_due, leg_of, parted, unacknowledged, with_leg}
 use Rattle.mmtel_call.specs.Calls.{Answered, Asking, Call, Pair, Parting, Stage, Talking}
 use Rattle.mmtel_call.specs.Closing.{Step, onward, over_stood}
+use Rattle.mmtel_call.specs.Expiring.{expired, expired_asking, is_expiry}
 use Rattle.mmtel_call.specs.Reinvites.{bye_while_asking, cancelled_across, invited, on_response_across, silenced_across}
 use Rattle.mmtel_call.specs.Requests.{having_heard, is_bye, is_invite, says, unheard, unlisted}
 use Rattle.mmtel_call.specs.Sending.{replied_to}
@@ -107,18 +108,18 @@ on_silence_at (Asking asking q) site at x c desk = silenced_across site at x q c
 
 -- ---- deadlines
 
--- the deadline is that of the 2xx which waits for its ACK
-abbrev pub is_due_at : Stage → DueWord → Bool
-is_due_at (Answered waiting success) what = is_due success what
-is_due_at (Parting waiting success) what = is_due success what
-is_due_at Talking what = false
-is_due_at (Asking asking q) what = false
+-- the deadline is that of the 2xx which waits for its ACK, or else the expiry of the session, by the number of 2xx that went to a side
+abbrev pub is_due_at : Stage → (successes : ℕ) → DueWord → Bool
+is_due_at (Answered waiting success) successes what = is_due success what
+is_due_at (Parting waiting success) successes what = is_due success what
+is_due_at Talking successes what = is_expiry successes what
+is_due_at (Asking asking q) successes what = is_expiry successes what
 
 abbrev pub rung_out : Stage → Site → (at : ℕ) → Pair → Call → Desk → Step
 rung_out (Answered waiting success) site at x c desk = unacknowledged site at x waiting c desk
 rung_out (Parting waiting success) site at x c desk = parted site at x waiting c desk
-rung_out Talking site at x c desk = onward c desk
-rung_out (Asking asking q) site at x c desk = onward c desk
+rung_out Talking site at x c desk = expired site at x c desk
+rung_out (Asking asking q) site at x c desk = expired_asking site at x asking q c desk
 
 abbrev pub on_due_at : Stage → Site → (at : ℕ) → Pair → DueWord → Call → Desk → Step
-on_due_at stage site at x what c desk = if is_due_at stage what then rung_out stage site at x c desk else onward c desk
+on_due_at stage site at x what c desk = if is_due_at stage c.successes what then rung_out stage site at x c desk else onward c desk

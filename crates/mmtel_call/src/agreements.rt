@@ -4,7 +4,7 @@ ghost use Rattle.mmtel_sdp.specs.Offers.{direction_told};
 ghost use Rattle.mmtel_types.specs.declared.causes.Cause.TheVariants.{Ended as HasEnded};
 ghost use Rattle.mmtel_call.specs.Calls.{Answered, Over, Stood};
 ghost use Rattle.mmtel_call.specs.Reinvites.{agreed, held_by, relayed_back};
-ghost use Rattle.mmtel_call.specs.Ringing.{awaiting_ack, next_success, success_of, tag_given};
+ghost use Rattle.mmtel_call.specs.Ringing.{awaiting_ack, awaiting_expiry, next_success, success_of, tag_given};
 
 use crate::attempts::taken_by;
 use crate::calls::{Call, Pair, Phase, Stage, Success, Taken};
@@ -83,8 +83,9 @@ impl Call {
         desk: &mut Desk,
     ) -> Result<(Text, Option<Direction>, Success), NoMemory>
         ensures desk { OnOk result (desk.new
-            ≡ awaiting_ack step.now.present.at self.now (relayed_back step.now.setting.now x.now asked.now.side
-            asked.now.invite m.now self.now desk.old)) }
+            ≡ awaiting_expiry step.now.setting.now step.now.present.at m.now self.now (awaiting_ack step.now.present.at
+            self.now (relayed_back step.now.setting.now x.now asked.now.side asked.now.invite m.now self.now
+            desk.old))) }
         ensures tag { IfOk result (λ r. r.0 ≡ tag_given m.now) }
         ensures direction { IfOk result (λ r. r.1 ≡ direction_told asked.now.invite.request.heard.body) }
         ensures success { IfOk result (λ r. r.2
@@ -93,6 +94,7 @@ impl Call {
         let invite = &asked.invite;
         self.relay_back(step, x, asked, m, desk)?;
         self.await_ack(step, desk)?;
+        self.await_expiry(step, m, desk)?;
         let direction = direction_told(step.alloc, invite.request.message.body())?;
         let tag = tag_said(step.alloc, m)?;
         match self.success_of(step.alloc, &invite.request, &invite.invitation) {

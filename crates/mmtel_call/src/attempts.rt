@@ -9,7 +9,7 @@ ghost use Rattle.mmtel_types.specs.declared.causes.Cause.TheVariants.{Ended as H
 ghost use Rattle.mmtel_types.specs.declared.sides.Side.TheVariants.{Callee as TheCallee, Caller};
 ghost use Rattle.mmtel_leg.specs.Remotes.{remote_of};
 ghost use Rattle.mmtel_call.specs.Calls.{Answered, Offered, Over, Stood};
-ghost use Rattle.mmtel_call.specs.Ringing.{answered, armed, awaiting_ack, early_said, having_met, loose, next_success, noted, proceeding, ringing, success_of, tag_given};
+ghost use Rattle.mmtel_call.specs.Ringing.{answered, armed, awaiting_ack, awaiting_expiry, early_said, having_met, loose, next_success, noted, proceeding, ringing, success_of, tag_given};
 ghost use Rattle.mmtel_call.specs.Ringing.{with_loose};
 
 use crate::calls::{Attempt, Call, Pair, Phase, Stage, Success, Taken, Trial};
@@ -21,6 +21,7 @@ use mmtel_desk::{Desk, Invitation, Loose, file, once_cancelled, with_early};
 use mmtel_leg::Remote;
 use mmtel_precedence::rings;
 use mmtel_scan::{NoMemory, Text};
+use mmtel_session::expiry_after;
 use mmtel_sip_rules::ACK_TIME;
 use mmtel_transaction::{DueWord, Emit, TKey};
 use mmtel_types::Side;
@@ -120,6 +121,33 @@ impl Call {
                 at: step.present.at.ms() + ACK_TIME,
             },
         )
+    }
+
+    /// Arms the expiry of the session of that 2xx, where sessions have timers and it says when (RFC 4028 §10).
+    pub fn await_expiry(
+        &self,
+        step: &Step<'_>,
+        m: &Hearing,
+        desk: &mut Desk,
+    ) -> Result<(), NoMemory>
+        ensures { OnOk result (desk.new
+            ≡ awaiting_expiry step.now.setting.now step.now.present.at m.now self.now desk.old) }
+    {
+        let setting = step.setting;
+        if !setting.timer {
+            return Ok(());
+        }
+        match expiry_after(&m.message) {
+            None => Ok(()),
+            Some(time) => desk.emit(
+                step.alloc,
+                Emit::Arm {
+                    call: self.opening.number,
+                    what: DueWord::Expired(self.next_success()),
+                    at: step.present.at.ms() + time,
+                },
+            ),
+        }
     }
 
     /// What waits for the ACK of this INVITE, whose 2xx relays that of the INVITE of the other side.
@@ -258,14 +286,15 @@ impl Call {
         desk: &mut Desk,
     ) -> Result<(Remote, Text, Success), NoMemory>
         ensures desk { OnOk result (desk.new
-            ≡ awaiting_ack step.now.present.at self.now (relayed_to_caller step.now.setting.now self.now
-            attempt.now.service m.now desk.old)) }
+            ≡ awaiting_expiry step.now.setting.now step.now.present.at m.now self.now (awaiting_ack step.now.present.at
+            self.now (relayed_to_caller step.now.setting.now self.now attempt.now.service m.now desk.old))) }
         ensures remote { IfOk result (λ r. r.0 ≡ remote_of TheCallee m.now.heard.lines) }
         ensures tag { IfOk result (λ r. r.1 ≡ tag_given m.now) }
         ensures success { IfOk result (λ r. r.2 ≡ success_of self.now self.now.opening.invite attempt.now.invitation) }
     {
         self.relay_to_caller(step, attempt.service.as_ref(), m, desk)?;
         self.await_ack(step, desk)?;
+        self.await_expiry(step, m, desk)?;
         let success = self.success_of(step.alloc, &self.opening.invite, &attempt.invitation)?;
         match said_with_tag(step.alloc, m) {
             Err(error) => {

@@ -8,6 +8,7 @@ mod calls;
 mod closing;
 mod context;
 mod diverting;
+mod expiring;
 mod giving_up;
 mod leaving;
 mod legs;

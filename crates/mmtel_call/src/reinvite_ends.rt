@@ -32,7 +32,7 @@ fn ends_dialog(code: u16) -> bool
 
 impl Pair {
     /// Leaves both sides by a BYE of the server's own.
-    fn bye_to_both(&mut self, step: &Step<'_>, desk: &mut Desk) -> Result<(), NoMemory>
+    pub fn bye_to_both(&mut self, step: &Step<'_>, desk: &mut Desk) -> Result<(), NoMemory>
         ensures done { OnOk result (desk.new ≡ bye_to_both step.now.setting.now self.old desk.old) }
         ensures caller { self.new.caller.meter ≡ self.old.caller.meter }
         ensures callee { self.new.callee.meter ≡ self.old.callee.meter }
@@ -43,7 +43,7 @@ impl Pair {
 }
 
 /// The dialogs of an INVITE that is loose which need no BYE any more.
-fn ended_dialogs(
+pub fn ended_dialogs(
     alloc: Global,
     x: &Pair,
     asking: Side,
@@ -190,21 +190,22 @@ impl Call {
         heard
     }
 
-    /// What goes out where no response came from the other side at all: 408 to the side that asked, and BYE to both.
-    fn pass_silence(
+    /// What goes out where the call ends while an INVITE has no answer: this status to the side that asked, and BYE to both.
+    pub fn pass_end(
         &self,
         step: &Step<'_>,
         x: &mut Pair,
         q: &Reinvite,
+        code: u16,
         desk: &mut Desk,
     ) -> Result<(), NoMemory>
         ensures done { OnOk result (desk.new
             ≡ bye_to_both step.now.setting.now x.old (replied_to step.now.setting.now self.now q.now.key q.now.request
-            408 desk.old)) }
+            code desk.old)) }
         ensures caller { x.new.caller.meter ≡ x.old.caller.meter }
         ensures callee { x.new.callee.meter ≡ x.old.callee.meter }
     {
-        self.reply_to(step, q.key, &q.request, 408, desk)?;
+        self.reply_to(step, q.key, &q.request, code, desk)?;
         x.bye_to_both(step, desk)
     }
 
@@ -223,7 +224,7 @@ impl Call {
             ≡ (silenced_across step.now.setting.now step.now.present.at x q.now self.old desk.old).desk) }
     {
         let mut x = x;
-        let passed = self.pass_silence(step, &mut x, q, desk);
+        let passed = self.pass_end(step, &mut x, q, 408, desk);
         let closed = self.end_pair(step, x, desk);
         passed?;
         closed
@@ -249,7 +250,7 @@ impl Call {
     }
 
     /// The INVITE that was relayed is loose, with these dialogs that need no BYE any more.
-    fn loosen_across(
+    pub fn loosen_across(
         &mut self,
         alloc: Global,
         q: Reinvite,

@@ -12,6 +12,7 @@ ghost use Rattle.mmtel_call.specs.Requests.{having_heard, is_bye, says, unlisted
 use crate::answered::acknowledges;
 use crate::calls::{Call, Pair, Phase, Reinvite, Stage};
 use crate::context::Step;
+use crate::expiring::is_expiry;
 use crate::legs::hear;
 use crate::reinvites::RelayedInvite;
 use crate::signals::SideRequest;
@@ -57,15 +58,15 @@ impl Pair {
 }
 
 impl Stage {
-    /// Whether a deadline is that of the 2xx which waits for its ACK.
-    fn is_due(&self, what: DueWord) -> bool
-        ensures { result ≡ is_due_at self.now what }
+    /// Whether a deadline is that of the 2xx which waits for its ACK, or else the expiry of the session, where so many 2xx went to a side.
+    fn is_due(&self, successes: u64, what: DueWord) -> bool
+        ensures { result ≡ is_due_at self.now successes what }
     {
         match self {
             Stage::Answered(_, success) => success.is_due(what),
             Stage::Parting(_, success) => success.is_due(what),
-            Stage::Talking => false,
-            Stage::Asking(_, _) => false,
+            Stage::Talking => is_expiry(successes, what),
+            Stage::Asking(_, _) => is_expiry(successes, what),
         }
     }
 
@@ -480,7 +481,7 @@ impl Call {
         }
     }
 
-    /// No ACK came of the 2xx that waited for it.
+    /// No ACK came of the 2xx that waited for it, or the session expired.
     fn lapse(
         &mut self,
         step: &Step<'_>,
@@ -505,8 +506,14 @@ impl Call {
                 drop(success);
                 self.part(step, x, waiting, desk)
             }
-            Stage::Talking => self.stay(Phase::Stood(x, Stage::Talking)),
-            Stage::Asking(asking, q) => self.stay(Phase::Stood(x, Stage::Asking(asking, q))),
+            Stage::Talking => self.expire(step, x, desk),
+            Stage::Asking(asking, q) => {
+                let asked = RelayedInvite {
+                    side: asking,
+                    invite: q,
+                };
+                self.expire_asking(step, x, asked, desk)
+            }
         }
     }
 
@@ -527,7 +534,7 @@ impl Call {
             ≡ (on_due_at stage step.now.setting.now step.now.present.at x what
             (record self.old { phase = Stood x stage }) desk.old).desk) }
     {
-        if stage.is_due(what) {
+        if stage.is_due(self.successes, what) {
             return self.lapse(step, x, stage, desk);
         }
         self.stay(Phase::Stood(x, stage))

@@ -1,5 +1,5 @@
 -- Which lines of a side's message the other side is shown (RFC 3325 §5 and §7, RFC 3323 §5.1), and what a 181 tells of diversions (TS 24.604 §4.5.2.6).
-use Rattle.std.specs.Prelude.{◌==◌, Bool, if◌then◌else◌, Option, Some, None, List}
+use Rattle.std.specs.Prelude.{◌==◌, Bool, false, if◌then◌else◌, Option, Some, None, List}
 use Rattle.mmtel_answers.specs.Said.{Said, status_of}
 use Rattle.mmtel_history.specs.HistoryInfo.{told_to_caller}
 use Rattle.mmtel_history.specs.declared.entries.Entry.{Entry}
@@ -24,12 +24,21 @@ masks_all o = o.invite.heard.wants.history
 -- who sees what of a side's message: the caller is restricted for the whole call, the callee by its own message and the record of its attempt; each side is shown the other
 -- by the record of the account that is served there
 abbrev pub facing : Opening → Option Service → Side → Said → Facing
-facing o service Caller m = record { from_trusted = m.heard.trusted; restricted = o.restricted; present = is_presented (its_sheet service) Callee; mask_all = masks_all o }
+facing o service Caller m = record {
+  from_trusted = m.heard.trusted;
+  restricted = o.restricted;
+  present = is_presented (its_sheet service) Callee;
+  mask_all = masks_all o;
+  reliable = false;
+  timer = false;
+}
 facing o service Callee m = record {
   from_trusted = m.heard.trusted;
   restricted = is_callee_restricted m.heard.wants (its_sheet service);
   present = is_presented o.sheet Caller;
   mask_all = masks_all o;
+  reliable = false;
+  timer = false;
 }
 
 -- the list as a 181 tells it, of the last diversion
@@ -40,9 +49,13 @@ told_list d = told_to_caller d.hides_diverting d.hides_target d.history
 abbrev pub list_for : Diverted → Said → List Entry
 list_for d m = if status_of m.heard.start == 181 then told_list d else d.history
 
+-- and whether what a session says is passed on
+abbrev pub facing_at : Site → Opening → Option Service → Side → Said → Facing
+facing_at site o service side m = record (facing o service side m) { timer = site.timer }
+
 -- the lines of a side's message that are passed on to a peer
 unfoldable pub shown_to : Site → Opening → Diverted → Option Service → Side → Peer → Said → List Line
-shown_to site o d service side peer m = shown_lines (facing o service side m) (trusts site peer) (list_for d m) m.heard.start m.heard.lines
+shown_to site o d service side peer m = shown_lines (facing_at site o service side m) (trusts site peer) (list_for d m) m.heard.start m.heard.lines
 
 -- the lines by which a 181 tells the caller of the last diversion, where the forward says that it is told
 abbrev pub notice_of : Site → Opening → Diverted → DueDiversion → Option (List Line)

@@ -61,12 +61,16 @@ impl Opening {
                 restricted: self.restricted,
                 present: present_to(its_sheet(service), Side::Callee),
                 mask_all,
+                reliable: false,
+                timer: false,
             },
             Side::Callee => Facing {
                 from_trusted,
                 restricted: callee_restricted(&wants(&message.message), its_sheet(service)),
                 present: present_to(self.origin_sheet(), Side::Caller),
                 mask_all,
+                reliable: false,
+                timer: false,
             },
         }
     }
@@ -105,7 +109,8 @@ impl Opening {
     ) -> Result<List<Line>, NoMemory>
         ensures lines { IfOk result (λ ls. ls ≡ shown_to setting.now self.now diversions.now (option_copied service.entry) side peer message.now) }
     {
-        let facing = self.facing(service, side, message);
+        let mut facing = self.facing(service, side, message);
+        facing.timer = setting.timer;
         if status_of(message.message.start()) == 181 {
             let told = diversions.told(alloc)?;
             let shown = shown_with(alloc, setting, &message.message, &told, &facing, peer);

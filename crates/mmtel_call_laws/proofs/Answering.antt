@@ -135,8 +135,10 @@ rung-goes (Answered waiting success) site at x c desk =
     Leaves x (at_stage x (Answered waiting success) c) _ (record { is = refl; same = record { opening = refl; diversions = refl; answered = refl; past = refl }; caller = refl; callee = refl; none = refl })
 rung-goes (Parting waiting success) site at x c desk =
     Leaves x (at_stage x (Parting waiting success) c) _ (record { is = refl; same = record { opening = refl; diversions = refl; answered = refl; past = refl }; caller = refl; callee = refl; none = refl })
-rung-goes Talking site at x c desk = stands at x c desk.rows x Talking desk refl refl refl
-rung-goes (Asking asking q) site at x c desk = stands at x c desk.rows x (Asking asking q) desk refl refl refl
+rung-goes Talking site at x c desk =
+    Leaves x (at_stage x Talking c) _ (record { is = refl; same = record { opening = refl; diversions = refl; answered = refl; past = refl }; caller = refl; callee = refl; none = refl })
+rung-goes (Asking asking q) site at x c desk =
+    Leaves x (with_loose (loose_across x asking asking q) (at_stage x (Asking asking q) c)) _ (record { is = refl; same = record { opening = refl; diversions = refl; answered = refl; past = refl }; caller = refl; callee = refl; none = refl })
 
 quiet-goes : (stage : Stage) (site : Site) (at : ℕ) (x : Pair) (c : Call) (desk : Desk) → GoesOn at x c desk.rows (on_silence_at stage site at x (at_stage x stage c) desk)
 quiet-goes (Answered waiting success) site at x c desk = stands at x c desk.rows x (Answered waiting success) desk refl refl refl
@@ -192,7 +194,7 @@ goes site now x stage (signal.Cancel key cancel invite) c desk = cancel-goes sta
 goes site now x stage (signal.Answer key response) c desk = answer-goes (invite_answered response) stage site now x key response c desk
 goes site now x stage (signal.Silent branch method) c desk = silence-goes (invite_silent branch method) stage site now x c desk
 goes site now x stage (signal.Due what) c desk =
-    goes-if now.at x c desk.rows (is_due_at stage what) _ _ (rung-goes stage site now.at x c desk) (stands now.at x c desk.rows x stage desk refl refl refl)
+    goes-if now.at x c desk.rows (is_due_at stage c.successes what) _ _ (rung-goes stage site now.at x c desk) (stands now.at x c desk.rows x stage desk refl refl refl)
 goes site now x stage (signal.Ended key) c desk = untouched-stands now.at x stage c desk.rows _ (key-untouched key (at_stage x stage c) desk)
 
 -- ---- a call that is over

@@ -24,7 +24,7 @@ use Rattle.mmtel_call_decisions.specs.Site.{Site}
 use Rattle.mmtel_call.specs.Closing.{Step, onward, over_offered}
 use Rattle.mmtel_call.specs.Diverting.{goes_on}
 use Rattle.mmtel_call.specs.Requests.{is_bye, says, unheard, unlisted}
-use Rattle.mmtel_call.specs.Ringing.{ack_time, next_success, answered, armed_in, cancelled_attempt, failed, given_up, heard_by, left, on_due, on_request, on_request_if, on_response, proceeding, timed_out, tried}
+use Rattle.mmtel_call.specs.Ringing.{ack_time, next_success, answered, armed_in, cancelled_attempt, failed, given_up, heard_by, left, on_due, on_request, on_request_if, on_response, proceeding, timed_out, tried, expiry_in}
 use Rattle.mmtel_call.specs.Sending.{relayed_to_caller, replied_to, told_caller}
 use Rattle.mmtel_call.specs.Table.{answer_to, silence_of, step}
 use Rattle.mmtel_call.specs.declared.calls.Call.{Call}
@@ -44,6 +44,7 @@ use Rattle.mmtel_call_laws.proofs.Signs.{Quiet, other-quiet, quiet-cancelled, qu
 use Rattle.std.proofs.lemmas.List.{append-nil}
 use Rattle.mmtel_call_laws.specs.Endings.{end_by_answer, end_by_deadline, end_by_request, end_by_silence, end_of_attempt}
 use Rattle.mmtel_call_laws.proofs.Untouched.{Alike, Untouched, alike, cancelled-rows, if-rows, key-untouched, other-untouched, silent-untouched, unheard-rows, unlisted-rows}
+use Rattle.mmtel_session.specs.Intervals.{expiry_after}
 
 -- it goes on to ring
 pub record StillRings (P : Type 0) (x : Trial) (c : Call) (before : Desk) (s : Step) (y : Trial) : Type 0 where
@@ -240,6 +241,12 @@ tries P site now x key c desk = Rings refl _ (record {
   shown = λ p. refl;
 })
 
+-- what is armed for the session of a 2xx shows nothing
+expiry-signs : (key : TKey) (timer : Bool) (time : Option ℕ) (at : ℕ) (c : Call) (out : List Emit) → signs_of key (out ++ (if timer then expiry_in time at c else [])) ≡ signs_of key out
+expiry-signs key true None at c out = ap (λ (es : List Emit). signs_of key es) (append-nil out)
+expiry-signs key true (Some time) at c out = signs-more key out (emit.Arm c.opening.number (due.Expired (next_success c)) (at + time)) ∙ append-nil (signs_of key out)
+expiry-signs key false time at c out = ap (λ (es : List Emit). signs_of key es) (append-nil out)
+
 answers : (P : Type 0) (site : Site) (now : Standing) (x : Trial) (key : TKey) (m : Said) (c : Call) (desk : Desk) (end : End) → final_sign (status_of m.heard.start) ≡ Accepted ∷ [] → end ≡ Answer → Fares P site now x (offered x c) desk (Some end) (answered site now.at x key m (offered x c) desk)
 answers P site now x key m c desk end accepted e = Answers (ap Some e) _ _ (record {
   phase = refl;
@@ -254,7 +261,7 @@ answers P site now x key m c desk end accepted e = Answers (ap Some e) _ _ (reco
   shown = λ p.
       let given = relayed_to_caller site (offered x c) x.attempt.service m desk in
       let arm : Emit = emit.Arm c.opening.number (due.NoAck (next_success (offered x c))) (now.at + ack_time) in
-      signs-more c.opening.key given.out arm ∙ append-nil (signs_of c.opening.key given.out) ∙ relayed-shown site (offered x c) x.attempt.service m desk ∙ ap (λ l. signs_of c.opening.key desk.out ++ l) accepted;
+      expiry-signs c.opening.key site.timer (expiry_after m.heard.session) now.at (offered x c) (given.out ++ arm ∷ []) ∙ signs-more c.opening.key given.out arm ∙ append-nil (signs_of c.opening.key given.out) ∙ relayed-shown site (offered x c) x.attempt.service m desk ∙ ap (λ l. signs_of c.opening.key desk.out ++ l) accepted;
 })
 
 fails : (P : Type 0) (site : Site) (now : Standing) (x : Trial) (key : TKey) (m : Said) (code : ℕ) (c : Call) (desk : Desk) → (end_by_final code (redirect_of m) x.attempt.rang ≡ Answer → ⊥) →

@@ -1,5 +1,5 @@
 -- A call that is not offered any more has no INVITE to a target go out, and no final to the INVITE that opened it.
-use Rattle.std.proofs.Common.{◌≡◌, ℕ, zero, suc, ◌==◌, Bool, true, false, not, List, [], ◌∷◌, ◌++◌, length, drop, refl, ap, sym, subst, ◌∙◌, append_assoc}
+use Rattle.std.proofs.Common.{◌≡◌, ℕ, zero, suc, ◌==◌, Bool, true, false, not, List, [], ◌∷◌, ◌++◌, length, drop, refl, ap, sym, subst, ◌∙◌, append_assoc, ◌+◌}
 use Rattle.std.proofs.lemmas.List.{append-nil, drop_at}
 use Rattle.std.specs.Prelude.{codes, Option, Some, None, if◌then◌else◌, nat_lt, position, slice_get, Result, Ok, Err}
 use Rattle.mmtel_answers.specs.Answers.{allowed}
@@ -51,7 +51,7 @@ use Rattle.mmtel_call.specs.Lending.{finished, finished_in}
 use Rattle.mmtel_call.specs.Opening.{caller_of, new_call, opened, unless_refused}
 use Rattle.mmtel_call.specs.Reinvites.{agreed, bye_to_both, ends_dialog, loose_across, proceeding_across, refused_back, relayed_back}
 use Rattle.mmtel_call.specs.Requests.{answered_to, having_heard, is_bye, is_invite, says, unheard, unlisted}
-use Rattle.mmtel_call.specs.Ringing.{cancelled_attempt, heard_by, left, on_heard, on_request_if, says_offered, with_loose}
+use Rattle.mmtel_call.specs.Ringing.{cancelled_attempt, heard_by, left, on_heard, on_request_if, says_offered, with_loose, awaiting_ack, expiry_in}
 use Rattle.mmtel_call.specs.Sending.{relayed_to_caller, replied_to, told_caller}
 use Rattle.mmtel_call.specs.Stages.{busy_in, has_left, is_due_at, left_by, on_ack_at, on_bye, on_cancel_at, on_invite, on_request_at_if, on_response_at, on_silence_at, rung_out}
 use Rattle.mmtel_call.specs.Table.{answer_to, current_at, is_branch, silence_of, step}
@@ -74,6 +74,7 @@ use Rattle.mmtel_call_laws.specs.Story.{Start, added, first_step, opening_in}
 use Rattle.mmtel_call_laws.proofs.Faring as faring
 use Rattle.mmtel_call_laws.proofs.Lowering.{stays-lent}
 use Rattle.mmtel_call_laws.proofs.Signs.{signs-append}
+use Rattle.mmtel_session.specs.Intervals.{expiry_after}
 
 -- ---- what a step adds, as it is seen
 
@@ -206,6 +207,15 @@ both-unseen key site x desk = adds-then key desk (bye_to site x Caller desk) _ [
 over-unseen : (key : TKey) (at : ℕ) (x : Pair) (c : Call) (before desk : Desk) → IsUnseen key before desk → IsUnseen key before (over_stood at x c desk).desk
 over-unseen key at x c before desk a = record { new = a.new; out = a.out; seen = a.seen }
 
+-- what is armed for the session of a 2xx
+expiry-shows : (key : TKey) (timer : Bool) (time : Option ℕ) (at : ℕ) (c : Call) → signs_of key (if timer then expiry_in time at c else []) ≡ []
+expiry-shows key true None at c = refl
+expiry-shows key true (Some time) at c = refl
+expiry-shows key false time at c = refl
+
+expiry-unseen : (key : TKey) (timer : Bool) (time : Option ℕ) (at : ℕ) (c : Call) (desk : Desk) → IsUnseen key desk (record desk { out = desk.out ++ (if timer then expiry_in time at c else []) })
+expiry-unseen key timer time at c desk = record { new = if timer then expiry_in time at c else []; out = refl; seen = expiry-shows key timer time at c }
+
 -- ---- what a call that stands waits for stays of another request
 
 -- on what it hears while it stands
@@ -315,13 +325,15 @@ module _ (key : TKey) (site : Site) (at : ℕ) where
   cancel-stays (Asking asking q) x invite c desk a now =
       stays-if key desk (invite.0 == q.key.0) _ _ (record { unseen = unseen-cancelled key site.sip q.invitation desk; asks = a }) (as-it-was key desk c desk now (nothing key desk))
 
-  rung-stays : (stage : Stage) (x : Pair) (c : Call) (desk : Desk) → AsksOthers key c.phase → Stays key desk (rung_out stage site at x c desk)
-  rung-stays (Answered waiting success) x c desk now =
+  rung-stays : (stage : Stage) (x : Pair) (c : Call) (desk : Desk) → AsksOthersAt key stage → Stays key desk (rung_out stage site at x c desk)
+  rung-stays (Answered waiting success) x c desk a =
       let left = acked_and_left site x (other_of waiting) desk in
       ends-so key at x c desk _ (adds-then key desk left (bye_to site x waiting left) [] [] (left-unseen key site x (other_of waiting) desk) (bye-to-unseen key site x waiting left))
-  rung-stays (Parting waiting success) x c desk now = ends-so key at x c desk _ (bye-to-unseen key site x waiting desk)
-  rung-stays Talking x c desk now = as-it-was key desk c desk now (nothing key desk)
-  rung-stays (Asking asking q) x c desk now = as-it-was key desk c desk now (nothing key desk)
+  rung-stays (Parting waiting success) x c desk a = ends-so key at x c desk _ (bye-to-unseen key site x waiting desk)
+  rung-stays Talking x c desk a = ends-so key at x c desk _ (both-unseen key site x desk)
+  rung-stays (Asking asking q) x c desk a =
+      let refused = replied_to site c q.key q.request 487 desk in
+      ends-so key at x (with_loose (loose_across x asking asking q) c) desk _ (adds-then key desk refused (bye_to_both site x refused) [] [] (unseen-reply key q.key _ desk a) (both-unseen key site x refused))
 
   quiet-stays : (stage : Stage) (x : Pair) (c : Call) (desk : Desk) → AsksOthersAt key stage → AsksOthers key c.phase → Stays key desk (on_silence_at stage site at x c desk)
   quiet-stays (Answered waiting success) x c desk a now = as-it-was key desk c desk now (nothing key desk)
@@ -348,7 +360,8 @@ module _ (key : TKey) (site : Site) (at : ℕ) where
       record { unseen = adds-if key desk q.cancel_due (cancelled site.sip (has_said asked q.invitation) desk) desk [] (unseen-cancelled key site.sip (has_said asked q.invitation) desk) (nothing key desk); asks = a }
   across-stays x side q asked m c desk false true ends a =
       let back = relayed_back site x side q m c desk in
-      record { unseen = adds-then key desk back _ [] [] (unseen-reply key q.key _ desk a) (adds-emit key back _ [] refl); asks = tt }
+      let waits = awaiting_ack at c back in
+      record { unseen = adds-then key desk waits _ [] [] (adds-then key desk back waits [] [] (unseen-reply key q.key _ desk a) (adds-emit key back _ [] refl)) (expiry-unseen key site.timer (expiry_after m.heard.session) at c waits); asks = tt }
   across-stays x side q asked m c desk false false true a =
       let refused = refused_back site x side q asked m c desk in
       ends-so key at x c desk _ (adds-then key desk refused (bye_to_both site x refused) [] [] (refused-unseen x side q asked m c desk a) (both-unseen key site x refused))
@@ -394,7 +407,7 @@ stood-hears key site now x stage (signal.Cancel asked cancel invite) c desk a ot
 stood-hears key site now x stage (signal.Answer asked response) c desk a other = hears key site now.at false desk _ (answer-stays key (invite_answered response) stage site now x asked response c desk a)
 stood-hears key site now x stage (signal.Silent branch method) c desk a other = hears key site now.at false desk _ (silence-stays key (invite_silent branch method) stage site now x c desk a)
 stood-hears key site now x stage (signal.Due what) c desk a other =
-    hears key site now.at false desk _ (stays-if key desk (is_due_at stage what) _ _ (rung-stays key site now.at stage x (at_stage x stage c) desk a) (as-it-was key desk (at_stage x stage c) desk a (nothing key desk)))
+    hears key site now.at false desk _ (stays-if key desk (is_due_at stage c.successes what) _ _ (rung-stays key site now.at stage x (at_stage x stage c) desk a) (as-it-was key desk (at_stage x stage c) desk a (nothing key desk)))
 stood-hears key site now x stage (signal.Ended asked) c desk a other = hears key site now.at false desk _ (record { unseen = nothing key desk; asks = a })
 
 -- ---- one that is over, and one whose leg is away

@@ -16,6 +16,7 @@ mod Moments
 mod GoingOn
 mod Notices
 mod Trace
+mod Session
 pub mod Heads
 pub mod Branches
 pub mod Replies

@@ -9,6 +9,7 @@ pub mod GoingOn
 -- what its caller is told of its diversions; what it keeps of its attempt is what went out and was heard;
 pub mod Notices
 pub mod Trace
+pub mod Session
 -- what it sends has its own lines and was sent once; and what nobody may learn from it.
 pub mod Heads
 pub mod Branches

@@ -8,6 +8,7 @@ mod notice_laws;
 mod outcome_laws;
 mod reply_laws;
 mod secret_laws;
+mod session_laws;
 mod trace_laws;
 
 pub use branch_laws::calls_send_once;
@@ -29,4 +30,5 @@ pub use secret_laws::{
     rows_once_answered_see_public_parts, steps_see_public_parts, stories_stay_alike,
     ways_on_see_public_parts, what_calls_keep,
 };
+pub use session_laws::{sessions_are_seen, sessions_expire};
 pub use trace_laws::calls_are_what_is_seen;

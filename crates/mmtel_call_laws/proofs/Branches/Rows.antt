@@ -1,5 +1,5 @@
 -- Each row of the step table sends at most one INVITE, with a number that is drawn for it, and the INVITEs of the call were sent to their peers.
-use Rattle.std.proofs.Common.{◌≡◌, ◌<◌, ◌≤◌, ◌^◌, ◌+◌, ◌==◌, ◌&&◌, Bool, true, false, not, ℕ, zero, suc, List, [], ◌∷◌, ◌++◌, take, drop, map, Option, Some, None, refl, subst, inl, inr, arith, nat_lt, Result, Ok, Err, codes}
+use Rattle.std.proofs.Common.{◌≡◌, ◌<◌, ◌≤◌, ◌^◌, ◌+◌, ◌==◌, ◌&&◌, Bool, true, false, not, ℕ, zero, suc, List, [], ◌∷◌, ◌++◌, take, drop, map, Option, Some, None, refl, subst, inl, inr, arith, nat_lt, Result, Ok, Err, codes, append-nil}
 use Rattle.std.specs.Prelude.{IfSome, if◌then◌else◌, option_to_list, position, slice_get}
 use Rattle.std.specs.Str.{bytes_eq}
 use Rattle.mmtel_answers.specs.Attempts.{alert_lines, invite_of}
@@ -25,7 +25,7 @@ use Rattle.mmtel_call.specs.Opening.{caller_of, new_call, opened, unless_refused
 use Rattle.mmtel_call.specs.Reinvites.{agreed, asked_across, bye_to_both, bye_while_asking, cancelled_across, cancelled_if_due, cancelling, ends_dialog, having_invited, invited, loose_across, on_response_across, proceeding, proceeding_across, refused_back, relayed_back, silenced_across}
 use Rattle.mmtel_call.specs.Requests.{having_heard, is_bye, is_invite, says, unheard, unlisted}
 use Rattle.mmtel_call.specs.Ringing as ringing
-use Rattle.mmtel_call.specs.Ringing.{answered, armed, armed_in, cancelled_attempt, early_said, failed, given_up, heard_by, left, loose, met_by, on_cancel, on_due, on_heard, on_request, on_request_if, on_response, says_offered, silenced, taken_by, timed_out, tried, with_loose}
+use Rattle.mmtel_call.specs.Ringing.{answered, armed, armed_in, cancelled_attempt, early_said, failed, given_up, heard_by, left, loose, met_by, on_cancel, on_due, on_heard, on_request, on_request_if, on_response, says_offered, silenced, taken_by, timed_out, tried, with_loose, awaiting_expiry, expiry_in}
 use Rattle.mmtel_call.specs.Sending.{relayed_to_caller, replied_to, told_caller, told_diversion}
 use Rattle.mmtel_call.specs.Stages.{busy_in, has_left, is_due_at, left_by, on_ack_at, on_bye, on_cancel_at, on_due_at, on_heard_at, on_invite, on_request_at, on_request_at_if, on_response_at, on_silence_at, rung_out}
 use Rattle.mmtel_call.specs.Table.{ack_in, answer_to, cancel_in, due_in, is_current, request_in, response_in, silence_in, silence_of, step}
@@ -83,6 +83,7 @@ use Rattle.mmtel_types.specs.declared.numbers.Peer.{Peer}
 use Rattle.mmtel_types.specs.declared.sides.Side.{Side}
 use Rattle.mmtel_types.specs.declared.sides.Side.TheVariants.{Caller, Callee}
 use Rattle.mmtel_call_laws.specs.Branches.Sent.{AreNumbered, CallWasSent, Each, InvitationWasSent, IsInvite, IsNotAwaited, IsNumbered, LooseWasSent, OthersWereSent, PhaseWasSent, StageWasSent, TakenWasSent}
+use Rattle.mmtel_session.specs.Intervals.{expiry_after}
 
 -- ---- each of a list
 
@@ -391,11 +392,20 @@ module _ (sent : List ℕ → Peer → Type 0) (site : Site) (text : List ℕ) (
       good (ringing.proceeding site at x key m code c desk) (t.0, met_leg x.attempt.invitation.branch (early_said x.callee m) x.callee t.1) k
       (armed_good code at x.attempt c (relayed_to_caller site c x.attempt.service m desk) (relayed_in c x.attempt.service m desk had))
 
+  -- what is armed for the session of a 2xx sends nothing
+  expiries_in : (timer : Bool) (time : Option ℕ) (at : ℕ) (c : Call) (desk : Desk) → Counted desk → Counted (record desk { out = desk.out ++ (if timer then expiry_in time at c else []) })
+  expiries_in true None at c desk had = simp append-nil had
+  expiries_in true (Some time) at c desk had = emit_in _ desk (λ n. refl) had
+  expiries_in false time at c desk had = simp append-nil had
+
+  expiry_awaited : (at : ℕ) (m : Said) (c : Call) (desk : Desk) → Counted desk → Counted (awaiting_expiry site at m c desk)
+  expiry_awaited at m c desk had = expiries_in site.timer (expiry_after m.heard.session) at c desk had
+
   answered_good : (at : ℕ) (x : Trial) (key : TKey) (m : Said) (c : Call) (desk : Desk) → AtTrial x → Others c → Counted desk → Good (answered site at x key m c desk)
   answered_good at x key m c desk t k had =
       good (answered site at x key m c desk) t.1
       (record { loose_in = k.loose_in; taken_in = each_append (TakenWasSent sent) c.taken (taken_by key m false x.attempt.invitation ∷ []) k.taken_in (t.0, tt) })
-      (emit_in _ (relayed_to_caller site c x.attempt.service m desk) (λ n. refl) (relayed_in c x.attempt.service m desk had))
+      (expiry_awaited at m c _ (emit_in _ (relayed_to_caller site c x.attempt.service m desk) (λ n. refl) (relayed_in c x.attempt.service m desk had)))
 
   failed_good : (now : Standing) (x : Trial) (key : TKey) (m : Said) (code : ℕ) (c : Call) (desk : Desk) → Others c → Counted desk → Good (failed site now x key m code c desk)
   failed_good now x key m code c desk k had =
@@ -555,7 +565,7 @@ module _ (sent : List ℕ → Peer → Type 0) (site : Site) (text : List ℕ) (
   agreed_good at x side q key m c desk e k had =
       good (agreed site at x side q key m c desk) e.1
       (record { loose_in = k.loose_in; taken_in = each_append (TakenWasSent sent) c.taken (taken_by key m true q.invitation ∷ []) k.taken_in (e.0, tt) })
-      (emit_in _ (relayed_back site x side q m c desk) (λ n. refl) (relayed_back_in x side q m c desk had))
+      (expiry_awaited at m c _ (emit_in _ (relayed_back site x side q m c desk) (λ n. refl) (relayed_back_in x side q m c desk had)))
 
   refused_back_in : (x : Pair) (side : Side) (q : Reinvite) (key : TKey) (m : Said) (c : Call) (desk : Desk) → Counted desk → Counted (refused_back site x side q key m c desk)
   refused_back_in x side q key m c desk had = relayed_back_in x side q m c (final_acked site.sip key q.invitation m.heard desk) (final_acked_in key q.invitation m.heard desk had)
@@ -681,12 +691,17 @@ module _ (sent : List ℕ → Peer → Type 0) (site : Site) (text : List ℕ) (
   rung_row : (stage : Stage) (at : ℕ) (x : Pair) (c : Call) (desk : Desk) → AtStage x stage → Others c → Counted desk → Good (rung_out stage site at x (stood x stage c) desk)
   rung_row (Answered waiting success) at x c desk e k had = unacknowledged_good at x waiting (stood x (Answered waiting success) c) desk k had
   rung_row (Parting waiting success) at x c desk e k had = parted_good at x waiting (stood x (Parting waiting success) c) desk k had
-  rung_row Talking at x c desk e k had = staged_good x Talking c desk e k had
-  rung_row (Asking asking q) at x c desk e k had = staged_good x (Asking asking q) c desk e k had
+  rung_row Talking at x c desk e k had =
+      over_stood_good at x (stood x Talking c) (bye_to_both site x desk) k (bye_both_in x desk had)
+  rung_row (Asking asking q) at x c desk e k had =
+      let now : Call = stood x (Asking asking q) c in
+      over_stood_good at x (with_loose (loose_across x asking asking q) now) (bye_to_both site x (replied_to site now q.key q.request 487 desk))
+      (with_loose_sent (loose_across x asking asking q) now e.0 k)
+      (bye_both_in x (replied_to site now q.key q.request 487 desk) (replied_in now q.key q.request 487 desk had))
 
   due_at_row : (stage : Stage) (at : ℕ) (x : Pair) (what : DueWord) (c : Call) (desk : Desk) → AtStage x stage → Others c → Counted desk → Good (on_due_at stage site at x what (stood x stage c) desk)
   due_at_row stage at x what c desk e k had =
-      if_good (is_due_at stage what) (rung_out stage site at x (stood x stage c) desk) (onward (stood x stage c) desk) (rung_row stage at x c desk e k had) (staged_good x stage c desk e k had)
+      if_good (is_due_at stage c.successes what) (rung_out stage site at x (stood x stage c) desk) (onward (stood x stage c) desk) (rung_row stage at x c desk e k had) (staged_good x stage c desk e k had)
 
   -- ---- INVITEs that the call does not wait on
 

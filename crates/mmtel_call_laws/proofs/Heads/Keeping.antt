@@ -26,7 +26,7 @@ use Rattle.mmtel_types.specs.declared.sides.Side.{Side}
 use Rattle.mmtel_types.specs.declared.sides.Side.TheVariants.{Callee}
 use Rattle.mmtel_trust.specs.Passed.{history_lines}
 use Rattle.mmtel_call_decisions.specs.Diverted.{Diverted}
-use Rattle.mmtel_call_decisions.specs.Showing.{facing, list_for, masks_all, shown_to, told_list}
+use Rattle.mmtel_call_decisions.specs.Showing.{facing_at, list_for, masks_all, shown_to, told_list}
 use Rattle.mmtel_call_decisions.specs.Site.{Site, further_methods, trusts}
 use Rattle.mmtel_call_decisions.specs.declared.openings.Opening.{Opening}
 use Rattle.mmtel_call_decisions.specs.declared.openings.Service.{Service}
@@ -155,7 +155,7 @@ list_clean d m e = by (status_of m.heard.start == 181)
 
 pub shown_to_clean : (site : Site) (o : Opening) (d : Diverted) (service : Option Service) (side : Side) (peer : Peer) (m : Said) → AreCleanEntries d.history → IsCleanHeard m.heard → AreCleanLines (shown_to site o d service side peer m)
 unfolding shown_to
-shown_to_clean site o d service side peer m e is = shown_clean (facing o service side m) (trusts site peer) (list_for d m) m.heard.start m.heard.lines (list_clean d m e) is.lines_in
+shown_to_clean site o d service side peer m e is = shown_clean (facing_at site o service side m) (trusts site peer) (list_for d m) m.heard.start m.heard.lines (list_clean d m e) is.lines_in
 
 -- ---- answers
 

@@ -1,5 +1,5 @@
 -- A call that is offered stays clean, and sends what is clean.
-use Rattle.std.proofs.Common.{List, ◌==◌, ◌+◌, Bool, true, false, not, ◌&&◌, ◌||◌, ℕ, [], ◌∷◌, length, Option, Some, None, nat_lt, Result, Ok, Err}
+use Rattle.std.proofs.Common.{List, ◌==◌, ◌+◌, Bool, true, false, not, ◌&&◌, ◌||◌, ℕ, [], ◌∷◌, length, Option, Some, None, nat_lt, Result, Ok, Err, append-nil, ◌++◌}
 use Rattle.std.specs.Prelude.{IfSome, if◌then◌else◌}
 use Rattle.mmtel_answers.specs.Said.{Said}
 use Rattle.mmtel_desk.specs.Invitations.{once_cancelled}
@@ -28,7 +28,7 @@ use Rattle.mmtel_call.specs.Tried.{TriedView}
 use Rattle.mmtel_call.specs.Closing.{onward}
 use Rattle.mmtel_call.specs.Diverting.{goes_on}
 use Rattle.mmtel_call.specs.Requests.{is_bye, unheard, unlisted}
-use Rattle.mmtel_call.specs.Ringing.{ack_time, answered, armed, armed_in, awaiting_ack, callee_after, cancelled_attempt, early_said, failed, given_up, heard_by, left, loose, met_by, next_success, on_cancel, on_due, on_heard, on_request, on_request_if, on_response, proceeding, says_offered, silenced, tag_given, taken_by, timed_out, tried, with_loose}
+use Rattle.mmtel_call.specs.Ringing.{ack_time, answered, armed, armed_in, awaiting_ack, callee_after, cancelled_attempt, early_said, failed, given_up, heard_by, left, loose, met_by, next_success, on_cancel, on_due, on_heard, on_request, on_request_if, on_response, proceeding, says_offered, silenced, tag_given, taken_by, timed_out, tried, with_loose, awaiting_expiry, expiry_in}
 use Rattle.mmtel_call.specs.Sending.{relayed_to_caller, replied_to, told_caller}
 use Rattle.mmtel_call_laws.specs.Heads.Acks.{Acked}
 use Rattle.mmtel_call_laws.specs.Heads.Emits.{IsCleanDesk}
@@ -37,6 +37,7 @@ use Rattle.mmtel_call_laws.proofs.Heads.Going.{IsGood, goes_on_clean}
 use Rattle.mmtel_call_laws.proofs.Heads.Hearing.{IsCleanHeard, redirect_clean}
 use Rattle.mmtel_call_laws.proofs.Heads.Keeping.{IsCleanHere, IsCleanLoose, IsCleanStep, IsCleanTaken, IsCleanTrial, IsKept, early_clean, if_step, once_clean, onward_clean, over_clean, relayed_to_caller_clean, replied_to_clean, told_caller_clean, unheard_clean, unlisted_clean}
 use Rattle.mmtel_call_laws.proofs.Heads.Sending.{IsCleanRemote, cancelled_clean, each_append, emit_clean, final_acked_clean, if_desk, met_clean, remote_clean}
+use Rattle.mmtel_session.specs.Intervals.{expiry_after}
 
 -- ---- an attempt that is left
 
@@ -92,12 +93,22 @@ proceeding_clean acks site at x key m code c desk is t k had = record {
 pub awaiting_clean : (acks : List Acked) (at : ℕ) (c : Call) (desk : Desk) → IsCleanDesk acks desk → IsCleanDesk acks (awaiting_ack at c desk)
 awaiting_clean acks at c desk had = emit_clean acks (emit.Arm c.opening.number (due.NoAck (next_success c)) (at + ack_time)) desk tt had
 
+expiries_clean : (acks : List Acked) (timer : Bool) (time : Option ℕ) (at : ℕ) (c : Call) (desk : Desk) → IsCleanDesk acks desk → IsCleanDesk acks (record desk { out = desk.out ++ (if timer then expiry_in time at c else []) })
+expiries_clean acks true None at c desk had = simp append-nil had
+expiries_clean acks true (Some time) at c desk had = emit_clean acks (emit.Arm c.opening.number (due.Expired (next_success c)) (at + time)) desk tt had
+expiries_clean acks false time at c desk had = simp append-nil had
+
+pub expiry_clean : (acks : List Acked) (site : Site) (at : ℕ) (m : Said) (c : Call) (desk : Desk) → IsCleanDesk acks desk → IsCleanDesk acks (awaiting_expiry site at m c desk)
+expiry_clean acks site at m c desk had = expiries_clean acks site.timer (expiry_after m.heard.session) at c desk had
+
 answered_clean_row : (acks : List Acked) (site : Site) (at : ℕ) (x : Trial) (key : TKey) (m : Said) (c : Call) (desk : Desk) →
     IsCleanHeard m.heard → IsCleanTrial acks x → IsKept acks c → IsCleanDesk acks desk → IsCleanStep acks (answered site at x key m c desk)
 answered_clean_row acks site at x key m c desk is t k had = record {
   kept = record { opening_in = k.opening_in; history_in = k.history_in; loose_in = k.loose_in; taken_in = each_append (IsCleanTaken acks) c.taken (taken_by key m false x.attempt.invitation ∷ []) k.taken_in (t.sent_in, tt) };
   phase = record { pair_in = record { caller_in = t.caller_in; callee_in = (met_clean x.callee.leg.dialogue (remote_of Callee m.heard.lines) t.callee_in.0 (remote_clean Callee m.heard.lines is.lines_in), t.callee_in.1) }; stage_in = tt };
-  desk = awaiting_clean acks at c (relayed_to_caller site c x.attempt.service m desk) (relayed_to_caller_clean acks site c x.attempt.service m desk k is had);
+  desk =
+      let given : Desk = relayed_to_caller site c x.attempt.service m desk in
+      expiry_clean acks site at m c (awaiting_ack at c given) (awaiting_clean acks at c given (relayed_to_caller_clean acks site c x.attempt.service m desk k is had));
 }
 
 -- ---- a final from 300, silence, its time

@@ -33,7 +33,7 @@ use Rattle.mmtel_call.specs.declared.calls.Taken.{Taken}
 use Rattle.mmtel_call.specs.Closing.{onward, over_stood}
 use Rattle.mmtel_call.specs.Reinvites.{agreed, asked_across, bye_to_both, bye_while_asking, cancelled_across, cancelled_if_due, cancelling, ended_dialogs, ends_dialog, having_invited, invited, loose_across, on_response_across, proceeding, proceeding_across, refused_back, relayed_back, silenced_across}
 use Rattle.mmtel_call.specs.Requests.{having_heard, is_bye, is_invite, says, unheard, unlisted}
-use Rattle.mmtel_call.specs.Ringing.{taken_by, with_loose}
+use Rattle.mmtel_call.specs.Ringing.{awaiting_ack, taken_by, with_loose}
 use Rattle.mmtel_call.specs.Sending.{replied_to}
 use Rattle.mmtel_call.specs.Stages.{busy_in, has_left, is_due_at, left_by, on_ack_at, on_bye, on_cancel_at, on_due_at, on_heard_at, on_invite, on_request_at, on_request_at_if, on_response_at, on_silence_at, rung_out}
 use Rattle.mmtel_call_laws.specs.Heads.Stories.{AreAmong}
@@ -45,7 +45,7 @@ use Rattle.mmtel_call_laws.specs.Heads.Emits.{Each, IsCleanDesk, IsTextOfAck}
 use Rattle.mmtel_call_laws.specs.Heads.Kept.{IsCleanDialogue}
 use Rattle.mmtel_call_laws.proofs.Heads.Hearing.{IsCleanHeard}
 use Rattle.mmtel_call_laws.proofs.Heads.Keeping.{IsCleanHere, IsCleanPair, IsCleanReinvite, IsCleanStage, IsCleanStep, IsCleanTaken, IsKept, if_step, once_clean, onward_clean, over_clean, replied_to_clean, shown_to_clean, unheard_clean, unlisted_clean}
-use Rattle.mmtel_call_laws.proofs.Heads.Ringing.{awaiting_clean, with_loose_kept}
+use Rattle.mmtel_call_laws.proofs.Heads.Ringing.{awaiting_clean, with_loose_kept, expiry_clean}
 use Rattle.mmtel_call_laws.proofs.Heads.Sending.{IsCleanInvitation, acked_clean, acked_for_clean, asked_for_clean, bye_clean, cancelled_clean, each_append, each_map, final_acked_clean, if_desk, relayed_ack_clean, relayed_clean, token_clean}
 
 -- ---- both sides
@@ -171,7 +171,9 @@ agreed_clean : (acks : List Acked) (site : Site) (at : ℕ) (x : Pair) (side : S
 agreed_clean acks site at x side q key m c desk heard is e k had = record {
   kept = record { opening_in = k.opening_in; history_in = k.history_in; loose_in = k.loose_in; taken_in = each_append (IsCleanTaken acks) c.taken (taken_by key m true q.invitation ∷ []) k.taken_in (e.sent_in, tt) };
   phase = record { pair_in = is; stage_in = tt };
-  desk = awaiting_clean acks at c (relayed_back site x side q m c desk) (relayed_back_clean acks site x side q m c desk heard e k had);
+  desk =
+      let back : Desk = relayed_back site x side q m c desk in
+      expiry_clean acks site at m c (awaiting_ack at c back) (awaiting_clean acks at c back (relayed_back_clean acks site x side q m c desk heard e k had));
 }
 
 refused_back_clean : (acks : List Acked) (site : Site) (x : Pair) (side : Side) (q : Reinvite) (key : TKey) (m : Said) (c : Call) (desk : Desk) → IsCleanHeard m.heard → IsCleanReinvite acks q → IsKept acks c → IsCleanDesk acks desk → IsCleanDesk acks (refused_back site x side q key m c desk)
@@ -295,9 +297,13 @@ silence_row acks (Asking asking q) site at x c desk is e k had = silenced_clean 
 rung_row : (acks : List Acked) (stage : Stage) (site : Site) (at : ℕ) (x : Pair) (c : Call) (desk : Desk) → IsCleanPair x → IsCleanStage acks stage → IsKept acks c → IsCleanDesk acks desk → IsCleanStep acks (rung_out stage site at x (stood x stage c) desk)
 rung_row acks (Answered waiting success) site at x c desk is e k had = unacknowledged_clean acks site at x waiting (stood x (Answered waiting success) c) desk is k had
 rung_row acks (Parting waiting success) site at x c desk is e k had = parted_clean acks site at x waiting (stood x (Parting waiting success) c) desk is k had
-rung_row acks Talking site at x c desk is e k had = same_clean acks x Talking c desk is e k had
-rung_row acks (Asking asking q) site at x c desk is e k had = same_clean acks x (Asking asking q) c desk is e k had
+rung_row acks Talking site at x c desk is e k had = over_stood_clean acks at x (stood x Talking c) (bye_to_both site x desk) k (bye_both_clean acks site x desk is had)
+rung_row acks (Asking asking q) site at x c desk is e k had =
+    let now : Call = stood x (Asking asking q) c in
+    over_stood_clean acks at x (with_loose (loose_across x asking asking q) now) (bye_to_both site x (replied_to site now q.key q.request 487 desk))
+    (with_loose_kept acks (loose_across x asking asking q) now (record { dialogue_in = e.sent_in.dialogue_in; branch_in = e.sent_in.branch_in; ack_in = e.sent_in.ack_in; forks_in = ended_dialogs_clean x asking asking is; early_in = e.sent_in.early_in }) k)
+    (bye_both_clean acks site x (replied_to site now q.key q.request 487 desk) is (replied_to_clean acks site now q.key q.request 487 desk k e.request_in had))
 
 pub due_row : (acks : List Acked) (stage : Stage) (site : Site) (at : ℕ) (x : Pair) (what : DueWord) (c : Call) (desk : Desk) → IsCleanPair x → IsCleanStage acks stage → IsKept acks c → IsCleanDesk acks desk → IsCleanStep acks (on_due_at stage site at x what (stood x stage c) desk)
 due_row acks stage site at x what c desk is e k had =
-    if_step acks (is_due_at stage what) (rung_out stage site at x (stood x stage c) desk) (onward (stood x stage c) desk) (rung_row acks stage site at x c desk is e k had) (same_clean acks x stage c desk is e k had)
+    if_step acks (is_due_at stage c.successes what) (rung_out stage site at x (stood x stage c) desk) (onward (stood x stage c) desk) (rung_row acks stage site at x c desk is e k had) (same_clean acks x stage c desk is e k had)

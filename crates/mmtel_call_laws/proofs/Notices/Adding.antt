@@ -1,5 +1,5 @@
 -- What a step adds to what goes out, and which 181s to the caller are in it.
-use Rattle.std.proofs.Common.{◌≡◌, ℕ, ◌==◌, Bool, true, false, List, [], ◌∷◌, ◌++◌, refl, ap, sym, ◌∙◌, append_assoc}
+use Rattle.std.proofs.Common.{◌≡◌, ℕ, ◌==◌, Bool, true, false, List, [], ◌∷◌, ◌++◌, refl, ap, sym, ◌∙◌, append_assoc, ◌+◌}
 use Rattle.std.proofs.lemmas.List.{append-nil}
 use Rattle.std.specs.Prelude.{◌&&◌, Option, Some, None, codes, if◌then◌else◌, nat_lt, position, slice_get, not}
 use Rattle.mmtel_answers.specs.Answers.{allowed}
@@ -35,6 +35,7 @@ use Rattle.mmtel_call.specs.Sending.{replied_to}
 use Rattle.mmtel_call.specs.declared.calls.Call.{Call}
 use Rattle.mmtel_call.specs.declared.calls.Taken.{Taken}
 use Rattle.mmtel_call_laws.specs.Notices.Due.{but_passed, notice_in, notices_in}
+use Rattle.mmtel_call.specs.Ringing.{expiry_in}
 
 -- what was added has these 181s
 pub record Adds (key : TKey) (before after : Desk) (notices : List (Message StartLine)) : Type 0 where
@@ -201,3 +202,12 @@ at-silent key site asked m branch (Some at) c desk = loose-silent key site asked
 pub other-silent : (key : TKey) (site : Site) (asked : TKey) (m : Said) (branch : List ℕ) (c : Call) (desk : Desk) → IsSilent key desk (answered_other site asked m branch c desk).desk
 unfolding answered_other
 other-silent key site asked m branch c desk = at-silent key site asked m branch (position (is_of branch) c.loose) c desk
+
+-- what is armed for the session of a 2xx tells nobody anything
+expiry-notices : (key : TKey) (timer : Bool) (time : Option ℕ) (at : ℕ) (c : Call) → notices_in key (if timer then expiry_in time at c else []) ≡ []
+expiry-notices key true None at c = refl
+expiry-notices key true (Some time) at c = refl
+expiry-notices key false time at c = refl
+
+pub expiry-silent : (key : TKey) (timer : Bool) (time : Option ℕ) (at : ℕ) (c : Call) (desk : Desk) → IsSilent key desk (record desk { out = desk.out ++ (if timer then expiry_in time at c else []) })
+expiry-silent key timer time at c desk = record { new = if timer then expiry_in time at c else []; out = refl; seen = expiry-notices key timer time at c }

@@ -22,7 +22,7 @@ use Rattle.mmtel_call.specs.Closing.{Step, onward}
 use Rattle.mmtel_call.specs.Diverting.{goes_on}
 use Rattle.mmtel_call.specs.Leaving.{without_silent}
 use Rattle.mmtel_call.specs.Requests.{is_bye, says, unheard, unlisted}
-use Rattle.mmtel_call.specs.Ringing.{answered, armed_in, cancelled_attempt, failed, given_up, heard_by, left, on_due, on_request, on_request_if, on_response, proceeding, timed_out, tried}
+use Rattle.mmtel_call.specs.Ringing.{answered, armed_in, cancelled_attempt, failed, given_up, heard_by, left, on_due, on_request, on_request_if, on_response, proceeding, timed_out, tried, awaiting_ack}
 use Rattle.mmtel_call.specs.Sending.{relayed_to_caller, replied_to, told_caller}
 use Rattle.mmtel_call.specs.Table.{answer_to, silence_of, step}
 use Rattle.mmtel_call.specs.declared.calls.Call.{Call}
@@ -33,8 +33,9 @@ use Rattle.mmtel_call_laws.specs.Endings.{end_by_answer, end_by_deadline, end_by
 use Rattle.mmtel_call_laws.proofs.Faring.{final-answered, offered, success-yes, trying-provisional}
 use Rattle.mmtel_call_laws.proofs.Untouched.{Alike, alike, other-untouched}
 use Rattle.mmtel_call_laws.specs.Notices.Due.{is_notice}
-use Rattle.mmtel_call_laws.proofs.Notices.Adding.{IsQuiet, IsSilent, adds-emit, adds-if, adds-reply, adds-then, one-passed, other-silent, quiet, quiet-then, silent, silent-cancelled, silent-final-acked, silent-reply, silent-unheard, silent-unlisted}
+use Rattle.mmtel_call_laws.proofs.Notices.Adding.{IsQuiet, IsSilent, expiry-silent, adds-emit, adds-if, adds-reply, adds-then, one-passed, other-silent, quiet, quiet-then, silent, silent-cancelled, silent-final-acked, silent-reply, silent-unheard, silent-unlisted}
 use Rattle.mmtel_call_laws.proofs.Notices.Owning.{IsFinal, high-notice, its-final, time-final}
+use Rattle.mmtel_session.specs.Intervals.{expiry_after}
 
 -- its attempt goes on, was answered or was given up
 abbrev pub EndsAlone : Option End → Type 0
@@ -172,12 +173,14 @@ answers : (passed : Bool) (site : Site) (now : Standing) (x : Trial) (key : TKey
     Hears passed site now x (offered x c) desk (Some end) (answered site now.at x key m (offered x c) desk)
 answers passed site now x key m c desk end p e =
     let given = relayed_to_caller site (offered x c) x.attempt.service m desk in
+    let waits = awaiting_ack now.at (offered x c) given in
     subst (λ (end : End). Hears passed site now x (offered x c) desk (Some end) (answered site now.at x key m (offered x c) desk)) (sym e)
     (subst (λ passed. Hears passed site now x (offered x c) desk (Some Answer) (answered site now.at x key m (offered x c) desk)) (sym p)
     (Stays (record {
       ends = tt;
       diversions = refl;
-      none = quiet-then (status_of m.heard.start == 181) c.opening.key desk given _ (relayed-quiet site x m c desk) (adds-emit c.opening.key given _ [] refl);
+      none = quiet-then (status_of m.heard.start == 181) c.opening.key desk given _ (relayed-quiet site x m c desk)
+          (adds-then c.opening.key given waits _ [] [] (adds-emit c.opening.key given _ [] refl) (expiry-silent c.opening.key site.timer (expiry_after m.heard.session) now.at (offered x c) waits));
     })))
 
 -- by the class of its status

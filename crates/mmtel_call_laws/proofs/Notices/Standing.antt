@@ -25,7 +25,7 @@ use Rattle.mmtel_call.specs.Answered.{acked_and_left, acknowledges, at_stage, by
 use Rattle.mmtel_call.specs.Closing.{onward, over_stood}
 use Rattle.mmtel_call.specs.Reinvites.{agreed, bye_to_both, ends_dialog, loose_across, proceeding_across, refused_back, relayed_back}
 use Rattle.mmtel_call.specs.Requests.{having_heard, is_bye, is_invite, says}
-use Rattle.mmtel_call.specs.Ringing.{with_loose}
+use Rattle.mmtel_call.specs.Ringing.{awaiting_ack, with_loose}
 use Rattle.mmtel_call.specs.Sending.{replied_to}
 use Rattle.mmtel_call.specs.Stages.{busy_in, has_left, is_due_at, left_by, on_ack_at, on_bye, on_cancel_at, on_heard_at, on_invite, on_request_at_if, on_response_at, on_silence_at, rung_out}
 use Rattle.mmtel_call.specs.Table.{answer_to, current_at, is_branch, silence_of, step}
@@ -37,8 +37,9 @@ use Rattle.mmtel_call.specs.declared.calls.Stage.TheVariants.{Answered, Asking, 
 use Rattle.mmtel_call.specs.declared.signals.Signal.{Signal}
 use Rattle.mmtel_call.specs.declared.signals.Signal.TheVariants as signal
 use Rattle.mmtel_call_laws.proofs.Answering.{ended}
-use Rattle.mmtel_call_laws.proofs.Notices.Adding.{IsSilent, adds-emit, adds-if, adds-then, other-silent, silent, silent-acked, silent-bye, silent-cancelled, silent-drew, silent-final-acked, silent-reply, silent-unheard, silent-unlisted, step-if}
+use Rattle.mmtel_call_laws.proofs.Notices.Adding.{IsSilent, expiry-silent, adds-emit, adds-if, adds-then, other-silent, silent, silent-acked, silent-bye, silent-cancelled, silent-drew, silent-final-acked, silent-reply, silent-unheard, silent-unlisted, step-if}
 use Rattle.mmtel_call_laws.proofs.Notices.Owning.{IsNoNotice}
+use Rattle.mmtel_session.specs.Intervals.{expiry_after}
 
 -- ---- what is sent across
 
@@ -119,8 +120,10 @@ rung-silent key (Answered waiting success) site at x c desk =
     let left = acked_and_left site x (other_of waiting) desk in
     over-silent key at x c desk _ (adds-then key desk left (bye_to site x waiting left) [] [] (left-silent key site x (other_of waiting) desk) (bye-to-silent key site x waiting left))
 rung-silent key (Parting waiting success) site at x c desk = over-silent key at x c desk _ (bye-to-silent key site x waiting desk)
-rung-silent key Talking site at x c desk = silent key desk
-rung-silent key (Asking asking q) site at x c desk = silent key desk
+rung-silent key Talking site at x c desk = over-silent key at x c desk _ (both-silent key site x desk)
+rung-silent key (Asking asking q) site at x c desk =
+    let refused = replied_to site c q.key q.request 487 desk in
+    over-silent key at x (with_loose (loose_across x asking asking q) c) desk _ (adds-then key desk refused (bye_to_both site x refused) [] [] (silent-reply key q.key _ _ _ desk refl) (both-silent key site x refused))
 
 quiet-silent : (key : TKey) (stage : Stage) (site : Site) (at : ℕ) (x : Pair) (c : Call) (desk : Desk) → IsSilent key desk (on_silence_at stage site at x c desk).desk
 quiet-silent key (Answered waiting success) site at x c desk = silent key desk
@@ -160,7 +163,8 @@ across-silent key site at x side q asked m c desk true success ends e =
     adds-if key desk q.cancel_due (cancelled site.sip (has_said asked q.invitation) desk) desk [] (silent-cancelled key site.sip (has_said asked q.invitation) desk) (silent key desk)
 across-silent key site at x side q asked m c desk false true ends e =
     let back = relayed_back site x side q m c desk in
-    adds-then key desk back _ [] [] (back-silent key site x side q m c desk (e refl)) (adds-emit key back _ [] refl)
+    let waits = awaiting_ack at c back in
+    adds-then key desk waits _ [] [] (adds-then key desk back waits [] [] (back-silent key site x side q m c desk (e refl)) (adds-emit key back _ [] refl)) (expiry-silent key site.timer (expiry_after m.heard.session) at c waits)
 across-silent key site at x side q asked m c desk false false true e =
     let refused = refused_back site x side q asked m c desk in
     over-silent key at x c desk _ (adds-then key desk refused (bye_to_both site x refused) [] [] (refused-silent key site x side q asked m c desk (e refl)) (both-silent key site x refused))
@@ -190,7 +194,7 @@ stood-silent key site now x stage (signal.Cancel asked cancel invite) c desk =
     adds-then key desk answered _ [] [] (silent-reply key asked _ _ _ desk refl) (cancel-silent key stage site x invite (at_stage x stage c) answered)
 stood-silent key site now x stage (signal.Answer asked response) c desk = answer-silent key (invite_answered response) stage site now x asked response c desk
 stood-silent key site now x stage (signal.Silent branch method) c desk = silence-silent key (invite_silent branch method) stage site now x c desk
-stood-silent key site now x stage (signal.Due what) c desk = step-if key desk (is_due_at stage what) _ _ (rung-silent key stage site now.at x (at_stage x stage c) desk) (silent key desk)
+stood-silent key site now x stage (signal.Due what) c desk = step-if key desk (is_due_at stage c.successes what) _ _ (rung-silent key stage site now.at x (at_stage x stage c) desk) (silent key desk)
 stood-silent key site now x stage (signal.Ended asked) c desk = silent key desk
 
 -- ---- a call that is over

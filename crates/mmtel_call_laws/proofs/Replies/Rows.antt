@@ -23,7 +23,7 @@ use Rattle.mmtel_call.specs.Opening.{caller_of, new_call, opened, unless_refused
 use Rattle.mmtel_call.specs.Reinvites.{agreed, asked_across, bye_to_both, bye_while_asking, cancelled_across, cancelled_if_due, cancelling, ends_dialog, invited, loose_across, on_response_across, proceeding, proceeding_across, refused_back, relayed_back, silenced_across}
 use Rattle.mmtel_call.specs.Requests.{having_heard, is_bye, is_invite, says, unheard, unlisted}
 use Rattle.mmtel_call.specs.Ringing as ringing
-use Rattle.mmtel_call.specs.Ringing.{answered, armed, armed_in, cancelled_attempt, failed, given_up, heard_by, left, on_cancel, on_due, on_heard, on_request, on_request_if, on_response, says_offered, silenced, timed_out, tried, with_loose}
+use Rattle.mmtel_call.specs.Ringing.{answered, armed, armed_in, cancelled_attempt, failed, given_up, heard_by, left, on_cancel, on_due, on_heard, on_request, on_request_if, on_response, says_offered, silenced, timed_out, tried, with_loose, awaiting_ack, awaiting_expiry, expiries, expiry_in}
 use Rattle.mmtel_call.specs.Sending.{relayed_to_caller, replied_to, told_caller, told_diversion}
 use Rattle.mmtel_call.specs.Stages.{busy_in, has_left, is_due_at, left_by, on_ack_at, on_bye, on_cancel_at, on_due_at, on_heard_at, on_invite, on_request_at, on_request_at_if, on_response_at, on_silence_at, rung_out}
 use Rattle.mmtel_call.specs.Table.{ack_in, answer_to, cancel_in, due_in, is_current, request_in, response_in, silence_in, silence_of, step}
@@ -79,6 +79,8 @@ use Rattle.mmtel_types.specs.declared.sides.Side.TheVariants.{Caller, Callee}
 use Rattle.mmtel_call_laws.specs.Heads.Emits.{Each}
 use Rattle.mmtel_call_laws.proofs.Heads.Sending.{each_append}
 use Rattle.mmtel_call_laws.specs.Replies.{CallIsOf, IsRepliedIn, PhaseIsOf, SignalIsOf, StageIsOf}
+use Rattle.mmtel_session.specs.Intervals.{expiry_after}
+use Rattle.mmtel_call.specs.Expiring.{expired, expired_asking}
 
 module _ (own : ℕ → Bool) (site : Site) where
   -- ---- what goes out
@@ -254,9 +256,19 @@ module _ (own : ℕ → Bool) (site : Site) where
       good (ringing.proceeding site at x key m code c desk) tt k
       (armed_good code at x.attempt c (relayed_to_caller site c x.attempt.service m desk) (relayed_in c x.attempt.service m desk k had))
 
+  -- what is armed for the session of a 2xx replies nothing
+  expiries_in : (timer : Bool) (time : Option ℕ) (at : ℕ) (c : Call) → Each (IsRepliedIn own) (if timer then expiry_in time at c else [])
+  expiries_in true None at c = tt
+  expiries_in true (Some time) at c = (tt, tt)
+  expiries_in false time at c = tt
+
+  expiry_awaited : (at : ℕ) (m : Said) (c : Call) (desk : Desk) → Replied desk → Replied (awaiting_expiry site at m c desk)
+  expiry_awaited at m c desk had = each_append (IsRepliedIn own) desk.out (expiries site.timer at m c) had (expiries_in site.timer (expiry_after m.heard.session) at c)
+
   answered_good : (at : ℕ) (x : Trial) (key : TKey) (m : Said) (c : Call) (desk : Desk) → Opens c → Replied desk → Good (answered site at x key m c desk)
   answered_good at x key m c desk k had =
-      good (answered site at x key m c desk) tt k (emit_in _ (relayed_to_caller site c x.attempt.service m desk) tt (relayed_in c x.attempt.service m desk k had))
+      let given : Desk = relayed_to_caller site c x.attempt.service m desk in
+      good (answered site at x key m c desk) tt k (expiry_awaited at m c (awaiting_ack at c given) (emit_in _ given tt (relayed_in c x.attempt.service m desk k had)))
 
   failed_good : (now : Standing) (x : Trial) (key : TKey) (m : Said) (code : ℕ) (c : Call) (desk : Desk) → Opens c → Replied desk → Good (failed site now x key m code c desk)
   failed_good now x key m code c desk k had =
@@ -372,7 +384,9 @@ module _ (own : ℕ → Bool) (site : Site) where
       (if_desk q.cancel_due (cancelled site.sip (has_said key q.invitation) desk) desk (cancelled_in (has_said key q.invitation) desk had) had)
 
   agreed_good : (at : ℕ) (x : Pair) (side : Side) (q : Reinvite) (key : TKey) (m : Said) (c : Call) (desk : Desk) → AtStage (Asking side q) → Opens c → Replied desk → Good (agreed site at x side q key m c desk)
-  agreed_good at x side q key m c desk e k had = good (agreed site at x side q key m c desk) tt k (emit_in _ (relayed_back site x side q m c desk) tt (relayed_back_in x side q m c desk e had))
+  agreed_good at x side q key m c desk e k had =
+      let back : Desk = relayed_back site x side q m c desk in
+      good (agreed site at x side q key m c desk) tt k (expiry_awaited at m c (awaiting_ack at c back) (emit_in _ back tt (relayed_back_in x side q m c desk e had)))
 
   refused_back_in : (x : Pair) (side : Side) (q : Reinvite) (key : TKey) (m : Said) (c : Call) (desk : Desk) → Own q.key → Replied desk → Replied (refused_back site x side q key m c desk)
   refused_back_in x side q key m c desk is had = relayed_back_in x side q m c (final_acked site.sip key q.invitation m.heard desk) is (final_acked_in key q.invitation m.heard desk had)
@@ -406,6 +420,15 @@ module _ (own : ℕ → Bool) (site : Site) where
       over_stood_good at x (with_loose (loose_across x asking leaving q) c) (bye_to site x (other_of leaving) (replied_to site c q.key q.request 487 desk))
       k
       (bye_to_in x (other_of leaving) (replied_to site c q.key q.request 487 desk) (replied_in c q.key q.request 487 desk e had))
+
+  expired_good : (at : ℕ) (x : Pair) (c : Call) (desk : Desk) → Opens c → Replied desk → Good (expired site at x c desk)
+  expired_good at x c desk k had = over_stood_good at x c (bye_to_both site x desk) k (bye_both_in x desk had)
+
+  expired_asking_good : (at : ℕ) (x : Pair) (asking : Side) (q : Reinvite) (c : Call) (desk : Desk) → Own q.key → Opens c → Replied desk → Good (expired_asking site at x asking q c desk)
+  expired_asking_good at x asking q c desk e k had =
+      over_stood_good at x (with_loose (loose_across x asking asking q) c) (bye_to_both site x (replied_to site c q.key q.request 487 desk))
+      k
+      (bye_both_in x (replied_to site c q.key q.request 487 desk) (replied_in c q.key q.request 487 desk e had))
 
   -- by stage
 
@@ -478,12 +501,12 @@ module _ (own : ℕ → Bool) (site : Site) where
   rung_row : (stage : Stage) (at : ℕ) (x : Pair) (c : Call) (desk : Desk) → AtStage stage → Opens c → Replied desk → Good (rung_out stage site at x (stood x stage c) desk)
   rung_row (Answered waiting success) at x c desk e k had = unacknowledged_good at x waiting (stood x (Answered waiting success) c) desk k had
   rung_row (Parting waiting success) at x c desk e k had = parted_good at x waiting (stood x (Parting waiting success) c) desk k had
-  rung_row Talking at x c desk e k had = staged_good x Talking c desk e k had
-  rung_row (Asking asking q) at x c desk e k had = staged_good x (Asking asking q) c desk e k had
+  rung_row Talking at x c desk e k had = expired_good at x (stood x Talking c) desk k had
+  rung_row (Asking asking q) at x c desk e k had = expired_asking_good at x asking q (stood x (Asking asking q) c) desk e k had
 
   due_at_row : (stage : Stage) (at : ℕ) (x : Pair) (what : DueWord) (c : Call) (desk : Desk) → AtStage stage → Opens c → Replied desk → Good (on_due_at stage site at x what (stood x stage c) desk)
   due_at_row stage at x what c desk e k had =
-      if_good (is_due_at stage what) (rung_out stage site at x (stood x stage c) desk) (onward (stood x stage c) desk) (rung_row stage at x c desk e k had) (staged_good x stage c desk e k had)
+      if_good (is_due_at stage c.successes what) (rung_out stage site at x (stood x stage c) desk) (onward (stood x stage c) desk) (rung_row stage at x c desk e k had) (staged_good x stage c desk e k had)
 
   -- ---- INVITEs that the call does not wait on
 

@@ -17,7 +17,7 @@ use Rattle.mmtel_trust.specs.Digest.{HeardMessage}
 use Rattle.mmtel_trust.specs.Kinds.{kind_of}
 use Rattle.mmtel_trust.specs.Mask.{AllEntries, Entries, MarkedEntries, NoEntries, Places, hidden_entries, hidden_uri, hide_if, masked_entries, masked_line, masked_lines, masked_value, places_in, redirects, serve_if, unless_gone, with_name}
 use Rattle.mmtel_trust.specs.declared.kinds.HeaderKind.{HeaderKind}
-use Rattle.mmtel_trust.specs.declared.kinds.HeaderKind.TheVariants.{From, To, Contact, Asserted, Served, Privacy, History, Options, Passed, Personal, Trusted, Other}
+use Rattle.mmtel_trust.specs.declared.kinds.HeaderKind.TheVariants.{From, To, Contact, Asserted, Served, Privacy, History, Options, Session, Passed, Personal, Trusted, Other}
 use Rattle.mmtel_call_laws.specs.Secret.Parts.{everything, public_request}
 use Rattle.mmtel_call_laws.specs.Secret.Roles.{Role, hidden_by, private_places, without_private}
 
@@ -61,6 +61,7 @@ kind_absorbs start p Served v = ap (λ (w : List ℕ). Some w) (serve_absorbs p.
 kind_absorbs start p Privacy v = refl
 kind_absorbs start p History v = ap (λ (w : List ℕ). Some w) (entries_absorb p.history v)
 kind_absorbs start p Options v = refl
+kind_absorbs start p Session v = refl
 kind_absorbs start p Passed v = refl
 kind_absorbs start p Personal v = gone_absorbs p.personal v
 kind_absorbs start p Trusted v = refl

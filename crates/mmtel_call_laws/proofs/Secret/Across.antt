@@ -1,7 +1,7 @@
 -- Rows of an answered call see public parts alone: its requests and deadlines, and an INVITE that a side asks of the other one.
-use Rattle.std.proofs.Common.{◌≡◌, ℕ, Bool, true, false, ◌==◌, not, List, [], ◌∷◌, ◌++◌, refl, ap, sym, ◌∙◌, map, cond, codes}
+use Rattle.std.proofs.Common.{◌≡◌, ℕ, Bool, true, false, ◌==◌, not, List, [], ◌∷◌, ◌++◌, refl, ap, sym, ◌∙◌, map, cond, codes, append-nil, Option, Some, None}
 use Rattle.std.proofs.lemmas.List.{map-append}
-use Rattle.std.specs.Prelude.{◌+◌, Result, Ok, Err, nat_lt}
+use Rattle.std.specs.Prelude.{◌+◌, Result, Ok, Err, nat_lt, if◌then◌else◌}
 use Rattle.mmtel_answers.specs.Said.{Said, status_of}
 use Rattle.mmtel_desk.specs.Desks.{token}
 use Rattle.mmtel_desk.specs.Invitations.{has_said, once_cancelled}
@@ -33,7 +33,7 @@ use Rattle.mmtel_call.specs.declared.calls.Stage.TheVariants.{Answered, Asking, 
 use Rattle.mmtel_call.specs.Closing.{onward, over_stood}
 use Rattle.mmtel_call.specs.Reinvites.{agreed, bye_to_both, cancelled_across, cancelled_if_due, cancelling, ends_dialog, having_invited, held_by, invited, on_response_across, proceeding, proceeding_across, refused_back, reinvite_of, relayed_back}
 use Rattle.mmtel_call.specs.Requests.{having_heard, is_bye, is_invite, says, unheard, unlisted}
-use Rattle.mmtel_call.specs.Ringing.{ack_time, awaiting_ack, next_success, success_of, taken_by}
+use Rattle.mmtel_call.specs.Ringing.{ack_time, awaiting_ack, next_success, success_of, taken_by, expiry_in, awaiting_expiry}
 use Rattle.mmtel_call.specs.Sending.{replied_to}
 use Rattle.mmtel_call.specs.Stages.{busy_in, has_left, is_due_at, left_by, on_bye, on_cancel_at, on_due_at, on_heard_at, on_invite, on_request_at, on_request_at_if, on_silence_at, rung_out}
 use Rattle.mmtel_call_laws.specs.Secret.Parts.{everything, nobody, public_call, public_dialog_by, public_diverted, public_invitation, public_opening, public_pair, public_part, public_reinvite, public_request, public_stage, public_taken}
@@ -43,9 +43,10 @@ use Rattle.mmtel_call_laws.specs.Secret.Rows.{AnswersAcross, CancelsOnceAnswered
 use Rattle.mmtel_call_laws.specs.Secret.Seen.{AlikeDesks, AlikeSteps, Trust, trust_of}
 use Rattle.mmtel_call_laws.proofs.Secret.Absorbing.{request_absorbs}
 use Rattle.mmtel_call_laws.proofs.Secret.Once.{call_once, request_again}
-use Rattle.mmtel_call_laws.proofs.Secret.Rows.{across-alike, both-alike, bye-alike, cancelled-alike, ended-alike, leaves-alike, left_by-alike, on-alike, on-alike-by, once_public, own-reply, step-if, unheard-alike, unlisted-alike}
+use Rattle.mmtel_call_laws.proofs.Secret.Rows.{across-alike, both-alike, bye-alike, cancelled-alike, ended-alike, leaves-alike, left_by-alike, on-alike, on-alike-by, once_public, own-reply, step-if, unheard-alike, unlisted-alike, expired_asking-alike}
 use Rattle.mmtel_call_laws.proofs.Secret.Sent.{Heads, emitted-alike, final_acked-alike, if-alike, relayed-alike, untouched}
 use Rattle.mmtel_call_laws.proofs.Secret.Shown.{shown-foreign, shown-same}
+use Rattle.mmtel_session.specs.Intervals.{expiry_after}
 
 module _ (heads : Heads) (site : Site) (keys : TKey → Bool) where
   abbrev T : Trust
@@ -149,28 +150,29 @@ module _ (heads : Heads) (site : Site) (keys : TKey → Bool) where
 
   -- ---- deadlines
 
-  due_same : (stage : Stage) (what : DueWord) → is_due_at (public_stage known stage) what ≡ is_due_at stage what
-  due_same (Answered waiting success) what = refl
-  due_same (Parting waiting success) what = refl
-  due_same Talking what = refl
-  due_same (Asking asking q) what = refl
+  due_same : (stage : Stage) (successes : ℕ) (what : DueWord) → is_due_at (public_stage known stage) successes what ≡ is_due_at stage successes what
+  due_same (Answered waiting success) successes what = refl
+  due_same (Parting waiting success) successes what = refl
+  due_same Talking successes what = refl
+  due_same (Asking asking q) successes what = refl
 
-  rung-alike : (stage : Stage) (who : Identities2) (at : ℕ) (x : Pair) (c : Call) (one other : Desk) → AlikeDesks T one other →
+  rung-alike : (stage : Stage) (who : Identities2) (at : ℕ) (x : Pair) (c : Call) (one other : Desk) → stage_is_asked T stage → AlikeDesks T one other →
       AlikeSteps T (rung_out (public_stage known stage) site at (public_pair known x) (public_call known who c) one) (rung_out stage site at x c other)
-  rung-alike (Answered waiting success) who at x c one other a =
+  rung-alike (Answered waiting success) who at x c one other kept a =
       let one2 : Desk = acked_and_left site (public_pair known x) (other_of waiting) one in
       let other2 : Desk = acked_and_left site x (other_of waiting) other in
       ended-alike heads site keys who at x c (bye_to site (public_pair known x) waiting one2) (bye_to site x waiting other2) (bye-alike heads site keys x waiting one2 other2 (leaves-alike heads site keys x (other_of waiting) one other a))
-  rung-alike (Parting waiting success) who at x c one other a = ended-alike heads site keys who at x c (bye_to site (public_pair known x) waiting one) (bye_to site x waiting other) (bye-alike heads site keys x waiting one other a)
-  rung-alike Talking who at x c one other a = on-alike heads site keys who c one other a
-  rung-alike (Asking asking q) who at x c one other a = on-alike heads site keys who c one other a
+  rung-alike (Parting waiting success) who at x c one other kept a = ended-alike heads site keys who at x c (bye_to site (public_pair known x) waiting one) (bye_to site x waiting other) (bye-alike heads site keys x waiting one other a)
+  rung-alike Talking who at x c one other kept a =
+      ended-alike heads site keys who at x c (bye_to_both site (public_pair known x) one) (bye_to_both site x other) (both-alike heads site keys x one other a)
+  rung-alike (Asking asking q) who at x c one other kept a = expired_asking-alike heads site keys who at x asking q c one other kept a
 
-  due_at-alike : (stage : Stage) (who : Identities2) (at : ℕ) (x : Pair) (what : DueWord) (c : Call) (one other : Desk) → AlikeDesks T one other →
+  due_at-alike : (stage : Stage) (who : Identities2) (at : ℕ) (x : Pair) (what : DueWord) (c : Call) (one other : Desk) → stage_is_asked T stage → AlikeDesks T one other →
       AlikeSteps T (on_due_at (public_stage known stage) site at (public_pair known x) what (public_call known who c) one) (on_due_at stage site at x what c other)
-  due_at-alike stage who at x what c one other a =
-      rw (due_same stage what)
-      (step-if T (is_due_at stage what) (rung_out (public_stage known stage) site at (public_pair known x) (public_call known who c) one) (onward (public_call known who c) one) (rung_out stage site at x c other) (onward c other)
-      (rung-alike stage who at x c one other a) (on-alike heads site keys who c one other a))
+  due_at-alike stage who at x what c one other kept a =
+      rw (due_same stage c.successes what)
+      (step-if T (is_due_at stage c.successes what) (rung_out (public_stage known stage) site at (public_pair known x) (public_call known who c) one) (onward (public_call known who c) one) (rung_out stage site at x c other) (onward c other)
+      (rung-alike stage who at x c one other kept a) (on-alike heads site keys who c one other a))
 
   -- ---- CANCEL and silence of an INVITE that a side asked
 
@@ -238,6 +240,16 @@ module _ (heads : Heads) (site : Site) (keys : TKey → Bool) where
   pub awaits-alike : (who : Identities2) (at : ℕ) (c : Call) (one other : Desk) → AlikeDesks T one other → AlikeDesks T (awaiting_ack at (public_call known who c) one) (awaiting_ack at c other)
   awaits-alike who at c one other a = emitted-alike T (emit.Arm c.opening.number (due.NoAck (next_success c)) (at + ack_time)) (emit.Arm c.opening.number (due.NoAck (next_success c)) (at + ack_time)) one other refl a
 
+  -- what is armed for the session of a 2xx, which says the same of it in both
+  expiries-alike : (timer : Bool) (time : Option ℕ) (who : Identities2) (at : ℕ) (c : Call) (one other : Desk) → AlikeDesks T one other →
+      AlikeDesks T (record one { out = one.out ++ (if timer then expiry_in time at (public_call known who c) else []) }) (record other { out = other.out ++ (if timer then expiry_in time at c else []) })
+  expiries-alike true None who at c one other a = simp append-nil a
+  expiries-alike true (Some time) who at c one other a = emitted-alike T (emit.Arm c.opening.number (due.Expired (next_success c)) (at + time)) (emit.Arm c.opening.number (due.Expired (next_success c)) (at + time)) one other refl a
+  expiries-alike false time who at c one other a = simp append-nil a
+
+  pub expiry-alike : (who : Identities2) (at : ℕ) (m : Said) (c : Call) (one other : Desk) → AlikeDesks T one other → AlikeDesks T (awaiting_expiry site at m (public_call known who c) one) (awaiting_expiry site at m c other)
+  expiry-alike who at m c one other a = expiries-alike site.timer (expiry_after m.heard.session) who at c one other a
+
   pub taken_more : (c : Call) (x : Taken) → map (public_taken known) c.taken ++ public_taken known x ∷ [] ≡ map (public_taken known) (c.taken ++ x ∷ [])
   taken_more c x = sym (map-append (public_taken known) c.taken (x ∷ []))
 
@@ -246,7 +258,7 @@ module _ (heads : Heads) (site : Site) (keys : TKey → Bool) where
   agrees-alike who at x side q key role m c one other asked fits a = record {
     call = ap (λ (ts : List Taken). public_part known (record (public_call known who c) { successes = next_success c; hold = held_by side (direction_told q.request.heard.body) c.hold; taken = ts; phase = Stood (public_pair known x) (Answered side (success_of c q.request q.invitation)) })) (taken_more c (taken_by key m true q.invitation))
         ∙ call_once known nobody who (agreed site at x side q key m c other).call;
-    desk = awaits-alike who at c (relayed_back site (public_pair known x) side (public_reinvite known q) (without_private role m) (public_call known who c) one) (relayed_back site x side q m c other) (back-alike who x side q role m c one other asked fits a);
+    desk = expiry-alike who at m c _ _ (awaits-alike who at c (relayed_back site (public_pair known x) side (public_reinvite known q) (without_private role m) (public_call known who c) one) (relayed_back site x side q m c other) (back-alike who x side q role m c one other asked fits a));
   }
 
   answers-alike : (asking : Side) (q : Reinvite) (who : Identities2) (at : ℕ) (x : Pair) (key : TKey) (role : Role) (m : Said) (code : ℕ) (c : Call) (one other : Desk) → IsAsked T q.key q.request → IsAnswer T key q.invitation.dialogue.peer role m → Fits c.opening x.service (other_of asking) m role → AlikeDesks T one other →
@@ -283,4 +295,4 @@ pub silence_once_answered : Heads → SilenceOnceAnswered
 silence_once_answered heads stage site keys who at x c one other kept a = silence_at-alike heads site keys stage who at x c one other kept a
 
 pub deadlines_once_answered : Heads → DeadlinesOnceAnswered
-deadlines_once_answered heads stage site keys who at x what c one other a = due_at-alike heads site keys stage who at x what c one other a
+deadlines_once_answered heads stage site keys who at x what c one other kept a = due_at-alike heads site keys stage who at x what c one other kept a

@@ -243,8 +243,8 @@ module _ (request : TKey → Said → Type 0) (service : Option Service → Type
     rung-keeps : (stage : Stage) (x : Pair) (c : Call) (desk : Desk) → Holds c.phase → Keeps (rung_out stage site now.at x c desk)
     rung-keeps (Answered waiting success) x c desk h = tt
     rung-keeps (Parting waiting success) x c desk h = tt
-    rung-keeps Talking x c desk h = h
-    rung-keeps (Asking asking q) x c desk h = h
+    rung-keeps Talking x c desk h = tt
+    rung-keeps (Asking asking q) x c desk h = tt
 
     -- ---- INVITEs that it does not wait on
 
@@ -306,7 +306,7 @@ module _ (request : TKey → Said → Type 0) (service : Option Service → Type
 
     in-due : (p : Phase) (what : DueWord) (c : Call) (desk : Desk) → Holds c.phase → Keeps (due_in p site now what c desk)
     in-due (Offered x) what c desk h = offered-due x what c desk h
-    in-due (Stood x stage) what c desk h = keep-if (is_due_at stage what) (rung_out stage site now.at x c desk) (onward c desk) (rung-keeps stage x c desk h) h
+    in-due (Stood x stage) what c desk h = keep-if (is_due_at stage c.successes what) (rung_out stage site now.at x c desk) (onward c desk) (rung-keeps stage x c desk h) h
     in-due (Lent loan) what c desk h = h
     in-due (Over cause) what c desk h = h
 

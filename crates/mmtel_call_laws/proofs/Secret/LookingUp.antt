@@ -407,7 +407,7 @@ module _ (records : List Sheet) (site : Site) (accounts : List AccountIdentity) 
 
   in-due : (p : Phase) (what : DueWord) (c : Call) (desk : Desk) → ServedIn p records → due_in p site now what c desk ≡ due_in p far2 now what c desk
   in-due (Offered x) what c desk its = offered-due x what c desk its
-  in-due (Stood x stage) what c desk its = ap (λ (s : Step). cond (is_due_at stage what) s (onward c desk)) (rung-same site accounts now stage x c desk)
+  in-due (Stood x stage) what c desk its = ap (λ (s : Step). cond (is_due_at stage c.successes what) s (onward c desk)) (rung-same site accounts now stage x c desk)
   in-due (Lent loan) what c desk its = refl
   in-due (Over cause) what c desk its = refl
 

@@ -53,7 +53,7 @@ use Rattle.mmtel_call_laws.proofs.Secret.Shown.{entries_placed, shown-foreign, s
 -- ---- the line of a call that waits is none of the server's own
 
 abbrev open_facing : Facing
-open_facing = record { from_trusted = false; restricted = false; present = false; mask_all = false }
+open_facing = record { from_trusted = false; restricted = false; present = false; mask_all = false; reliable = false; timer = false }
 
 alert_shown : (v : List ℕ) → shown_lines open_facing false [] (Status 200 []) ((codes "Alert-Info", v) ∷ []) ≡ (codes "Alert-Info", v) ∷ []
 unfolding is_shown kind_of

@@ -36,7 +36,7 @@ use Rattle.mmtel_call_laws.specs.Secret.Premises.{Fits, IsAsked, IsWhole}
 use Rattle.mmtel_call_laws.specs.Secret.Roles.{Role, opening_role, private_places, without_private}
 use Rattle.mmtel_call_laws.specs.Secret.Rows.{AnswersToAttempt, ProvisionalToAttempt}
 use Rattle.mmtel_call_laws.specs.Secret.Seen.{AlikeDesks, AlikeSteps, Trust, trust_of}
-use Rattle.mmtel_call_laws.proofs.Secret.Across.{awaits-alike, taken_more}
+use Rattle.mmtel_call_laws.proofs.Secret.Across.{awaits-alike, taken_more, expiry-alike}
 use Rattle.mmtel_call_laws.proofs.Secret.Once.{call_once, invitation_told, leg_again, tried_again}
 use Rattle.mmtel_call_laws.proofs.Secret.Rows.{on-alike, step-if}
 use Rattle.mmtel_call_laws.proofs.Secret.Sent.{Heads, emitted-alike, relayed-alike}
@@ -133,7 +133,7 @@ module _ (heads : Heads) (site : Site) (keys : TKey → Bool) where
             ∙ (ap (λ (z : Call). record z { phase = Stood (public_pair known (pair_of (public_trial known x) (without_private role m))) (Answered Caller (success_of c c.opening.invite x.attempt.invitation)) }) (call_once known nobody who base)
             ∙ (ap (λ (l : Leg). record (public_part known base) { phase = Stood (record { caller = l; callee = public_leg known (pair_of (public_trial known x) (without_private role m)).callee; service = x.attempt.service }) (Answered Caller (success_of c c.opening.invite x.attempt.invitation)) }) (leg_again known x.caller)
             ∙ ap (λ (d : Dialogue). record (public_part known base) { phase = Stood (record { caller = public_leg known x.caller; callee = with_dialogue x.callee.leg d; service = x.attempt.service }) (Answered Caller (success_of c c.opening.invite x.attempt.invitation)) }) (met_alike x.callee.leg.dialogue role m told)));
-        desk = awaits-alike heads site keys who at c (relayed_to_caller site (public_call known who c) x.attempt.service (without_private role m) one) (relayed_to_caller site c x.attempt.service m other) (to_caller-alike who x.attempt.service role m c one other asked fits a);
+        desk = expiry-alike heads site keys who at m c _ _ (awaits-alike heads site keys who at c (relayed_to_caller site (public_call known who c) x.attempt.service (without_private role m) one) (relayed_to_caller site c x.attempt.service m other) (to_caller-alike who x.attempt.service role m c one other asked fits a));
       }
 
   provisional-alike : (who : Identities2) (at : ℕ) (x : Trial) (key : TKey) (role : Role) (m : Said) (code : ℕ) (c : Call) (one other : Desk) → IsAsked T c.opening.key c.opening.invite → Fits c.opening x.attempt.service Callee m role → (known x.callee.leg.dialogue.peer ≡ false → IsWhole role m) → (known x.attempt.invitation.dialogue.peer ≡ false → IsWhole role m) → AlikeDesks T one other →

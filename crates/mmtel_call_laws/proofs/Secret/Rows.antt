@@ -51,6 +51,7 @@ use Rattle.mmtel_call_laws.specs.Secret.Seen.{AlikeDesks, AlikeSteps, Trust, tru
 use Rattle.mmtel_call_laws.proofs.Secret.Once.{call_once}
 use Rattle.mmtel_call_laws.proofs.Secret.Sent.{Heads, acked-alike, answered-alike, asked-alike, asked_for-alike, cancel-alike, if-alike, replied-alike}
 use Rattle.mmtel_call_laws.proofs.Secret.Shown.{shown-foreign, shown-same}
+use Rattle.mmtel_call.specs.Expiring.{expired_asking}
 
 pub filed-alike : (t : Trust) (rows : List Row) (x y : Desk) → AlikeDesks t x y → AlikeDesks t (filed_all rows x) (filed_all rows y)
 filed-alike t rows x y a = record { tokens = a.tokens; rows = ap (λ (r : List Row). r ++ rows) a.rows; out = a.out }
@@ -229,6 +230,17 @@ module _ (heads : Heads) (site : Site) (keys : TKey → Bool) where
       (bye_to site (public_pair known x) (other_of leaving) told) (bye_to site x (other_of leaving) said)
       (loose_public who (loose_across (public_pair known x) asking leaving (public_reinvite known q)) (loose_across x asking leaving q) c (loose_across_public x asking leaving q))
       (bye-alike x (other_of leaving) told said (own-reply c q.key everything q.request 487 one other asked a))
+
+  pub expired_asking-alike : (who : Identities2) (at : ℕ) (x : Pair) (asking : Side) (q : Reinvite) (c : Call) (one other : Desk) → IsAsked T q.key q.request → AlikeDesks T one other →
+      AlikeSteps T (expired_asking site at (public_pair known x) asking (public_reinvite known q) (public_call known who c) one) (expired_asking site at x asking q c other)
+  expired_asking-alike who at x asking q c one other asked a =
+      let d : Call = public_call known who c in
+      let told : Desk = replied_to site d q.key (public_request q.request) 487 one in
+      let said : Desk = replied_to site c q.key q.request 487 other in
+      over-alike-by who at causes.Ended x.caller.meter x.callee.meter (with_loose (loose_across (public_pair known x) asking asking (public_reinvite known q)) d) (with_loose (loose_across x asking asking q) c)
+      (bye_to_both site (public_pair known x) told) (bye_to_both site x said)
+      (loose_public who (loose_across (public_pair known x) asking asking (public_reinvite known q)) (loose_across x asking asking q) c (loose_across_public x asking asking q))
+      (both-alike x told said (own-reply c q.key everything q.request 487 one other asked a))
 
   pub left_by-alike : (stage : Stage) (who : Identities2) (at : ℕ) (x : Pair) (side : Side) (role : Role) (m : Said) (c : Call) (one other : Desk) → Fits c.opening x.service side m role → stage_is_asked T stage → AlikeDesks T one other →
       AlikeSteps T (left_by (public_stage known stage) site at (public_pair known x) side (without_private role m) (public_call known who c) one) (left_by stage site at x side m c other)

@@ -29,7 +29,7 @@ use Rattle.mmtel_types.specs.declared.numbers.Peer.{Peer}
 use Rattle.mmtel_types.specs.declared.sides.Side.{Side}
 use Rattle.mmtel_types.specs.declared.sides.Side.TheVariants.{Caller, Callee}
 use Rattle.mmtel_call_decisions.specs.Diverted.{Diverted}
-use Rattle.mmtel_call_decisions.specs.Showing.{facing, list_for, masks_all, shown_to, told_list}
+use Rattle.mmtel_call_decisions.specs.Showing.{facing, facing_at, list_for, masks_all, shown_to, told_list}
 use Rattle.mmtel_call_decisions.specs.Site.{Site, trusts}
 use Rattle.mmtel_call_decisions.specs.declared.openings.Opening.{Opening}
 use Rattle.mmtel_call_decisions.specs.declared.openings.Service.{Service}
@@ -83,15 +83,15 @@ unfolding shown_to
 shown-same site who o d service side peer role m fits strange =
     let n : Said = without_private role m in
     let h : List Entry = list_for (public_diverted (masks_all o) d) n in
-    ap (λ (f : Facing). shown_lines f (trusts site peer) h m.heard.start n.heard.lines) (facing_same who o service side role m)
-    ∙ shown_by (trusts site peer) strange m.heard.trusted role m.heard (facing o service side m) h (list_for d m) fits
+    ap (λ (f : Facing). shown_lines (record f { timer = site.timer }) (trusts site peer) h m.heard.start n.heard.lines) (facing_same who o service side role m)
+    ∙ shown_by (trusts site peer) strange m.heard.trusted role m.heard (facing_at site o service side m) h (list_for d m) fits
     (ap (λ (all : Bool). masked_list all h) (mask_facing o service side m)
     ∙ (list_if (masks_all o) (status_of m.heard.start == 181) d
     ∙ ap (λ (all : Bool). masked_list all (list_for d m)) (sym (mask_facing o service side m))))
 
 pub shown-foreign : (site : Site) (o : Opening) (d : Diverted) (service : Option Service) (side : Side) (peer : Peer) (m : Said) → AreForeign (shown_to site o d service side peer m)
 unfolding shown_to
-shown-foreign site o d service side peer m name own = own_shown (facing o service side m) (trusts site peer) name (list_for d m) m.heard.start m.heard.lines own
+shown-foreign site o d service side peer m name own = own_shown (facing_at site o service side m) (trusts site peer) name (list_for d m) m.heard.start m.heard.lines own
 
 -- ---- what a dialog takes
 

@@ -247,7 +247,7 @@ module _ (site : Site) (now : Standing) where
 
   in-due : (p : Phase) (what : DueWord) (c : Call) (desk : Desk) → Keeps c.opening (due_in p site now what c desk)
   in-due (Offered x) what c desk = offered-due x what c desk
-  in-due (Stood x stage) what c desk = keep-if c.opening (is_due_at stage what) (rung_out stage site now.at x c desk) (onward c desk) (rung-stays stage x c desk) refl
+  in-due (Stood x stage) what c desk = keep-if c.opening (is_due_at stage c.successes what) (rung_out stage site now.at x c desk) (onward c desk) (rung-stays stage x c desk) refl
   in-due (Lent loan) what c desk = refl
   in-due (Over cause) what c desk = refl
 

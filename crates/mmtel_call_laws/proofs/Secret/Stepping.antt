@@ -104,12 +104,12 @@ module _ (heads : Heads) (law : VerdictsSeeAnswersAlone) (records : List Sheet) 
   silence-alike (Lent loan) who c one other can kept served a = on-alike heads site keys who c one other a
   silence-alike (Over cause) who c one other can kept served a = on-alike heads site keys who c one other a
 
-  due-alike : (p : Phase) (who : Identities2) (what : DueWord) (c : Call) (one other : Desk) → CanGoOn records T now who c → ServedIn p records → AlikeDesks T one other →
+  due-alike : (p : Phase) (who : Identities2) (what : DueWord) (c : Call) (one other : Desk) → CanGoOn records T now who c → phase_is_asked T p → ServedIn p records → AlikeDesks T one other →
       AlikeSteps T (due_in (public_phase known p) site now what (public_call known who c) one) (due_in p site now what c other)
-  due-alike (Offered x) who what c one other can served a = deadlines_while_offered heads law records site keys now who x what c one other can served a
-  due-alike (Stood x stage) who what c one other can served a = deadlines_once_answered heads stage site keys who now.at x what c one other a
-  due-alike (Lent loan) who what c one other can served a = on-alike heads site keys who c one other a
-  due-alike (Over cause) who what c one other can served a = on-alike heads site keys who c one other a
+  due-alike (Offered x) who what c one other can kept served a = deadlines_while_offered heads law records site keys now who x what c one other can served a
+  due-alike (Stood x stage) who what c one other can kept served a = deadlines_once_answered heads stage site keys who now.at x what c one other kept a
+  due-alike (Lent loan) who what c one other can kept served a = on-alike heads site keys who c one other a
+  due-alike (Over cause) who what c one other can kept served a = on-alike heads site keys who c one other a
 
   -- ---- by the branch of the INVITE
 
@@ -160,7 +160,7 @@ module _ (heads : Heads) (law : VerdictsSeeAnswersAlone) (records : List Sheet) 
       subst (λ (o : Option (List ℕ)). AlikeSteps T (answer_to o site now key (without_private role response) (public_call known who c) one) (answer_to (invite_answered response) site now key response c other)) (sym (answered_same role response))
       (answer-alike (invite_answered response) who key role response c one other can kept served hears a)
   step-alike (signal.Silent branch method) who role c one other can kept served hears a = silence_of-alike (invite_silent branch method) who c one other can kept served a
-  step-alike (signal.Due what) who role c one other can kept served hears a = due-alike c.phase who what c one other can served a
+  step-alike (signal.Due what) who role c one other can kept served hears a = due-alike c.phase who what c one other can kept served a
   step-alike (signal.Ended key) who role c one other can kept served hears a = on-alike-by heads site keys who (without_key key (public_call known who c)) (without_key key c) one other (key_public key who c) a
 
 pub steps_see_public_parts : Heads → VerdictsSeeAnswersAlone → StepsSeePublicParts

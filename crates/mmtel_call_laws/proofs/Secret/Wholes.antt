@@ -21,6 +21,7 @@ value_kept kind.Served v = refl
 value_kept kind.Privacy v = refl
 value_kept kind.History v = refl
 value_kept kind.Options v = refl
+value_kept kind.Session v = refl
 value_kept kind.Passed v = refl
 value_kept kind.Personal v = refl
 value_kept kind.Trusted v = refl

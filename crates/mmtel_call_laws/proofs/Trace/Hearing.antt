@@ -1,5 +1,5 @@
 -- What a call that is offered does on each signal: it waits on for its attempt, or the attempt ends and the call goes on or is over.
-use Rattle.std.proofs.Common.{◌≡◌, ◌≤◌, ◌+◌, ℕ, ◌==◌, Bool, true, false, not, List, [], ◌∷◌, Option, Some, None, refl, ap, sym, subst, ◌∙◌, arith, nat_lt, ◌&&◌, ◌||◌, Result, Ok, Err}
+use Rattle.std.proofs.Common.{◌≡◌, ◌≤◌, ◌+◌, ℕ, ◌==◌, Bool, true, false, not, List, [], ◌∷◌, Option, Some, None, refl, ap, sym, subst, ◌∙◌, arith, nat_lt, ◌&&◌, ◌||◌, Result, Ok, Err, append-nil, ◌++◌}
 use Rattle.std.proofs.lemmas.Bool.Decides.{nat_tests}
 use Rattle.std.specs.Prelude.{if◌then◌else◌, is_ok}
 use Rattle.std.specs.Str.{bytes_eq}
@@ -24,7 +24,7 @@ use Rattle.mmtel_call.specs.Closing.{Step, onward}
 use Rattle.mmtel_call.specs.Diverting.{goes_on}
 use Rattle.mmtel_call.specs.Leaving.{without_key, without_silent}
 use Rattle.mmtel_call.specs.Requests.{is_bye, says, unheard, unlisted}
-use Rattle.mmtel_call.specs.Ringing.{ack_time, answered, armed, armed_in, callee_after, cancelled_attempt, early_said, failed, given_up, heard_by, left, met_by, next_success, on_due, on_request, on_request_if, on_response, proceeding, timed_out, tried}
+use Rattle.mmtel_call.specs.Ringing.{ack_time, answered, armed, armed_in, callee_after, cancelled_attempt, early_said, failed, given_up, heard_by, left, met_by, next_success, on_due, on_request, on_request_if, on_response, proceeding, timed_out, tried, expiry_in}
 use Rattle.mmtel_call.specs.Sending.{relayed_to_caller, replied_to, told_caller}
 use Rattle.mmtel_call.specs.Table.{answer_to, silence_of, step}
 use Rattle.mmtel_call.specs.Tried.{TriedView}
@@ -40,6 +40,7 @@ use Rattle.mmtel_call_laws.specs.Trace.Seen.{Armed, Going, Mark, last_by, last_b
 use Rattle.mmtel_call_laws.proofs.Trace.Going.{Moves, goes_on_moves, over_moves}
 use Rattle.mmtel_call_laws.proofs.Trace.Reading.{Adds, adds_emit, adds_nothing, adds_quiet, own_deadline}
 use Rattle.mmtel_call_laws.proofs.Trace.Sending.{Unseen, cancelled_unseen, final_acked_unseen, other_waits, relayed_unseen, replied_unseen, told_unseen, unheard_unseen, unlisted_unseen}
+use Rattle.mmtel_session.specs.Intervals.{expiry_after}
 
 -- the no-reply time of the record by which the call was offered
 abbrev pub its_time : Trial → Option ℕ
@@ -226,11 +227,18 @@ module _ (site : Site) (now : Standing) (x : Trial) (c : Call) (before : Desk) w
         adds = adds;
       })
 
+  -- what is armed for the session of a 2xx is of no attempt
+  expiries_quiet : (timer : Bool) (time : Option ℕ) (desk : Desk) → Adds site.sip c.opening.number before desk [] →
+      Adds site.sip c.opening.number before (record desk { out = desk.out ++ (if timer then expiry_in time now.at (offered x c) else []) }) []
+  expiries_quiet true None desk had = simp append-nil had
+  expiries_quiet true (Some time) desk had = adds_quiet site.sip c.opening.number before desk _ [] (own_deadline site.sip c.opening.number (due.Expired (next_success c)) (now.at + time)) had
+  expiries_quiet false time desk had = simp append-nil had
+
   answers : (rings_now : Bool) (key : TKey) (m : Said) (how : End) (desk : Desk) → So desk → Does Last rings_now (Some how) (answered site now.at x key m (offered x c) desk)
   answers rings_now key m how desk had =
       let relayed = relayed_to_caller site (offered x c) x.attempt.service m desk in
       let none = adds_quiet site.sip c.opening.number before relayed _ [] (own_deadline site.sip c.opening.number (due.NoAck (next_success c)) (now.at + ack_time)) (relayed_unseen site c.opening.number before (offered x c) x.attempt.service m desk had) in
-      Leaves how refl (record { marks = []; adds = none; came = refl })
+      Leaves how refl (record { marks = []; adds = expiries_quiet site.timer (expiry_after m.heard.session) _ none; came = refl })
 
   -- by the class of its status
   class_passes : (key : TKey) (m : Said) (code : ℕ) (trying provisional success : Bool) (desk : Desk) → (trying ≡ true → provisional ≡ true) → (trying ≡ true → rings code ≡ false) → So desk →

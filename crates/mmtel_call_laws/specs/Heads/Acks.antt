@@ -9,7 +9,7 @@ use Rattle.mmtel_call.specs.declared.calls.Phase.{Phase}
 use Rattle.mmtel_call.specs.declared.calls.Phase.TheVariants.{Lent, Offered, Over, Stood}
 use Rattle.mmtel_call.specs.declared.signals.Signal.{Signal}
 use Rattle.mmtel_call.specs.declared.signals.Signal.TheVariants as signal
-use Rattle.mmtel_call_decisions.specs.Showing.{facing}
+use Rattle.mmtel_call_decisions.specs.Showing.{facing_at}
 use Rattle.mmtel_call_decisions.specs.Site.{Site, trusts}
 use Rattle.mmtel_call_laws.specs.Story.{Heard, Start, call_after}
 use Rattle.mmtel_history.specs.declared.entries.Entry.{Entry}
@@ -34,7 +34,7 @@ abbrev pub acked_across : Site → Call → Pair → Side → Said → Acked
 acked_across site c x side ack = record {
   ack = ack;
   dialogue = (leg_of (other_of side) x).dialogue;
-  facing = facing c.opening x.service side ack;
+  facing = facing_at site c.opening x.service side ack;
   to_trusted = trusts site (leg_of (other_of side) x).dialogue.peer;
 }
 

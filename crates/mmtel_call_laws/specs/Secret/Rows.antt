@@ -81,10 +81,10 @@ SilenceOnceAnswered = (stage : Stage) (site : Site) (keys : TKey → Bool) (who 
     AlikeSteps (trust_of site keys) (on_silence_at (public_stage (trusts site) stage) site at (public_pair (trusts site) x) (public_call (trusts site) who c) one)
     (on_silence_at stage site at x c other)
 
--- a 2xx that had no ACK
+-- a 2xx that had no ACK, and a session that nobody refreshed
 abbrev pub DeadlinesOnceAnswered : Type 0
 DeadlinesOnceAnswered = (stage : Stage) (site : Site) (keys : TKey → Bool) (who : Identities2) (at : ℕ) (x : Pair) (what : DueWord) (c : Call) (one other : Desk) →
-    AlikeDesks (trust_of site keys) one other →
+    stage_is_asked (trust_of site keys) stage → AlikeDesks (trust_of site keys) one other →
     AlikeSteps (trust_of site keys) (on_due_at (public_stage (trusts site) stage) site at (public_pair (trusts site) x) what (public_call (trusts site) who c) one)
     (on_due_at stage site at x what c other)
 

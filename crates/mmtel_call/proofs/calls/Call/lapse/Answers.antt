@@ -1,12 +1,8 @@
 -- what is done is told of the stage that the call had
-use Rattle.std.proofs.Common.{◌≡◌, Result, Ok, Err, OnOk, refl, subst, sym}
+use Rattle.std.proofs.Common.{◌≡◌, OnOk, subst, sym}
 use Rattle.mmtel_call.specs.Calls.{Stage, Stood}
 use Rattle.mmtel_call.specs.Stages.{rung_out}
 use Rattle.mmtel_call.proofs.calls.Call.lapse.Goals as goal
-
-always : {T E P : Type 0} (r : Result T E) → P → OnOk r P
-always (Ok x) p = p
-always (Err e) p = tt
 
 pub returns-in-Answered-clause-call : goal.returns-in-Answered-clause-call
 returns-in-Answered-clause-call c =
@@ -34,24 +30,24 @@ returns-in-Parting-clause-desk c =
 
 pub returns-in-Talking-clause-call : goal.returns-in-Talking-clause-call
 returns-in-Talking-clause-call c =
-    subst (λ (s : Stage). OnOk c.stay.result (c.stay.new.self
+    subst (λ (s : Stage). OnOk c.expire.result (c.expire.new.self
     ≡ (rung_out s c.args.step.now.setting.now c.args.step.now.present.at c.args.x (record c.args.self.now { phase = Stood c.args.x s }) c.args.desk.now).call))
-    (sym c.in-Talking.is) (always c.stay.result c.stay.ensures)
+    (sym c.in-Talking.is) c.expire.ensures.call
 
 pub returns-in-Talking-clause-desk : goal.returns-in-Talking-clause-desk
 returns-in-Talking-clause-desk c =
-    subst (λ (s : Stage). OnOk c.stay.result (c.args.desk.now
+    subst (λ (s : Stage). OnOk c.expire.result (c.expire.new.desk
     ≡ (rung_out s c.args.step.now.setting.now c.args.step.now.present.at c.args.x (record c.args.self.now { phase = Stood c.args.x s }) c.args.desk.now).desk))
-    (sym c.in-Talking.is) (always c.stay.result refl)
+    (sym c.in-Talking.is) c.expire.ensures.desk
 
 pub returns-in-Asking-clause-call : goal.returns-in-Asking-clause-call
 returns-in-Asking-clause-call c =
-    subst (λ (s : Stage). OnOk c.stay-in-Asking.result (c.stay-in-Asking.new.self
+    subst (λ (s : Stage). OnOk c.expire_asking.result (c.expire_asking.new.self
     ≡ (rung_out s c.args.step.now.setting.now c.args.step.now.present.at c.args.x (record c.args.self.now { phase = Stood c.args.x s }) c.args.desk.now).call))
-    (sym c.in-Asking.is) (always c.stay-in-Asking.result c.stay-in-Asking.ensures)
+    (sym c.in-Asking.is) c.expire_asking.ensures.call
 
 pub returns-in-Asking-clause-desk : goal.returns-in-Asking-clause-desk
 returns-in-Asking-clause-desk c =
-    subst (λ (s : Stage). OnOk c.stay-in-Asking.result (c.args.desk.now
+    subst (λ (s : Stage). OnOk c.expire_asking.result (c.expire_asking.new.desk
     ≡ (rung_out s c.args.step.now.setting.now c.args.step.now.present.at c.args.x (record c.args.self.now { phase = Stood c.args.x s }) c.args.desk.now).desk))
-    (sym c.in-Asking.is) (always c.stay-in-Asking.result refl)
+    (sym c.in-Asking.is) c.expire_asking.ensures.desk

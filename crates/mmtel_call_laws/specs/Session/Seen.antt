@@ -1,0 +1,134 @@
+-- What is seen of the session of a call from outside: the 2xx that the call passes on, the deadlines of sessions that go out, each with its moment, and the BYEs. By these alone
+-- it is told which deadline is that of the last 2xx (RFC 4028 §7.2, §10; RFC 3261 §13.3.1.4, §14, §15).
+use Rattle.std.specs.Prelude.{ℕ, ◌==◌, Bool, false, if◌then◌else◌, Option, Some, None, List, [], ◌∷◌, ◌++◌, codes}
+use Rattle.std.specs.List.{list_any}
+use Rattle.mmtel_answers.specs.Said.{Said, status_of}
+use Rattle.mmtel_desk.specs.Invites.{invite_answered}
+use Rattle.mmtel_leg.specs.Dialogues.{request_uri}
+use Rattle.mmtel_message.specs.Faults.{is_method}
+use Rattle.mmtel_scan.specs.Numbers.{next_number}
+use Rattle.mmtel_transaction.specs.declared.words.DueWord.{DueWord}
+use Rattle.mmtel_transaction.specs.declared.words.DueWord.TheVariants as due
+use Rattle.mmtel_transaction.specs.declared.words.Emit.{Emit}
+use Rattle.mmtel_transaction.specs.declared.words.Emit.TheVariants as emit
+use Rattle.mmtel_types.specs.declared.numbers.CallNo.{CallNo}
+use Rattle.mmtel_types.specs.declared.numbers.Peer.{Peer}
+use Rattle.mmtel_call.specs.Leaving.{is_success}
+use Rattle.mmtel_call.specs.declared.signals.Signal.{Signal}
+use Rattle.mmtel_call.specs.declared.signals.Signal.TheVariants as signal
+use Rattle.mmtel_call_laws.specs.Story.{Heard, Start, added, call_after, first_step, next_step}
+use Rattle.mmtel_call_laws.specs.Trace.Seen.{Deadline}
+
+-- ---- the 2xx that is passed on
+
+-- a 2xx to an INVITE of the server is heard
+abbrev pub success_to : Option (List ℕ) → Said → Option Said
+success_to None m = None
+success_to (Some branch) m = if is_success (status_of m.heard.start) then Some m else None
+
+abbrev pub success_heard : Signal → Option Said
+success_heard (signal.Request side key request) = None
+success_heard (signal.Ack side ack) = None
+success_heard (signal.Cancel key cancel invite) = None
+success_heard (signal.Answer key response) = success_to (invite_answered response) response
+success_heard (signal.Silent branch method) = None
+success_heard (signal.Due what) = None
+success_heard (signal.Ended key) = None
+
+-- a 2xx goes out
+abbrev pub is_accepted : Emit → Bool
+is_accepted (emit.Ask peer m) = false
+is_accepted (emit.Reply asked m) = is_success (status_of m.start)
+is_accepted (emit.Plain peer text) = false
+is_accepted (emit.Ack asked m) = false
+is_accepted (emit.Arm call what at) = false
+is_accepted (emit.ArmSeat room seat what at) = false
+
+-- the one that is heard is passed on: in the step in which it is heard one goes out
+abbrev pub passed_on : Signal → List Emit → Option Said
+passed_on heard out = if list_any is_accepted out then success_heard heard else None
+
+-- ---- the deadlines of sessions that go out
+
+-- of the call itself
+abbrev pub expiry_by : (is_own : Bool) → DueWord → (at : ℕ) → List Deadline
+expiry_by is_own (due.NoReply number) at = []
+expiry_by is_own (due.NoPrack number) at = []
+expiry_by is_own (due.Cap number) at = []
+expiry_by is_own (due.NoAck number) at = []
+expiry_by is_own (due.Expired number) at = if is_own then record { what = due.Expired number; at = at } ∷ [] else []
+
+-- where the call has this number
+abbrev pub expiry_of : CallNo → Emit → List Deadline
+expiry_of own (emit.Ask peer m) = []
+expiry_of own (emit.Reply asked m) = []
+expiry_of own (emit.Plain peer text) = []
+expiry_of own (emit.Ack asked m) = []
+expiry_of own (emit.Arm call what at) = expiry_by (call.0 == own.0) what at
+expiry_of own (emit.ArmSeat room seat what at) = []
+
+abbrev pub expiries_of : CallNo → List Emit → List Deadline
+expiries_of own [] = []
+expiries_of own (e ∷ later) = expiry_of own e ++ expiries_of own later
+
+-- ---- the session
+
+-- a 2xx that was passed on, and the moment of that step
+pub record Agreed : Type 0 where
+  pub at : ℕ
+  pub said : Said
+
+pub record Session : Type 0 where
+  -- so many were passed on; the count stands still at 2^64 - 1
+  pub count : ℕ
+  -- the last of them, if there was one
+  pub last : Option Agreed
+  -- the deadlines that went out before its step, and those that went out in it and since
+  pub earlier : List Deadline
+  pub armed : List Deadline
+
+-- in a step at this moment, in which this 2xx was passed on, if one was, and these deadlines went out: a 2xx begins the session anew
+abbrev pub agreed_by : (now : ℕ) → Session → Option Said → List Deadline → Session
+agreed_by now w None armed = record w { armed = w.armed ++ armed }
+agreed_by now w (Some m) armed = record { count = next_number w.count; last = Some (record { at = now; said = m }); earlier = w.earlier ++ w.armed; armed = armed }
+
+-- after what was heard and went out in it
+abbrev pub session_by : (now : ℕ) → CallNo → Signal → List Emit → Session → Session
+session_by now own heard out w = agreed_by now w (passed_on heard out) (expiries_of own out)
+
+-- as the call opens, when these go out
+abbrev pub session_at_first : CallNo → List Emit → Session
+session_at_first own out = record { count = 0; last = None; earlier = []; armed = expiries_of own out }
+
+-- ---- in a story
+
+unfoldable pub session_after : Start → List Heard → Session
+session_after s [] = session_at_first s.arrival.number (added s.desk.out (first_step s).desk.out)
+session_after s (x ∷ earlier) =
+    session_by x.now.at s.arrival.number x.signal (added x.desk.out (next_step s x (call_after s earlier)).desk.out) (session_after s earlier)
+
+-- ---- how it ends
+
+-- a side is left: the peer of a BYE that goes out, and its Request-URI
+abbrev pub bye_of : Emit → List (Peer × List ℕ)
+bye_of (emit.Ask peer m) = if is_method (codes "BYE") m.start then (peer, request_uri m.start) ∷ [] else []
+bye_of (emit.Reply asked m) = []
+bye_of (emit.Plain peer text) = []
+bye_of (emit.Ack asked m) = []
+bye_of (emit.Arm call what at) = []
+bye_of (emit.ArmSeat room seat what at) = []
+
+abbrev pub byes_of : List Emit → List (Peer × List ℕ)
+byes_of [] = []
+byes_of (e ∷ later) = bye_of e ++ byes_of later
+
+-- a deadline of this number is among these
+abbrev pub carries : ℕ → DueWord → Bool
+carries number (due.NoReply other) = false
+carries number (due.NoPrack other) = false
+carries number (due.Cap other) = false
+carries number (due.NoAck other) = false
+carries number (due.Expired other) = number == other
+
+abbrev pub is_among : ℕ → List Deadline → Bool
+is_among number deadlines = list_any (λ (deadline : Deadline). carries number deadline.what) deadlines

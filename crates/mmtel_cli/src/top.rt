@@ -14,6 +14,7 @@ ghost use Rattle.mmtel_cli.specs.Runs.{CalledFor, CountsAtFive, CountsAtFour, Ra
 ghost use Rattle.mmtel_cli.specs.Serving.{IsUnbound};
 ghost use Rattle.mmtel_outside.specs.Shelf.{called};
 ghost use Rattle.mmtel_reports.specs.Ends.{written_by};
+ghost use Rattle.mmtel_run_laws.specs.Sessions.{ShortSessionsAreRefused};
 ghost use Rattle.mmtel_script.specs.Script.{unheard};
 ghost use Rattle.mmtel_server.specs.Seen.{keeper_seen};
 
@@ -30,6 +31,7 @@ use mmtel_reports::{Report, write_report};
 use mmtel_run_laws::{
     bytes_are_seen, calls_of_runs_come_to_their_outcome, configurations_are_read,
     homes_of_configurations_are_clean, runs_send_clean_messages, seats_of_runs_are_charged_once,
+    short_sessions_are_refused,
 };
 use mmtel_scan::{NoMemory, Text};
 use mmtel_script::{ScriptFault, ScriptLink};
@@ -291,6 +293,8 @@ pub fn run<F: Files, L: Link, K: Keeper, S: Sink>(
     ensures ran { Ran (F.told files.old)
         (outside_seen L.Link link.old K.Keeper keeper.old) (outside_seen L.Link link.new K.Keeper keeper.new)
         words.now (written_by S.Sink result out.old out.new) }
+    // By those definitions a 422 of the server's own is offered to an INVITE or UPDATE whose session is too short, and to nothing else, and nothing else is done with that.
+    ensures sessions { ShortSessionsAreRefused }
     // What was asked of the files.
     ensures calls { IfSome (F.told files.old) (λ shelf. CalledFor shelf words.now result (F.told files.new)) }
     // When the count of their faults rose.
@@ -308,6 +312,7 @@ pub fn run<F: Files, L: Link, K: Keeper, S: Sink>(
     homes_of_configurations_are_clean();
     configurations_are_read();
     bytes_are_seen();
+    short_sessions_are_refused();
     let due = prepare::<F, L, K, Brand>(alloc, words, files, link, keeper, Blank::new(1));
     let status = write_report(&due, out);
     drop(due);

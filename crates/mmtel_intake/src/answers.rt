@@ -1,11 +1,11 @@
 //! What may be done with a request that opens a transaction, and what is answered to it.
 ghost use Rattle.std.specs.Prelude.{◌≡◌, IfOk};
-ghost use Rattle.mmtel_run.specs.Answers.{allowing, further_methods, plainly};
+ghost use Rattle.mmtel_run.specs.Answers.{allowing, further_methods, plainly, too_small};
 ghost use Rattle.mmtel_intake.specs.Courses.{answer_in};
 
 use mmtel_answers::{FurtherMethods, allowed};
 use mmtel_directory::Directory;
-use mmtel_message::Line;
+use mmtel_message::{Line, add_bytes};
 use mmtel_scan::{List, NoMemory};
 use mmtel_types::{Account, CallNo, RoomNo, Side};
 use std::alloc::Global;
@@ -15,7 +15,7 @@ use std::alloc::Global;
 pub struct Answer {
     /// The status.
     pub code: u16,
-    /// The lines that are named for it: Allow (RFC 3261 §20.5) or Unsupported (§20.40).
+    /// The lines that are named for it: Allow (RFC 3261 §20.5), Unsupported (§20.40) or Min-SE (RFC 4028 §5).
     pub named: List<Line>,
 }
 
@@ -101,6 +101,16 @@ pub fn allowing(alloc: Global, directory: &Directory, code: u16) -> Result<Answe
 {
     let named = allowed(alloc, further_methods(directory))?;
     Ok(Answer { code, named })
+}
+
+/// The answer to a request that asks for too short a session, with the least interval that is taken (RFC 4028 §6).
+#[tactic(auto, unfolding(mmtel_message::specs::Message::line))]
+pub fn too_small(alloc: Global) -> Result<Answer, NoMemory>
+    ensures { IfOk result (λ answer. answer_in answer ≡ too_small) }
+{
+    let mut named = List::new();
+    add_bytes(alloc, &mut named, b"Min-SE", b"90")?;
+    Ok(Answer { code: 422, named })
 }
 
 /// The answer to a request that requires what the server does not support, with a line for each option (RFC 3261 §20.40).

@@ -6,14 +6,14 @@ ghost use Rattle.mmtel_lex.specs.Reading.{uri_of};
 ghost use Rattle.mmtel_sdp.specs.Offers.{offers_audio};
 ghost use Rattle.mmtel_trust.specs.MaskedMessages.{public_part};
 ghost use Rattle.mmtel_run.specs.Audio.{is_for_room};
-ghost use Rattle.mmtel_run.specs.Refusals.{by_method, course, course_in as course_in_dialog, in_dialog, invited, invited_at, invited_to, is_known_method};
-ghost use Rattle.mmtel_run.specs.Refusals.{is_factory, is_room, is_room_number, is_room_user, opening, room_number, with_audio};
+ghost use Rattle.mmtel_run.specs.Refusals.{by_method, course, course_by, course_in as course_in_dialog, first_that_applies, in_dialog, invited, invited_at, invited_to, is_known_method};
+ghost use Rattle.mmtel_run.specs.Refusals.{is_factory, is_room, is_room_number, is_room_user, opening, room_number, session_refusals, with_audio};
 ghost use Rattle.mmtel_intake.specs.Courses.{course_in, holder_in};
 ghost use Rattle.mmtel_intake.specs.Targets.{target_in};
 
-use crate::answers::{Course, Holder, allowing, plainly, without_extension};
+use crate::answers::{Course, Holder, allowing, plainly, too_small, without_extension};
 use crate::refusals::{
-    Target, is_foreign, is_known_method, is_last_hop, read_target, unsupported_lines,
+    Target, is_foreign, is_known_method, is_last_hop, is_timed, read_target, unsupported_lines,
 };
 use crate::registrations::registration;
 use crate::replies::is_untagged;
@@ -26,6 +26,7 @@ use mmtel_parties::names_server;
 use mmtel_run::rooms_are_for_audio;
 use mmtel_scan::{Class, NoMemory, is_all, leads_zero, skip_text};
 use mmtel_sdp::offers_audio;
+use mmtel_session::{SessionFault, check};
 use mmtel_types::{Addr, RoomNo};
 use std::alloc::Global;
 
@@ -201,6 +202,29 @@ fn course_in_dialog(
     }
 }
 
+/// What is done with a request that is refused for nothing but the session that it may ask for (RFC 4028 §6).
+fn course_in_session(
+    alloc: Global,
+    directory: &Directory,
+    target: &Target,
+    standing: &Standing,
+    request: &Hearing,
+) -> Result<Course, NoMemory>
+    requires { target_in target.now ≡ uri_of (request_uri request.now.heard.start) }
+    ensures { IfOk result (λ c. course_in c
+        ≡ course_by directory.now standing.now.full (option_map holder_in standing.now.named) (public_part request.now.heard)
+        (first_that_applies (session_refusals directory.now (public_part request.now.heard)))) }
+{
+    if !is_timed(directory, request.message.start()) {
+        return course_in_dialog(alloc, directory, target, standing, request);
+    }
+    match check(&request.message) {
+        Ok(_) => course_in_dialog(alloc, directory, target, standing, request),
+        Err(SessionFault::Malformed) => Ok(Course::Refuse(plainly(400))),
+        Err(SessionFault::Small { interval: _ }) => Ok(Course::Refuse(too_small(alloc)?)),
+    }
+}
+
 /// What is done with a request of a method that the server knows, to this target.
 #[tactic(auto, unfolding(mmtel_run::specs::Refusals::course, mmtel_run::specs::Refusals::is_foreign))]
 fn course_to(
@@ -231,7 +255,7 @@ fn course_to(
     if !lines.items().is_empty() {
         return Ok(Course::Refuse(without_extension(lines)));
     }
-    course_in_dialog(alloc, directory, target, standing, request)
+    course_in_session(alloc, directory, target, standing, request)
 }
 
 /// What is done with a request, by the first refusal that applies, its dialog, or its method.

@@ -5,7 +5,7 @@ ghost use Rattle.mmtel_leg.specs.Dialogues.{request_uri};
 ghost use Rattle.mmtel_lex.specs.Reading.{uri_of};
 ghost use Rattle.mmtel_run.specs.Answers.{is_unsupported, unsupported, unsupported_line};
 ghost use Rattle.mmtel_message.specs.Faults.{is_method};
-ghost use Rattle.mmtel_run.specs.Refusals.{always_known, is_foreign_uri, is_known_method, is_last_hop};
+ghost use Rattle.mmtel_run.specs.Refusals.{always_known, is_foreign_uri, is_known_method, is_last_hop, is_timed};
 ghost use Rattle.mmtel_intake.specs.Targets.{target_in};
 
 use mmtel_answers::Hearing;
@@ -70,6 +70,13 @@ pub fn is_known_method(directory: &Directory, start: &Start) -> bool
     is_always_known(start)
         || directory.reliable && (is_method(b"PRACK", start) || is_method(b"UPDATE", start))
         || directory.names.mwi && is_method(b"SUBSCRIBE", start)
+}
+
+/// Whether the request may ask for a session with a timer, where sessions have timers (RFC 4028 §3, §7.1).
+pub fn is_timed(directory: &Directory, start: &Start) -> bool
+    ensures { result ≡ is_timed directory.now start.now }
+{
+    directory.timer && (is_method(b"INVITE", start) || is_method(b"UPDATE", start))
 }
 
 /// Whether no hops are left (RFC 3261 §16.3).

@@ -290,8 +290,8 @@ silence_at-on (Asking asking q) site at x c d = twice d
 rung-on : (stage : Stage) (site : Site) (at : ℕ) (x : Pair) (c : Call) (d : Desk) → On d (rung_out stage site at x c d).desk
 rung-on (Answered waiting success) site at x c d = thrice d
 rung-on (Parting waiting success) site at x c d = once d
-rung-on Talking site at x c d = none d
-rung-on (Asking asking q) site at x c d = none d
+rung-on Talking site at x c d = twice d
+rung-on (Asking asking q) site at x c d = twice d
 
 -- ---- other INVITEs
 
@@ -376,7 +376,7 @@ cancel_in-on (Over cause) site at key m invite c d = none d
 
 due_in-on : (p : Phase) (site : Site) (now : Standing) (what : DueWord) (c : Call) (d : Desk) → On d (due_in p site now what c d).desk
 due_in-on (Offered x) site now what c d = due-on what site now x c d
-due_in-on (Stood x stage) site now what c d = either_step (is_due_at stage what) d (rung_out stage site now.at x c d) (onward c d) (rung-on stage site now.at x c d) (none d)
+due_in-on (Stood x stage) site now what c d = either_step (is_due_at stage c.successes what) d (rung_out stage site now.at x c d) (onward c d) (rung-on stage site now.at x c d) (none d)
 due_in-on (Lent loan) site now what c d = none d
 due_in-on (Over cause) site now what c d = none d
 

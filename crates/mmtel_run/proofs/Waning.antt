@@ -162,8 +162,8 @@ offered-wanes (due.Expired number) site now x c desk is = stays c c desk refl
 rung-wanes : (stage : Stage) (site : Site) (at : ℕ) (x : Pair) (c : Call) (desk : Desk) → c.phase ≡ Stood x stage → Wanes c desk (rung_out stage site at x c desk)
 rung-wanes (Answered waiting success) site at x c desk is = ends x (Answered waiting success) c desk (rung_out (Answered waiting success) site at x c desk) is refl
 rung-wanes (Parting waiting success) site at x c desk is = ends x (Parting waiting success) c desk (rung_out (Parting waiting success) site at x c desk) is refl
-rung-wanes Talking site at x c desk is = stays c c desk refl
-rung-wanes (Asking asking q) site at x c desk is = stays c c desk refl
+rung-wanes Talking site at x c desk is = ends x Talking c desk (rung_out Talking site at x c desk) is refl
+rung-wanes (Asking asking q) site at x c desk is = ends x (Asking asking q) c desk (rung_out (Asking asking q) site at x c desk) is refl
 
 stage-wanes : (b : Bool) (stage : Stage) (site : Site) (at : ℕ) (x : Pair) (c : Call) (desk : Desk) → c.phase ≡ Stood x stage → Wanes c desk (if b then rung_out stage site at x c desk else onward c desk)
 stage-wanes true stage site at x c desk is = rung-wanes stage site at x c desk is
@@ -171,7 +171,7 @@ stage-wanes false stage site at x c desk is = stays c c desk refl
 
 due-wanes : (p : Phase) (site : Site) (now : Standing) (what : DueWord) (c : Call) (desk : Desk) → c.phase ≡ p → Wanes c desk (due_in p site now what c desk)
 due-wanes (Offered x) site now what c desk is = offered-wanes what site now x c desk is
-due-wanes (Stood x stage) site now what c desk is = stage-wanes (is_due_at stage what) stage site now.at x c desk is
+due-wanes (Stood x stage) site now what c desk is = stage-wanes (is_due_at stage c.successes what) stage site now.at x c desk is
 due-wanes (Lent loan) site now what c desk is = stays c c desk refl
 due-wanes (Over cause) site now what c desk is = stays c c desk refl
 

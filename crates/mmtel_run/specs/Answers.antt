@@ -1,5 +1,5 @@
 -- The answers that the server makes of its own (RFC 3261 §8.2, §8.2.6, §20.5, §20.40).
-use Rattle.std.specs.Prelude.{ℕ, ◌+◌, Bool, not, ◌&&◌, ◌||◌, if◌then◌else◌, List, [], map, filter, codes, Option, Some, is_none}
+use Rattle.std.specs.Prelude.{ℕ, ◌+◌, Bool, not, ◌&&◌, ◌||◌, if◌then◌else◌, List, [], ◌∷◌, map, filter, codes, Option, Some, is_none}
 use Rattle.std.specs.Str.{bytes_eq}
 use Rattle.mmtel_answers.specs.Answers.{allowed, own_answer}
 use Rattle.mmtel_answers.specs.Said.{Said, phrase_in, status_of}
@@ -49,6 +49,10 @@ unsupported_line option = (codes "Unsupported", option)
 -- 420, with a line for each of them (§20.40)
 abbrev pub without_extension : Directory → HeardMessage → Answer
 without_extension directory message = record { code = 420; named = map unsupported_line (unsupported directory message) }
+
+-- 422, with the least interval that is taken (RFC 4028 §6)
+abbrev pub too_small : Answer
+too_small = record { code = 422; named = (codes "Min-SE", codes "90") ∷ [] }
 
 -- ---- the tag
 

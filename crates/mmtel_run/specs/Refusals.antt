@@ -1,5 +1,5 @@
 -- What is done with a request that opens a transaction: the first refusal that applies (RFC 3261 §8.2), or what its dialog or its method asks for. It reads public parts alone.
-use Rattle.std.specs.Prelude.{◌++◌, ℕ, Bool, true, false, not, ◌&&◌, ◌==◌, if◌then◌else◌, List, [], ◌∷◌, length, codes, Option, Some, None, is_none, is_some, Ok, Err}
+use Rattle.std.specs.Prelude.{◌++◌, ℕ, Bool, true, false, not, ◌&&◌, ◌||◌, ◌==◌, if◌then◌else◌, List, [], ◌∷◌, length, codes, Option, Some, None, is_none, is_some, Ok, Err}
 use Rattle.std.specs.List.{list_all, list_any}
 use Rattle.std.specs.Option.{unwrap_or}
 use Rattle.std.specs.declared.result.Result.{Result}
@@ -19,6 +19,9 @@ use Rattle.mmtel_scan.specs.Numbers.{leads_zero}
 use Rattle.mmtel_scan.specs.Scanning.{after_text}
 use Rattle.mmtel_scan.specs.declared.classes.Class.TheVariants.{Digit}
 use Rattle.mmtel_sdp.specs.Offers.{offers_audio}
+use Rattle.mmtel_session.specs.Intervals.{check}
+use Rattle.mmtel_session.specs.declared.intervals.SessionFault.{SessionFault}
+use Rattle.mmtel_session.specs.declared.intervals.SessionFault.TheVariants as session
 use Rattle.mmtel_trust.specs.Digest.{HeardMessage}
 use Rattle.mmtel_trust.specs.MaskedMessages.{public_part}
 use Rattle.mmtel_trust.specs.Accounts.{account_of}
@@ -29,7 +32,7 @@ use Rattle.mmtel_types.specs.declared.numbers.Account.{Account}
 use Rattle.mmtel_types.specs.declared.numbers.CallNo.{CallNo}
 use Rattle.mmtel_types.specs.declared.numbers.RoomNo.{RoomNo}
 use Rattle.mmtel_types.specs.declared.sides.Side.{Side}
-use Rattle.mmtel_run.specs.Answers.{Answer, allowing, plainly, unsupported, without_extension}
+use Rattle.mmtel_run.specs.Answers.{Answer, allowing, plainly, too_small, unsupported, without_extension}
 use Rattle.mmtel_run.specs.Rooms.{Holder, InCall, InRoom}
 
 -- ---- what may be done
@@ -84,6 +87,27 @@ abbrev pub is_last_hop : Option ℕ → Bool
 is_last_hop None = false
 is_last_hop (Some hops) = hops == 0
 
+-- a request that may ask for a session with a timer, where sessions have timers (RFC 4028 §3, §7.1)
+abbrev pub is_timed : Directory → Start → Bool
+is_timed directory start = directory.timer && (is_method (codes "INVITE") start || is_method (codes "UPDATE") start)
+
+-- the session that is asked for cannot be read, or is too short (RFC 4028 §6)
+abbrev pub is_unreadable_session : Result (Option ℕ) SessionFault → Bool
+is_unreadable_session (Ok interval) = false
+is_unreadable_session (Err session.Malformed) = true
+is_unreadable_session (Err (session.Small interval)) = false
+
+abbrev pub is_short_session : Result (Option ℕ) SessionFault → Bool
+is_short_session (Ok interval) = false
+is_short_session (Err session.Malformed) = false
+is_short_session (Err (session.Small interval)) = true
+
+-- the refusals of sessions, in their order
+abbrev pub session_refusals : Directory → HeardMessage → List (Bool × Answer)
+session_refusals directory message =
+    (is_timed directory message.start && is_unreadable_session (check message.session), plainly 400) ∷
+    (is_timed directory message.start && is_short_session (check message.session), too_small) ∷ []
+
 -- each refusal with its condition, in their order. `merged` says that another live transaction has its From tag, Call-ID and CSeq (§8.2.2.2), `named` that its dialog is
 -- that of a call or of a seat (§12.2.2)
 abbrev pub refusals : Directory → (merged named : Bool) → HeardMessage → List (Bool × Answer)
@@ -93,7 +117,7 @@ refusals directory merged named message =
     (is_last_hop message.hops, plainly 483) ∷
     (is_some message.to_tag && not named, plainly 481) ∷
     (is_none message.to_tag && merged, plainly 482) ∷
-    (not (length (unsupported directory message) == 0), without_extension directory message) ∷ []
+    (not (length (unsupported directory message) == 0), without_extension directory message) ∷ session_refusals directory message
 
 abbrev pub first_that_applies : List (Bool × Answer) → Option Answer
 first_that_applies [] = None

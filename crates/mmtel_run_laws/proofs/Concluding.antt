@@ -157,6 +157,8 @@ module _ (back : LegsGoBack) (room_replies : RoomsReplyInTheirOwn) (steps : Call
               (subst (AllAnswered (site_of d) w.deeds) all told.awaited.answered));
           seen = exact.seen;
           watched = exact.watched;
+          session = exact.session;
+          expires = exact.expires;
           lent = lent_at_once back (site_of d) number w.deeds life told.lent is;
           told =
               lives_told goes charging told_law silent ends life.start life.events

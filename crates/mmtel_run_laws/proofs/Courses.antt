@@ -157,5 +157,5 @@ pub course_clean : IsReadClean → (d : Directory) (merged full : Bool) (named :
 unfolding course
 course_clean read d merged full named m h =
     by-clean d full (public_part m) named (first_that_applies (refusals d merged (is_some named) (public_part m)))
-    (first-clean (refusals d merged (is_some named) (public_part m)) (allowed_clean (further_methods d), (refl, (refl, (refl, (refl, (without_clean d (public_part m) h.required, tt)))))))
+    (first-clean (refusals d merged (is_some named) (public_part m)) (allowed_clean (further_methods d), (refl, (refl, (refl, (refl, (without_clean d (public_part m) h.required, (refl, (refl, tt)))))))))
     (λ none. uri-clean read m.start h.uri (second-none (not (is_known_method d m.start)) (is_foreign m.start) _ _ _ none))

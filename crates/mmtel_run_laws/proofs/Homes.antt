@@ -8,7 +8,7 @@ use Rattle.mmtel_call_laws.specs.Heads.Clean.{AreClean, IsClean}
 use Rattle.mmtel_call_laws.specs.Heads.Emits.{Each}
 use Rattle.mmtel_call_laws.proofs.Heads.Bytes.{all_append, all_cons, both}
 use Rattle.mmtel_call_laws.proofs.Heads.Sending.{each_append}
-use Rattle.mmtel_directory.specs.Directory.{account_words, addr_of, directory_by, directory_from, directory_of, first_of, first_said, home_in, identities_of, is_country, is_host, is_store_name, kind_and_rest, kind_of, line_of, line_of_kind, line_of_words, next_said, peer_of, readable, route_words, sip_in, stands, trust_of, ip_of}
+use Rattle.mmtel_directory.specs.Directory.{account_words, addr_of, directory_by, directory_from, directory_of, extension_of, first_of, first_said, home_in, identities_of, is_country, is_host, is_store_name, kind_and_rest, kind_of, line_of, line_of_kind, line_of_words, next_said, peer_of, readable, route_words, sip_in, stands, trust_of, ip_of}
 use Rattle.mmtel_directory.specs.Lines.{and_then, is_remark, lines_of, number_from, said_by}
 use Rattle.mmtel_directory.specs.declared.directories.Directory.{Directory}
 use Rattle.mmtel_lex.specs.Reading.{uri_of}
@@ -79,8 +79,9 @@ kind_clean word s =
     (either _ (bytes_eq word (codes "factory")) _ _ (bind_any _ (readable (uri_of s)) _ (λ uri. refl))
     (either _ (bytes_eq word (codes "bound")) _ _ (bind_any _ (plain_number 16 s) _ (λ n. refl))
     (either _ (bytes_eq word (codes "country")) _ _ (if_some _ (is_country s) _ (λ e. refl))
+    (either _ (bytes_eq word (codes "extension")) _ _ (bind_any _ (extension_of s) _ (λ which. refl))
     (either _ (bytes_eq word (codes "mixer")) _ _ (bind_any _ (parted 32 s) _ (λ x. bind_any _ (ip_of x.0) _ (λ ip. bind_any _ (number_from 1 65535 x.1) _ (λ port. refl))))
-    (either _ (bytes_eq word (codes "store")) _ _ (if_some _ (is_store_name s) _ (λ e. refl)) tt)))))))))))
+    (either _ (bytes_eq word (codes "store")) _ _ (if_some _ (is_store_name s) _ (λ e. refl)) tt))))))))))))
 
 words_clean : (s : List ℕ) → IfSome (line_of_words s) (λ l. AreClean (home_in l))
 words_clean s =

@@ -22,6 +22,7 @@ mod Received
 mod Sheets
 mod Transacted
 mod Courses
+mod ShortSessions
 mod Acknowledging
 mod Sending
 mod Concluding

@@ -48,6 +48,7 @@ line_more said (line.Operator uri) may apart = none_more said (line.Operator uri
 line_more said (line.Factory uri) may apart = none_more said (line.Factory uri) refl apart
 line_more said (line.Bound n) may apart = none_more said (line.Bound n) refl apart
 line_more said (line.Country digits) may apart = none_more said (line.Country digits) refl apart
+line_more said (line.Extension which) may apart = none_more said (line.Extension which) refl apart
 line_more said (line.Mixer mixer) may apart = none_more said (line.Mixer mixer) refl apart
 line_more said (line.Store name) may apart = none_more said (line.Store name) refl apart
 

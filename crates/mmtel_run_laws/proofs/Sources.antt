@@ -3,7 +3,7 @@ use Rattle.std.proofs.Common.{◌≡◌, ◌≤◌, ◌<◌, ◌^◌, Bool, true
 use Rattle.std.specs.Prelude.{IfOk, IfSome}
 use Rattle.std.specs.List.{flat_map, list_all}
 use Rattle.std.proofs.lemmas.Bool.Decides.{nat_tests}
-use Rattle.mmtel_directory.specs.Directory.{account_words, addr_of, directory_by, directory_from, directory_of, first_of, first_said, home_in, identities_of, ip_of, is_country, is_host, is_store_name, kind_and_rest, line_of, line_of_kind, line_of_words, next_said, peer_of, readable, route_words, sip_in, stands, trust_of}
+use Rattle.mmtel_directory.specs.Directory.{account_words, addr_of, directory_by, directory_from, directory_of, extension_of, first_of, first_said, home_in, identities_of, ip_of, is_country, is_host, is_store_name, kind_and_rest, line_of, line_of_kind, line_of_words, next_said, peer_of, readable, route_words, sip_in, stands, trust_of}
 use Rattle.mmtel_directory.specs.Lines.{and_then, is_remark, lines_of, number_from, said_by}
 use Rattle.mmtel_directory.specs.declared.config_lines.Line.{Line}
 use Rattle.mmtel_directory.specs.declared.config_lines.Line.TheVariants as line
@@ -119,6 +119,7 @@ fine_kind kind.Operator s = of_each IsFineLine (readable (uri_of s)) _ (λ uri. 
 fine_kind kind.Factory s = of_each IsFineLine (readable (uri_of s)) _ (λ uri. tt)
 fine_kind kind.Bound s = of_each IsFineLine (plain_number 16 s) _ (λ n. tt)
 fine_kind kind.Country s = of_either IsFineLine (is_country s) _ _ tt tt
+fine_kind kind.Extension s = of_each IsFineLine (extension_of s) _ (λ which. tt)
 fine_kind kind.Mixer s = of_each IsFineLine (parted 32 s) _ (λ x. of_each IsFineLine (ip_of x.0) _ (λ ip. of_each IsFineLine (number_from 1 65535 x.1) _ (λ port. tt)))
 fine_kind kind.Store s = of_either IsFineLine (is_store_name s) _ _ tt tt
 

@@ -4,6 +4,8 @@ pub mod Outcome
 pub mod Stood
 pub mod Awaited
 pub mod Sent
+-- Which requests ask for too short a session:
+pub mod Sessions
 -- The charging rows:
 pub mod Rows
 pub mod Timed

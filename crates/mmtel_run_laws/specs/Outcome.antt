@@ -3,12 +3,14 @@
 use Rattle.std.specs.Prelude.{◌≡◌, ◌≤◌, ℕ, ◌+◌, ◌&&◌, max, Bool, true, false, List, [], ◌∷◌, ◌++◌, Some, count_by, filter, is_some, length}
 use Rattle.mmtel_call_decisions.specs.Opening.{received_list}
 use Rattle.mmtel_call.specs.declared.calls.Phase.TheVariants.{Over}
+use Rattle.mmtel_call.specs.declared.signals.Signal.TheVariants as signal
 use Rattle.mmtel_call_laws.specs.Charged.{running}
 use Rattle.mmtel_call_laws.specs.Endings.{answer_in}
 use Rattle.mmtel_call_laws.specs.Heads.Emits.{Each}
 use Rattle.mmtel_call_laws.specs.Known.{received_in}
 use Rattle.mmtel_call_laws.specs.Shown.{Accepted, Invited, Refused, Sign, is_offered, sign_of_result, signs_of, signs_of_targets}
-use Rattle.mmtel_call_laws.specs.Story.{Start, added, first_step, is_over, opening_in}
+use Rattle.mmtel_call_laws.specs.Session.Laws.{IsSessionSeen}
+use Rattle.mmtel_call_laws.specs.Story.{Heard, Start, added, first_step, is_over, opening_in}
 use Rattle.mmtel_call_laws.specs.Trace.Laws.{IsSeen}
 use Rattle.mmtel_call_laws.specs.Notices.Due.{notices_due, notices_in, own_notices}
 use Rattle.mmtel_charging.specs.declared.rows.Row.{Row}
@@ -17,14 +19,15 @@ use Rattle.mmtel_in_force.specs.Texts.{Texts}
 use Rattle.mmtel_message.specs.Message.{Message}
 use Rattle.mmtel_message.specs.declared.messages.Start.{Start as StartLine}
 use Rattle.mmtel_precedence.specs.Laws.{diversions_made}
+use Rattle.mmtel_transaction.specs.declared.words.DueWord.TheVariants as due
 use Rattle.mmtel_transaction.specs.declared.words.Emit.{Emit}
 use Rattle.mmtel_types.specs.declared.causes.Cause.{Cause}
 use Rattle.mmtel_types.specs.declared.causes.Cause.TheVariants.{Ended}
 use Rattle.mmtel_b2bua_laws.specs.Deeds.{emits_of, life_of}
 use Rattle.mmtel_b2bua_laws.specs.Known.{charges_after, endings_after, outcome_after, parts_after, stood_after}
-use Rattle.mmtel_b2bua_laws.specs.Laws.{CallIsExact, is_row_of}
+use Rattle.mmtel_b2bua_laws.specs.Laws.{CallIsExact, ExpiresOn, is_row_of}
 use Rattle.mmtel_b2bua_laws.specs.Lives.{Event, Finishes, Hears, Life, Releases, Restores, call_after, emits_by, emits_while_offered}
-use Rattle.mmtel_b2bua_laws.specs.Watched.{endings_seen, no_reply_after, signs_after, watch_after}
+use Rattle.mmtel_b2bua_laws.specs.Watched.{endings_seen, no_reply_after, session_after, signs_after, watch_after}
 use Rattle.mmtel_run.specs.Calls.{site_of}
 use Rattle.mmtel_run.specs.Events.{Happened}
 use Rattle.mmtel_run.specs.Run.{IsEnough, world_after}
@@ -121,6 +124,11 @@ pub record CallComesToOutcome (directory : Directory) (token : List ℕ) (loaded
   pub seen : endings_after life.start life.events ≡ endings_seen life.start life.events
   -- while it is offered its attempt is the one that is on its way, and that one's deadlines went out, each at its moment, and no other; and else none is on its way
   pub watched : IsSeen directory.bound (no_reply_after life.start life.events) (call_after life.start life.events).phase (watch_after life.start life.events)
+  -- the deadline of its session that counts went out in the step of the last 2xx which it passed on, at the moment and with the interval of that, and no other since
+  pub session : IsSessionSeen directory.timer (call_after life.start life.events) (session_after life.start life.events)
+  -- and by that deadline it was over, where it talked or asked, and by none that went out before (RFC 4028 §10)
+  pub expires : (later earlier : List Event) (x : Heard) (number : ℕ) → life.events ≡ later ++ Hears x ∷ earlier → x.signal ≡ signal.Due (due.Expired number) →
+      ExpiresOn life.start earlier x number
   -- it heard signals, and no leg of it is away: one that was taken out was put back at once, or the call ended
   pub lent : AreLentAtOnce false life.events
   -- the server's own 181s to its caller are those of the diversions that its Outcome says were made, in order (TS 24.604 §4.5.2.6)

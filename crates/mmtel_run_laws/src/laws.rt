@@ -2,6 +2,7 @@
 ghost use Rattle.mmtel_run_laws.specs.Clean.{HomesAreClean, RunsSendCleanMessages};
 ghost use Rattle.mmtel_run_laws.specs.Outcome.{CallsOfRunsComeToOutcome};
 ghost use Rattle.mmtel_run_laws.specs.Rows.{SeatsOfRunsAreChargedOnce};
+ghost use Rattle.mmtel_run_laws.specs.Sessions.{ShortSessionsAreRefused};
 
 use mmtel_b2bua_laws::{
     calls_of_tables_are_exact, calls_of_tables_reply_in_their_own, calls_take_their_steps,
@@ -80,4 +81,10 @@ pub fn runs_send_clean_messages()
 /// The home domain of each configuration that was read is of one line: it is a host of the grammar (RFC 3261 §25.1).
 pub fn homes_of_configurations_are_clean()
     ensures law { HomesAreClean }
+{}
+
+/// A 422 of the server's own comes for an INVITE or UPDATE that asks for a session of less than 90 seconds, where sessions have timers and no earlier refusal applies, and for
+/// no other request (RFC 4028 §6): with the least interval that is taken, and with nothing done but that it is answered.
+pub fn short_sessions_are_refused()
+    ensures law { ShortSessionsAreRefused }
 {}

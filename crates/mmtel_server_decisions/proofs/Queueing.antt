@@ -17,7 +17,7 @@ use Rattle.mmtel_timers.specs.Deadlines.{Deadline, armed_last, soonest, without}
 use Rattle.mmtel_run.specs.Deadlines as run
 use Rattle.mmtel_run.specs.Deadlines.{choose, chosen, first_armed, is_sooner, rank}
 use Rattle.mmtel_server_decisions.specs.Arming.{alarm_in, armed_in, first_in, queue_of}
-use Rattle.mmtel_server_decisions.specs.Queue.{AreKept, Follow, Numbered, armed_at, deadline_of, due_by, first_of, foremost, in_rank, in_ranks, key_of, of_rank, rank_of, run_of, sooner_of}
+use Rattle.mmtel_server_decisions.specs.Queue.{AreKept, Follow, Numbered, armed_at, deadline_of, due_by, foremost, in_rank, in_ranks, key_of, of_rank, rank_of, run_of, sooner_of, soonest_in}
 use Rattle.mmtel_server_decisions.specs.declared.armed.Armed.{Armed}
 use Rattle.mmtel_server_decisions.specs.declared.ranks.Ranks.{Ranks}
 use Rattle.mmtel_server_decisions.proofs.Leading.{Beats, Leads, Led, OfRank, all_weaken, both_led, found_number, is_number, other_number, own_number, rank_led, same_number}
@@ -101,7 +101,7 @@ module _ (next step : ℕ) (ranks : Ranks) (es : List Numbered) (are : AreKept n
   ranks_of no_replies no_pracks caps no_acks expiries = record { no_replies = no_replies; no_pracks = no_pracks; caps = caps; no_acks = no_acks; expiries = expiries }
 
   abbrev first : ℕ → Option Numbered
-  first r = first_of (of_rank r es) es
+  first r = soonest_in (of_rank r es) es
 
   foremost_led : Led AnyRank (foremost ranks es) es
   foremost_led =

@@ -68,16 +68,16 @@ sooner_of (Some one) None = Some one
 sooner_of (Some one) (Some other) = if is_sooner (run_of other) (run_of one) then Some other else Some one
 
 -- the first one of a rank
-abbrev pub first_of : List Deadline → List Numbered → Option Numbered
-first_of deadlines entries = armed_at (soonest deadlines) entries
+abbrev pub soonest_in : List Deadline → List Numbered → Option Numbered
+soonest_in deadlines entries = armed_at (soonest deadlines) entries
 
 -- of those of calls that ring, and of invitations that do
 abbrev pub ringing : Ranks → List Numbered → Option Numbered
-ringing ranks entries = sooner_of (sooner_of (first_of ranks.no_replies entries) (first_of ranks.no_pracks entries)) (first_of ranks.caps entries)
+ringing ranks entries = sooner_of (sooner_of (soonest_in ranks.no_replies entries) (soonest_in ranks.no_pracks entries)) (soonest_in ranks.caps entries)
 
 -- of the first ones of each rank, the one that comes first
 abbrev pub foremost : Ranks → List Numbered → Option Numbered
-foremost ranks entries = sooner_of (sooner_of (ringing ranks entries) (first_of ranks.no_acks entries)) (first_of ranks.expiries entries)
+foremost ranks entries = sooner_of (sooner_of (ringing ranks entries) (soonest_in ranks.no_acks entries)) (soonest_in ranks.expiries entries)
 
 -- one that is due
 abbrev pub due_by : ℕ → Option Numbered → Option Numbered

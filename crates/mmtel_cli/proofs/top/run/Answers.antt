@@ -8,6 +8,9 @@ returns-clause-ran g c =
     c.homes_of_configurations_are_clean.ensures.law c.configurations_are_read.ensures.read c.bytes_are_seen.ensures.apart _ _ _ _ _ _ _
     c.prepare-due.ensures.prepares c.write_report-status.ensures.ends
 
+pub returns-clause-sessions : goal.returns-clause-sessions
+returns-clause-sessions g c = c.short_sessions_are_refused.ensures.law
+
 pub returns-clause-calls : goal.returns-clause-calls
 returns-clause-calls g c = calls_told _ _ _ _ _ _ _ c.prepare-due.ensures.prepares c.write_report-status.ensures.ends
 

@@ -187,6 +187,59 @@ open
 420 Unsupported: Timer Unsupported: 100rel
 > -- UPDATE sip:bob@home.example
 405 Allow: INVITE, ACK, CANCEL, BYE, OPTIONS, REGISTER, REFER
+> -- UPDATE sip:bob@home.example|Session-Expires: 89|
+405 Allow: INVITE, ACK, CANCEL, BYE, OPTIONS, REGISTER, REFER
+> -- INVITE sip:bob@home.example|Session-Expires: 90|
+open
+> -- INVITE sip:bob@home.example|Session-Expires: 89|
+422 Min-SE: 90
+> -- INVITE sip:bob@home.example|x: 89;refresher=uac|
+422 Min-SE: 90
+> -- INVITE sip:bob@home.example|Session-Expires: 90|x: 90|
+400
+> -- INVITE sip:bob@home.example|Session-Expires: 90 ;refresher=uac|
+400
+> -- INVITE sip:bob@home.example|Session-Expires: 90;REFRESHER=uac|
+open
+> -- INVITE sip:bob@home.example|Session-Expires: 90;refresher=UAC|
+400
+> -- INVITE sip:bob@home.example|Session-Expires: 2147483648|
+400
+> -- INVITE sip:bob@home.example|Min-SE: 10|
+open
+> -- INVITE sip:bob@home.example|Require: foo|Session-Expires: 89|
+420 Unsupported: foo
+> -t INVITE sip:bob@home.example|Session-Expires: 89|
+481
+> m- INVITE sip:bob@home.example|Session-Expires: 89|
+482
+> -d INVITE sip:bob@home.example|Session-Expires: 89|
+422 Min-SE: 90
+> -e INVITE sip:bob@home.example|Session-Expires: 89;refresher=me|
+400
+> -d INVITE sip:bob@home.example|Session-Expires: 90|
+enter 3 caller
+> -s INVITE sip:bob@home.example|Session-Expires: 89|
+422 Min-SE: 90
+> -- INVITE sip:conf@home.example|Session-Expires: 89|
+422 Min-SE: 90
+> -o INVITE sip:room-1@127.0.0.1|Session-Expires: 89|
+422 Min-SE: 90
+> f- INVITE sip:bob@home.example|Session-Expires: 89|
+422 Min-SE: 90
+> -- OPTIONS sip:bob@home.example|Session-Expires: 89|
+200 Allow: INVITE, ACK, CANCEL, BYE, OPTIONS, REGISTER, REFER
+> -d BYE sip:bob@home.example|Session-Expires: 89|
+enter 3 caller
+= rt-
+> -d UPDATE sip:bob@home.example|Session-Expires: 89|
+422 Min-SE: 90
+> -e UPDATE sip:bob@home.example|Session-Expires: 90;refresher|
+400
+> -e UPDATE sip:bob@home.example|Session-Expires: 90|
+enter 3 callee
+> -d PRACK sip:bob@home.example|Session-Expires: 89|
+enter 3 caller
 = --m
 > -- OPTIONS sip:bob@home.example
 200 Allow: INVITE, ACK, CANCEL, BYE, OPTIONS, REGISTER, REFER, SUBSCRIBE
@@ -198,6 +251,8 @@ open
 > -- OPTIONS sip:bob@home.example|Require: timer, histinfo, 100rel|
 200 Allow: INVITE, ACK, CANCEL, BYE, OPTIONS, REGISTER, REFER, PRACK, UPDATE, SUBSCRIBE
 = ---
+> -- INVITE sip:bob@home.example|Session-Expires: 89|
+open
 > -d PRACK sip:bob@home.example
 405 Allow: INVITE, ACK, CANCEL, BYE, OPTIONS, REGISTER, REFER
 > -d UPDATE sip:bob@home.example
@@ -329,7 +384,7 @@ fn tell_line(page: &mut Page, directory: &mut Directory, line: &[u8]) {
 
 fn tell_lines(page: &mut Page, directory: &mut Directory, table: &[u8]) {
     let mut rest = table;
-    for _ in 0..250 {
+    for _ in 0..300 {
         let (line, later) = next_line(rest);
         tell_line(page, directory, line);
         rest = later;

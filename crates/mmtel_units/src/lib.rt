@@ -1,4 +1,4 @@
-//! Tests of the public calls of the libraries from the lowest up to what goes out in a step: types, deadlines, the grammars of SIP's parts, targets of calls, session
+//! Tests of the public calls of the libraries from the lowest up to what goes out in a step: types, deadlines, the grammars of SIP's parts, reliable provisional answers, targets of calls, session
 //! descriptions, messages and what is read and shown of them, configurations and scripts, transactions, legs and what is made of messages that were heard, and the words of
 //! the command line. A module for each crate or for several, a table or a few for each test.
 //!
@@ -16,6 +16,8 @@ mod directory;
 mod lex;
 #[cfg(test)]
 mod messages;
+#[cfg(test)]
+mod reliable;
 #[cfg(test)]
 mod scan;
 #[cfg(test)]

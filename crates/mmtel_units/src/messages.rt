@@ -1,12 +1,14 @@
-//! Messages, History-Info, trust and parties.
+//! Messages, History-Info, session timers, trust and parties.
 
 mod building;
 pub mod drafts;
 mod history;
+mod identifiers;
 mod lookups;
 mod message;
 mod parties;
 mod places;
 mod responses;
+mod session;
 mod shown;
 mod trust;

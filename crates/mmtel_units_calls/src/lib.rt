@@ -21,6 +21,8 @@ mod deeds;
 #[cfg(test)]
 mod diverting;
 #[cfg(test)]
+mod expiring;
+#[cfg(test)]
 mod giving_up;
 #[cfg(test)]
 mod inviting;

@@ -437,7 +437,7 @@ reply 8: 403 Forbidden, 10 REFER
 > 180 callee BYE 4
 reply 9: 500 Server Internal Error, 4 BYE
 -> ringing
-# a reliable answer goes on as any other; PRACK, UPDATE and SUBSCRIBE are of no use in a call; no PRACK is missed and no session ends
+# a reliable answer goes on as any other; PRACK, UPDATE and SUBSCRIBE are of no use in a call; no PRACK is missed and no session has a time
 > 0 invite 1 alice@home.example sip:bob@home.example
 reply 0: 100 Trying, 7 INVITE
 ask 1 to 1: INVITE sip:bob@home.example, 1 INVITE
@@ -489,7 +489,7 @@ reply 8: 481 Call/Transaction Does Not Exist, 7 PRACK
 -> talking
 > 330 due no-prack 1
 -> talking
-> 90200 due expired 1
+> 90200 due expired 0
 -> talking
 "#;
 

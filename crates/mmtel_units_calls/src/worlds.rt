@@ -1,4 +1,4 @@
-//! What stands round calls and rooms: the peers and accounts, the records in force, how many calls keep each account busy, and the bound; and the words of tables.
+//! What stands round calls and rooms: the peers and accounts, the records in force, how many calls keep each account busy, the bound, and whether sessions have timers; and the words of tables.
 
 use mmtel_answers::Hearing;
 use mmtel_call_decisions::Busy;
@@ -25,6 +25,7 @@ pub struct World {
     pub sheets: SheetView,
     pub busy: Busy,
     pub bound: u16,
+    pub timer: bool,
 }
 
 /// Whether a word is this one.
@@ -139,6 +140,7 @@ pub fn quiet_world(told: &mut Told) -> World {
         sheets: SheetView::new(told.alloc),
         busy: Busy::new(told.alloc),
         bound: 5,
+        timer: false,
     }
 }
 

@@ -28,6 +28,7 @@ mixer 10.0.0.2 41000
 factory sip:conf@home.example
 bound 0
 country 049
+extension timer
 store calls.db
 ";
 
@@ -96,6 +97,7 @@ fn tell_settings(told: &mut Told, directory: &Directory) {
     tell_text(told, b"home ", directory.home.bytes());
     tell_number(told, b"bound ", u64::from(directory.bound));
     tell_digits(told, &directory.country);
+    told.add_if(directory.timer, b"timer on\n", b"timer off\n");
     tell_text(told, b"store ", directory.store.bytes());
     tell_uri(told, b"operator ", &directory.names.operator);
     tell_uri(told, b"factory ", &directory.factory);
@@ -171,6 +173,7 @@ mixer 10 0 0 2 41000
 home home.example
 bound 0
 country 049
+timer on
 store calls.db
 operator sip:op@home.example
 factory sip:conf@home.example
@@ -207,6 +210,7 @@ mixer 127 0 0 1 40000
 home h
 bound 5
 country none
+timer off
 store :memory:
 operator none
 factory none
@@ -359,6 +363,14 @@ const ONCE: &[u8] = b"0|web 1.2.3.4:5;
 3|country +49;
 3|country 4 9;
 4|country 49;country 49;
+0|extension timer;
+3|extension;
+3|extension ;
+3|extension timer timer;
+3|extension Timer;
+3|extension 100rel;
+3|extension mwi;
+4|extension timer;extension timer;
 0|mixer 1.2.3.4 65535;
 3|mixer 1.2.3.4 0;
 3|mixer 1.2.3.4 65536;

@@ -46,7 +46,7 @@ fn add_row(told: &mut Told, lines: &mut List<Line>, row: &[u8]) {
 pub fn lines_of(told: &mut Told, table: &[u8]) -> List<Line> {
     let mut lines = List::new();
     let mut rows = table;
-    for _ in 0..10 {
+    for _ in 0..20 {
         if !rows.is_empty() {
             let (row, rest) = next_line(rows);
             rows = rest;

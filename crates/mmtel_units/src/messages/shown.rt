@@ -38,6 +38,8 @@ fn tell_message(
         restricted: false,
         present: true,
         mask_all,
+        reliable: false,
+        timer: false,
     };
     let lines = shown(told.alloc, &message, history, &facing, to_trusted);
     drop(message);

@@ -214,6 +214,8 @@ Privacy: Header; none
 Subject: lunch
 Require: histinfo
 Require: 100rel
+Supported: timer
+Session-Expires: 90
 P-Early-Media: supported
 Reason: SIP;cause=200
 "#;
@@ -251,15 +253,21 @@ fn tell_identities(told: &mut Told, m: &Msg, trusted: bool) {
     }
 }
 
-/// Tells the lines that are passed on, where the sender is restricted or not and the peer trusted or not.
-fn tell_shown(told: &mut Told, m: &Msg, history: &History, restricted: bool, to_trusted: bool) {
-    let facing = Facing {
+/// A message of a trusted peer, whose sender is restricted or not, where reliable provisional responses and session timers are served or not.
+fn facing(restricted: bool, served: bool) -> Facing {
+    Facing {
         from_trusted: true,
         restricted,
         present: true,
         mask_all: false,
-    };
-    match shown(told.alloc, m, history, &facing, to_trusted) {
+        reliable: served,
+        timer: served,
+    }
+}
+
+/// Tells the lines that are passed on to a peer, which is trusted or not.
+fn tell_shown(told: &mut Told, m: &Msg, history: &History, facing: &Facing, to_trusted: bool) {
+    match shown(told.alloc, m, history, facing, to_trusted) {
         Ok(lines) => {
             tell_lines(told, lines.items());
             drop(lines);
@@ -268,13 +276,15 @@ fn tell_shown(told: &mut Told, m: &Msg, history: &History, restricted: bool, to_
     }
 }
 
-/// Tells what is passed on to an untrusted peer, where the sender is restricted and where not, and then to a trusted one.
+/// Tells what is passed on to an untrusted peer, where the sender is restricted and where not, and then to a trusted one; and to an untrusted one where all extensions are
+/// served.
 fn tell_passed(told: &mut Told, m: &Msg) {
     let history = History::new(told.alloc);
-    tell_shown(told, m, &history, true, false);
-    tell_shown(told, m, &history, false, false);
-    tell_shown(told, m, &history, true, true);
-    tell_shown(told, m, &history, false, true);
+    tell_shown(told, m, &history, &facing(true, false), false);
+    tell_shown(told, m, &history, &facing(false, false), false);
+    tell_shown(told, m, &history, &facing(true, false), true);
+    tell_shown(told, m, &history, &facing(false, false), true);
+    tell_shown(told, m, &history, &facing(true, true), false);
     drop(history);
 }
 
@@ -313,6 +323,12 @@ Privacy: Header; none
 Subject: lunch
 Require: histinfo
 P-Early-Media: supported
+Reason: SIP;cause=200
+#
+Require: histinfo
+Require: 100rel
+Supported: timer
+Session-Expires: 90
 Reason: SIP;cause=200
 #
 "Anonymous" <sip:anonymous@anonymous.invalid>;tag=1-2

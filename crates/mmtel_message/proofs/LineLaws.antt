@@ -1,9 +1,10 @@
 -- The places where lines and heads end.
-use Rattle.std.proofs.Common.{◌≡◌, ◌==◌, Bool, true, false, ◌&&◌, ℕ, zero, suc, ◌+◌, ◌<◌, ◌≤◌, ◌-◌, List, [], ◌∷◌, length, take, drop, get_or, Option, Some, None, refl, sym, ap, subst, ◌∙◌, arith, drop-cons, add-one, inl, inr, length-drop}
+use Rattle.std.proofs.Common.{◌≡◌, ◌==◌, Bool, true, false, ◌&&◌, ℕ, zero, suc, ◌+◌, ◌<◌, ◌≤◌, ◌-◌, List, [], ◌∷◌, length, take, drop, get_or, get_or-drop, add-zero, Option, Some, None, refl, sym, ap, subst, ◌∙◌, arith, drop-cons, add-one, inl, inr, length-drop}
 use Rattle.std.proofs.lemmas.List.{drop_all, drop-drop, take_all, take_rest}
 use Rattle.std.specs.Option.{option_map}
 use Rattle.std.proofs.lemmas.Bool.{cases_Bool}
 use Rattle.std.proofs.lemmas.Bool.Decides.{nat_tests}
+use Rattle.memchr.specs.Find.{Nowhere, Passes, is_byte}
 use Rattle.mmtel_scan.proofs.Runs.{and_true}
 use Rattle.mmtel_message.specs.declared.lines.Break.{Break}
 use Rattle.mmtel_message.specs.declared.lines.Break.TheVariants.{Line, Head}
@@ -151,6 +152,31 @@ pub no_return : (k : Break) (s : List ℕ) (i : ℕ) → i < length s → (get_o
 no_return k s i lt e =
     let one : drop i s ≡ get_or s i 0 ∷ drop (i + 1) s = rw (add-one, drop-cons s i 0) refl in
     rw one (no_return_first k (get_or s i 0) (drop (i + 1) s) e)
+
+-- no end stands before the first CR of what is left
+pub skips : (k : Break) (total : Option ℕ) (i n : ℕ) (s : List ℕ) → i + n ≤ length s → Nowhere (Passes (is_byte 13) (take (length s - i) (drop i s))) 0 n → Goes total k i s → Goes total k (i + n) s
+skips k total i zero s le none so_far = rw add-zero so_far
+skips k total i (suc n) s le none so_far =
+    let here : get_or (take (length s - i) (drop i s)) n 0 ≡ get_or s (i + n) 0 = rw (whole_rest s i (omega arith)) (get_or-drop i s n 0) in
+    let other : (get_or s (i + n) 0 == 13) ≡ false = elim (cases_Bool (get_or s (i + n) 0 == 13)) [
+      | inl y ↦ absurd (none n (omega arith) (omega arith) (rw here y))
+      | inr differs ↦ differs
+    ] in
+    let so_far : Goes total k (i + n) s = skips k total i n s (omega arith) (λ j low less. none j low (omega (arith, less))) so_far in
+    let next : i + suc n ≡ i + n + 1 = omega arith in
+    rw next (over k total (i + n) s (omega arith) (no_return k s (i + n) (omega arith) other) so_far)
+
+pub reaches : (i n : ℕ) (s : List ℕ) → i ≤ length s → n < length (take (length s - i) (drop i s)) → i + n < length s
+reaches i n s le less =
+    let rest : n < length (drop i s) = rw (whole_rest s i le) at less in
+    let cut : length (drop i s) ≡ length s - i = length-drop i s in
+    omega (arith, rest, cut)
+
+pub none_left : (k : Break) (total : Option ℕ) (i : ℕ) (s : List ℕ) → i ≤ length s → Nowhere (Passes (is_byte 13) (take (length s - i) (drop i s))) 0 (length (take (length s - i) (drop i s))) → Goes total k i s → Goes total k (length s) s
+none_left k total i s le none so_far =
+    let all : length (take (length s - i) (drop i s)) ≡ length s - i = rw (whole_rest s i le) (length-drop i s) in
+    let whole : i + length (take (length s - i) (drop i s)) ≡ length s = omega (arith, all) in
+    rw whole at (skips k total i (length (take (length s - i) (drop i s))) s (omega (arith, all)) none so_far)
 
 -- ---- the last line end
 

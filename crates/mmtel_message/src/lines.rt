@@ -9,12 +9,13 @@ ghost use Rattle.mmtel_message.specs.Lines.{begins, first_break, last_line_end, 
 
 use crate::edits::Edit;
 use crate::held::{HeldValue, Span, at_place};
+use memchr::memchr;
 use mmtel_lex::{List, NoMemory, Text};
 use mmtel_scan::{Class, split_run, trim_end};
 use std::alloc::Global;
 
-/// For so many lines there is room at once: few messages have more.
-const USUAL_LINES: usize = 32;
+/// For so many lines there is room at once: as many as stand in a block that is quickly had again, and few messages have more.
+const USUAL_LINES: usize = 14;
 
 /// What parts a message.
 #[derive(Clone, Copy)]
@@ -40,10 +41,13 @@ pub fn place(mark: Break, bytes: &[u8]) -> Option<usize>
     ensures place { result ≡ first_break mark bytes.now }
     ensures within { IfSome result (λ n. n + width mark ≤ length bytes.now) }
 {
-    for (i, byte) in bytes.iter().enumerate() {
-        if *byte == b'\r' && mark.is_first(&bytes[i..]) {
-            return Some(i);
+    let mut from = 0;
+    'ends: while let Some(skipped) = memchr(b'\r', &bytes[from..]) {
+        let at = from + skipped;
+        if mark.is_first(&bytes[at..]) {
+            return Some(at);
         }
+        from = at + 1;
     }
     None
 }

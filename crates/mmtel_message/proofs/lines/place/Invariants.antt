@@ -1,6 +1,10 @@
+use Rattle.std.proofs.Common.{◌-◌, ◌≤◌, length}
 use Rattle.mmtel_message.specs.Lines.{first_break}
 use Rattle.mmtel_message.proofs.LineLaws.{Goes}
 use Rattle.mmtel_message.proofs.lines.place.Given as goal
 
-abbrev pub invariant-loop-i : goal.invariant-loop-i
-invariant-loop-i l = Goes (first_break l.mark l.bytes) l.mark l.i l.bytes
+abbrev pub invariant-ends : goal.invariant-ends
+invariant-ends l = Goes (first_break l.fn.mark l.fn.bytes) l.fn.mark l.from l.fn.bytes × (l.from ≤ length l.fn.bytes)
+
+abbrev pub decreases-ends : goal.decreases-ends
+decreases-ends l = length l.fn.bytes - l.from

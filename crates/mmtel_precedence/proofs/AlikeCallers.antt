@@ -19,7 +19,7 @@ use Rattle.mmtel_diversion.specs.Diversion.{diversion_among, diversion_by}
 use Rattle.mmtel_waiting.specs.Waiting.{is_busy}
 use Rattle.mmtel_barring.specs.Barring.{rules_of}
 use Rattle.mmtel_precedence.specs.Services.{AccountState, DueDiversion, Says, Nothing, Refuses, Diverts, refuses_if, diverts_by, first_said, own_bound, due_of, is_reached, due_on, rejects_anonymous, bars_incoming, services_on_arrival}
-use Rattle.mmtel_precedence.specs.Calls.{refused_at_once, End, Answer, Cancel, UserBusy, NotReachable, NoReply, Deflection, Other, Ended, Reach, Call, Target, Outcome}
+use Rattle.mmtel_precedence.specs.Calls.{refused_at_once, End, Answer, Cancel, Unacknowledged, UserBusy, NotReachable, NoReply, Deflection, Other, Ended, Reach, Call, Target, Outcome}
 use Rattle.mmtel_precedence.specs.Opening.{refusal_at_opening}
 use Rattle.mmtel_targets.specs.Targets.{new_target}
 use Rattle.mmtel_precedence.specs.Targets.{Next, Rests, IsDue, reach_of, of_caller, said_on_arrival, due_at, diverted_or, next_on, next_at, next_after, target_at, offer_by}
@@ -92,6 +92,7 @@ due_at-alike first asks asks2 c when (Some account) h = due_on-alike first asks 
 next_on-alike : FirstIsSame → (asks asks2 : Who → Bool) (call : Call) (k : ℕ) (served : Option AccountState) (now : ℕ) (how : End) (later : List Ended) → AlikeAt asks asks2 served → next_on (asking call asks) k served now how later ≡ next_on (asking call asks2) k served now how later
 next_on-alike first asks asks2 call k served now Answer later h = refl
 next_on-alike first asks asks2 call k served now Cancel later h = refl
+next_on-alike first asks asks2 call k served now Unacknowledged later h = refl
 next_on-alike first asks asks2 call k served now (UserBusy code) later h = ap (λ due. diverted_or call served now due (causes.Relayed code) later) (due_at-alike first asks asks2 (of_caller call k now) event.Busy served h)
 next_on-alike first asks asks2 call k served now (NotReachable code) later h = ap (λ due. diverted_or call served now due (causes.Unreachable code) later) (due_at-alike first asks asks2 (of_caller call k now) event.NotReachable served h)
 next_on-alike first asks asks2 call k served now NoReply later h = ap (λ due. diverted_or call served now due causes.NoReply later) (due_at-alike first asks asks2 (of_caller call k now) event.NoAnswer served h)

@@ -10,7 +10,7 @@ use Rattle.mmtel_types.specs.declared.causes.Cause.TheVariants as causes
 use Rattle.mmtel_lex.specs.declared.values.Uri.{Uri}
 use Rattle.mmtel_rules.specs.Circumstances.{Circumstances}
 use Rattle.mmtel_precedence.specs.Services.{AccountState, DueDiversion, bound_of, is_reached, Says, Nothing, Refuses, Diverts, refuses_if, diverts_by, first_said, services_on_arrival}
-use Rattle.mmtel_precedence.specs.Calls.{refused_at_once, End, Answer, Cancel, UserBusy, NotReachable, NoReply, Deflection, Other, Ended, Reach, Call, Target, Result, Final, Outcome, last_reached}
+use Rattle.mmtel_precedence.specs.Calls.{refused_at_once, End, Answer, Cancel, Unacknowledged, UserBusy, NotReachable, NoReply, Deflection, Other, Ended, Reach, Call, Target, Result, Final, Outcome, last_reached}
 use Rattle.mmtel_precedence.specs.Opening.{refusal_at_opening}
 use Rattle.mmtel_targets.specs.Targets.{new_target}
 use Rattle.mmtel_precedence.specs.Targets.{Next, Rests, IsDue, reach_of, of_caller, said_on_arrival, is_refused, diverted_or, next_on, next_at, next_after, target_at}
@@ -135,6 +135,7 @@ plain-diverted_or call served now (Some due) cause later h = plain-diverted (is_
 plain-on : (call : Call) (k : ℕ) (served : Option AccountState) (now : ℕ) (how : End) (later : List Ended) → IsPlainNext (next_on call k served now how later)
 plain-on call k served now Answer later = λ busy e. cc
 plain-on call k served now Cancel later = λ busy e. cc
+plain-on call k served now Unacknowledged later = λ busy e. cc
 plain-on call k served now (UserBusy code) later = plain-diverted_or call served now _ (causes.Relayed code) later (λ busy e. cc)
 plain-on call k served now (NotReachable code) later = plain-diverted_or call served now _ (causes.Unreachable code) later (λ busy e. cc)
 plain-on call k served now NoReply later = plain-diverted_or call served now _ causes.NoReply later (λ busy e. cc)

@@ -7,7 +7,7 @@ use Rattle.mmtel_lex.specs.declared.values.Uri.{Uri}
 use Rattle.mmtel_precedence.specs.declared.endings.Ending.TheVariants as ending
 use Rattle.mmtel_precedence.specs.Services.{AccountState, DueDiversion, own_bound}
 use Rattle.mmtel_precedence.specs.Verdicts.{Decision, Offers, Forwards, Ends, verdict_of}
-use Rattle.mmtel_precedence.specs.Calls.{End, Answer, Cancel, UserBusy, NotReachable, NoReply, Deflection, Other, Ended, Reach, Call, NotOffered, Target}
+use Rattle.mmtel_precedence.specs.Calls.{End, Answer, Cancel, Unacknowledged, UserBusy, NotReachable, NoReply, Deflection, Other, Ended, Reach, Call, NotOffered, Target}
 use Rattle.mmtel_precedence.specs.Targets.{of_caller, reach_of}
 use Rattle.mmtel_precedence.specs.Outcome.{outcome}
 use Rattle.mmtel_precedence.specs.Moves.{Kept, Phase, Reaching, Ringing, Over, moves, account_at, with_target, due_by, gone_on, divert_where, offer_unless, reached, ended_by, on_end, on_reaching, result_in, outcome_so_far, at_first, moves_enough}
@@ -53,6 +53,7 @@ later-ended call account now deflected (Ends why) kept later = refl
 later-end : (call : Call) (account : AccountState) (now : ℕ) (how : End) (kept : Kept) (later : List Ended) → on_end call account now how (with_later kept later) ≡ with_later (on_end call account now how kept) later
 later-end call account now Answer kept later = refl
 later-end call account now Cancel kept later = refl
+later-end call account now Unacknowledged kept later = refl
 later-end call account now (UserBusy code) kept later = later-ended call account now None _ kept later
 later-end call account now (NotReachable code) kept later = later-ended call account now None _ kept later
 later-end call account now NoReply kept later = later-ended call account now None _ kept later
@@ -122,6 +123,7 @@ targets-ended call account now deflected (Ends why) kept = refl
 targets-end : (call : Call) (account : AccountState) (now : ℕ) (how : End) (kept : Kept) → (on_end call account now how kept).targets ≡ kept.targets
 targets-end call account now Answer kept = refl
 targets-end call account now Cancel kept = refl
+targets-end call account now Unacknowledged kept = refl
 targets-end call account now (UserBusy code) kept = targets-ended call account now None _ kept
 targets-end call account now (NotReachable code) kept = targets-ended call account now None _ kept
 targets-end call account now NoReply kept = targets-ended call account now None _ kept

@@ -5,7 +5,7 @@ use Rattle.std.specs.Option.{option_map_or}
 use Rattle.mmtel_types.specs.declared.causes.Cause.{Cause}
 use Rattle.mmtel_lex.specs.declared.values.Uri.{Uri}
 use Rattle.mmtel_precedence.specs.Services.{AccountState, DueDiversion, is_reached, Says, Nothing, Refuses, Diverts}
-use Rattle.mmtel_precedence.specs.Calls.{refused_at_once, End, Answer, Cancel, UserBusy, NotReachable, NoReply, Deflection, Other, Ended, Standing, Reach, Call, standing_after, Target, Outcome, then_reached}
+use Rattle.mmtel_precedence.specs.Calls.{refused_at_once, End, Answer, Cancel, Unacknowledged, UserBusy, NotReachable, NoReply, Deflection, Other, Ended, Standing, Reach, Call, standing_after, Target, Outcome, then_reached}
 use Rattle.mmtel_precedence.specs.Opening.{refusal_at_opening}
 use Rattle.mmtel_targets.specs.Targets.{new_target}
 use Rattle.mmtel_precedence.specs.Targets.{Next, Rests, IsDue, reach_in, said_on_arrival, next_on, next_at, next_after, target_at, offer_by}
@@ -18,6 +18,7 @@ use Rattle.mmtel_precedence.proofs.Nexts.{from_next, refused_for, unless_reached
 next_on-where : (other : ℕ → Standing) (call : Call) (k : ℕ) (served : Option AccountState) (now : ℕ) (how : End) (later : List Ended) → next_on (where_later other call) k served now how later ≡ next_on call k served now how later
 next_on-where other call k served now Answer later = refl
 next_on-where other call k served now Cancel later = refl
+next_on-where other call k served now Unacknowledged later = refl
 next_on-where other call k served now (UserBusy code) later = refl
 next_on-where other call k served now (NotReachable code) later = refl
 next_on-where other call k served now NoReply later = refl

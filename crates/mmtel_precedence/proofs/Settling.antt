@@ -14,7 +14,7 @@ use Rattle.mmtel_diversion.specs.Diversion.{Chosen, deflection_of, diversion_of}
 use Rattle.mmtel_waiting.specs.Waiting.{is_busy}
 use Rattle.mmtel_precedence.specs.Services.{AccountState, DueDiversion, Says, Nothing, Refuses, Diverts, refuses_if, diverts_by, first_said, bound_of, is_reached, own_bound, due_of, rejects_anonymous, bars_incoming, bars_outgoing, services_on_arrival}
 use Rattle.mmtel_precedence.specs.Verdicts.{decision_by, forwards_or, deflects_or}
-use Rattle.mmtel_precedence.specs.Calls.{refused_at_once, End, Answer, Cancel, UserBusy, NotReachable, NoReply, Deflection, Other, Ended, Reach, Call, NotOffered, Offered, Target, Result, Answered, Final, Outcome, last_reached}
+use Rattle.mmtel_precedence.specs.Calls.{refused_at_once, End, Answer, Cancel, Unacknowledged, UserBusy, NotReachable, NoReply, Deflection, Other, Ended, Reach, Call, NotOffered, Offered, Target, Result, Answered, Final, Outcome, last_reached}
 use Rattle.mmtel_precedence.specs.Opening.{refusal_at_opening}
 use Rattle.mmtel_targets.specs.Targets.{new_target}
 use Rattle.mmtel_precedence.specs.Targets.{Rests, diverted, IsDue, reach_of, of_caller, of_target, offer_by, deflected_to, diverted_or, next_on, next_at, next_after, is_waiting, target_at}
@@ -96,6 +96,7 @@ settles-end : (call : Call) (k least : ℕ) (onward : Onward) → GoesOn call k 
     (from_next target (onward target) (next_on call k served now how later))
 settles-end call k least onward goes n served now Answer target targets phase later enough = settles-over n call k targets target Answered later
 settles-end call k least onward goes n served now Cancel target targets phase later enough = settles-over n call k targets target (Final causes.Cancelled) later
+settles-end call k least onward goes n served now Unacknowledged target targets phase later enough = settles-over n call k targets target (Final causes.Unacknowledged) later
 settles-end call k least onward goes n served now (UserBusy code) target targets phase later enough =
     settles-rules call k least onward goes n served now (diversion_of (of_caller call k now) event.Busy (unwrap_or served nobody).sheet) (causes.Relayed code) target targets phase later enough
     ∙ ap (λ due. behind targets (from_next target (onward target) (diverted_or call served now due (causes.Relayed code) later))) (sym (due_at-account (of_caller call k now) event.Busy served))

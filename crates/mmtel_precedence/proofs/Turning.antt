@@ -12,7 +12,7 @@ use Rattle.mmtel_rules.specs.declared.values.When.TheVariants as event
 use Rattle.mmtel_diversion.specs.Diversion.{Chosen, deflection_of, diversion_of}
 use Rattle.mmtel_precedence.specs.Services.{AccountState, DueDiversion, Says, Nothing, Refuses, Diverts, own_bound, due_of, due_on, first_said, services_on_arrival}
 use Rattle.mmtel_precedence.specs.Verdicts.{decision_by, deflects_or, forwards_or}
-use Rattle.mmtel_precedence.specs.Calls.{Answer, Cancel, UserBusy, NotReachable, NoReply, Deflection, Other, Ended, Reach, Call}
+use Rattle.mmtel_precedence.specs.Calls.{Answer, Cancel, Unacknowledged, UserBusy, NotReachable, NoReply, Deflection, Other, Ended, Reach, Call}
 use Rattle.mmtel_precedence.specs.Targets.{of_caller, deflected_to, reach_of}
 use Rattle.mmtel_precedence.specs.Moves.{Kept, Phase, Reaching, Ringing, Over, account_at, ended_by, offer_unless, reached, on_endings, move_in, moves, at_first, outcome_so_far}
 use Rattle.mmtel_precedence.specs.Turns.{turn_at, TurnsAreMoves, EndingsAreMoves, TurnsGiveTheOutcome, turn_on_endings, turn_in, turns, offer_turn, turn_by, kept_at_turn, divert_or_refuse, deflection_by, kept_after_turn}
@@ -70,6 +70,7 @@ by_device call (Some account) now kept target rang = deflected call account now 
 pub endings_are_moves : EndingsAreMoves
 endings_are_moves call reach now Answer kept = refl
 endings_are_moves call reach now Cancel kept = refl
+endings_are_moves call reach now Unacknowledged kept = refl
 endings_are_moves call reach now (UserBusy code) kept = by_rules call reach.served now kept event.Busy (causes.Relayed code)
 endings_are_moves call reach now (NotReachable code) kept = by_rules call reach.served now kept event.NotReachable (causes.Unreachable code)
 endings_are_moves call reach now NoReply kept = by_rules call reach.served now kept event.NoAnswer causes.NoReply

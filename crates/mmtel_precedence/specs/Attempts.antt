@@ -2,7 +2,7 @@
 use Rattle.std.specs.Prelude.{ℕ, ◌==◌, ◌&&◌, ◌||◌, not, nat_le, Bool, true, false, if◌then◌else◌, Option, Some, None}
 use Rattle.mmtel_lex.specs.declared.values.Uri.{Uri}
 pub use Rattle.mmtel_sip_rules.specs.Statuses.{is_provisional, is_redirection, is_success}
-use Rattle.mmtel_precedence.specs.Calls.{End, Answer, Cancel, UserBusy, NotReachable, NoReply, Deflection, Other}
+use Rattle.mmtel_precedence.specs.Calls.{End, Answer, Cancel, Unacknowledged, UserBusy, NotReachable, NoReply, Deflection, Other}
 
 -- what came of an attempt that was offered
 pub data AttemptEvent : Type 0 where
@@ -16,6 +16,8 @@ pub data AttemptEvent : Type 0 where
   LongestTime : AttemptEvent
   -- the caller gave up, by CANCEL or BYE (RFC 3261 §9 and §15)
   CallerGaveUp : AttemptEvent
+  -- the caller did not acknowledge a reliable answer in its time, which begins when the answer is sent to it (RFC 3262 §3)
+  AckTime : AttemptEvent
 
 -- the target rings (RFC 3261 §21.1.2 to §21.1.5)
 abbrev pub rings : ℕ → Bool
@@ -58,3 +60,4 @@ end_by Silence rang = Some (NotReachable 408)
 end_by NoReplyTime rang = Some NoReply
 end_by LongestTime rang = Some (end_by_time rang)
 end_by CallerGaveUp rang = Some Cancel
+end_by AckTime rang = Some Unacknowledged

@@ -24,6 +24,8 @@ pub data End : Type 0 where
   Answer : End
   -- the caller gave up
   Cancel : End
+  -- the caller did not acknowledge a reliable answer that it was sent (RFC 3262 §3)
+  Unacknowledged : End
   -- a 486 or 600: user determined user busy
   UserBusy : (code : ℕ) → End
   -- a 408, 500 or 503 before it rang, or silence, which is a 408

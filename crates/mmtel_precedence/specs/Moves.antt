@@ -9,7 +9,7 @@ use Rattle.mmtel_sheet_values.specs.Sheets.{empty_sheet}
 use Rattle.mmtel_precedence.specs.declared.endings.Ending.TheVariants as ending
 use Rattle.mmtel_precedence.specs.Services.{AccountState, DueDiversion, own_bound}
 use Rattle.mmtel_precedence.specs.Verdicts.{Decision, Offers, Forwards, Ends, refusal_before_diversion, verdict_of}
-use Rattle.mmtel_precedence.specs.Calls.{End, Answer, Cancel, UserBusy, NotReachable, NoReply, Deflection, Other, Ended, Reach, Call, Offer, NotOffered, Offered, Target}
+use Rattle.mmtel_precedence.specs.Calls.{End, Answer, Cancel, Unacknowledged, UserBusy, NotReachable, NoReply, Deflection, Other, Ended, Reach, Call, Offer, NotOffered, Offered, Target}
 use Rattle.mmtel_precedence.specs.Calls.{Result, Pending, Answered, Final, Outcome}
 use Rattle.mmtel_precedence.specs.Opening.{refusal_at_opening}
 use Rattle.mmtel_targets.specs.Targets.{new_target}
@@ -85,10 +85,11 @@ ended_by call account now deflected (Offers waiting) kept = kept
 ended_by call account now deflected (Forwards forward why) kept = divert_where call kept account now (due_by (own_bound account.sheet) forward deflected why)
 ended_by call account now deflected (Ends why) kept = at_phase kept (Over (Final why))
 
--- an attempt ended: an answer and a caller that gives up end the call, and of all else a verdict is asked
+-- an attempt ended: an answer, and a caller that gives up or does not acknowledge, end the call, and of all else a verdict is asked
 abbrev pub on_end : Call → AccountState → (now : ℕ) → End → Kept → Kept
 on_end call account now Answer kept = at_phase kept (Over Answered)
 on_end call account now Cancel kept = at_phase kept (Over (Final causes.Cancelled))
+on_end call account now Unacknowledged kept = at_phase kept (Over (Final causes.Unacknowledged))
 on_end call account now (UserBusy code) kept =
     ended_by call account now None (verdict_of (of_caller call kept.done now) account (ending.UserBusy code)) kept
 on_end call account now (NotReachable code) kept =

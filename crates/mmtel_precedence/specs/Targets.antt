@@ -19,7 +19,7 @@ use Rattle.mmtel_rules.specs.declared.values.Identities2.{Identities2}
 use Rattle.mmtel_diversion.specs.Diversion.{deflection_of}
 use Rattle.mmtel_precedence.specs.Services.{AccountState, DueDiversion, Says, Nothing, Refuses, Diverts, refuses_if, first_said, due_on, own_bound, bars_outgoing}
 use Rattle.mmtel_precedence.specs.Services.{services_on_arrival}
-use Rattle.mmtel_precedence.specs.Calls.{End, Answer, Cancel, UserBusy, NotReachable, NoReply, Deflection, Other, Ended, Standing, Reach, Call}
+use Rattle.mmtel_precedence.specs.Calls.{End, Answer, Cancel, Unacknowledged, UserBusy, NotReachable, NoReply, Deflection, Other, Ended, Standing, Reach, Call}
 use Rattle.mmtel_precedence.specs.Calls.{standing_after, caller_hides, account_in, Offer, NotOffered, Offered, Target, Result, Pending, Answered, Final}
 
 -- ---- reaching it
@@ -165,6 +165,7 @@ diverted_or call served now (Some due) cause later = diverted call served now du
 abbrev pub next_on : Call → (k : ℕ) → Option AccountState → (now : ℕ) → End → List Ended → Next
 next_on call k served now Answer later = Rests Answered
 next_on call k served now Cancel later = Rests (Final causes.Cancelled)
+next_on call k served now Unacknowledged later = Rests (Final causes.Unacknowledged)
 next_on call k served now (UserBusy code) later = diverted_or call served now (due_at (of_caller call k now) event.Busy served) (causes.Relayed code) later
 next_on call k served now (NotReachable code) later = diverted_or call served now (due_at (of_caller call k now) event.NotReachable served) (causes.Unreachable code) later
 next_on call k served now NoReply later = diverted_or call served now (due_at (of_caller call k now) event.NoAnswer served) causes.NoReply later

@@ -15,7 +15,7 @@ use Rattle.mmtel_diversion.specs.Diversion.{deflection_of}
 use Rattle.mmtel_precedence.specs.declared.endings.Ending.TheVariants as ending
 use Rattle.mmtel_precedence.specs.Services.{AccountState, DueDiversion, due_on, own_bound}
 use Rattle.mmtel_precedence.specs.Verdicts.{Decision, Offers, Forwards, Ends, verdict_of}
-use Rattle.mmtel_precedence.specs.Calls.{End, Answer, Cancel, UserBusy, NotReachable, NoReply, Deflection, Other, Ended, Reach, Call, NotOffered, Offered, Answered, Final}
+use Rattle.mmtel_precedence.specs.Calls.{End, Answer, Cancel, Unacknowledged, UserBusy, NotReachable, NoReply, Deflection, Other, Ended, Reach, Call, NotOffered, Offered, Answered, Final}
 use Rattle.mmtel_precedence.specs.Targets.{of_caller, deflected_to, reach_of}
 use Rattle.mmtel_precedence.specs.Outcome.{outcome}
 use Rattle.mmtel_precedence.specs.Moves.{Kept, Phase, Reaching, Ringing, Over, account_at, at_phase, with_target, divert, on_reaching, on_end, moves_enough, at_first}
@@ -70,6 +70,7 @@ deflection_by target rang sheet = option_map (deflected_to target (own_bound she
 abbrev pub turn_on : Circumstances → Option Sheet → End → AfterEnd
 turn_on c sheet Answer = EndAnswered
 turn_on c sheet Cancel = EndRefuse causes.Cancelled
+turn_on c sheet Unacknowledged = EndRefuse causes.Unacknowledged
 turn_on c sheet (UserBusy code) = divert_or_refuse (option_and_then (due_on c event.Busy) sheet) (causes.Relayed code)
 turn_on c sheet (NotReachable code) = divert_or_refuse (option_and_then (due_on c event.NotReachable) sheet) (causes.Unreachable code)
 turn_on c sheet NoReply = divert_or_refuse (option_and_then (due_on c event.NoAnswer) sheet) causes.NoReply

@@ -116,11 +116,13 @@ impl Acks {
         self.last_relayed = None;
     }
 
-    /// Whether the answer of this own number waits for its PRACK: it is of the attempt that is under way, and was not acknowledged.
-    pub fn is_waiting(&self, own: u32) -> bool
+    /// Whether the answer of this own number, as a deadline has it, waits for its PRACK: it is of the attempt that is under way, and was not acknowledged.
+    pub fn is_waiting(&self, own: u64) -> bool
         ensures test { result ≡ has_own own self.now.waiting }
     {
-        self.waiting.iter().any(|answer| answer.own == own)
+        self.waiting
+            .iter()
+            .any(|answer| u64::from(answer.own) == own)
     }
 }
 

@@ -8,17 +8,19 @@ use Rattle.mmtel_types.specs.declared.numbers.Peer.{Peer}
 use Rattle.mmtel_message.specs.Message.{Message}
 use Rattle.mmtel_message.specs.Texts.{message_text}
 use Rattle.mmtel_message.specs.declared.messages.Start.{Start}
+use Rattle.mmtel_transaction.specs.declared.entries.Alarm.{Alarm}
 use Rattle.mmtel_transaction.specs.declared.entries.Entry.{Entry}
-use Rattle.mmtel_transaction.specs.declared.entries.Plan.TheVariants.{End, Final}
+use Rattle.mmtel_transaction.specs.declared.entries.Plan.TheVariants.{End}
+use Rattle.mmtel_transaction.specs.declared.entries.ReliableAnswer.{ReliableAnswer}
 use Rattle.mmtel_transaction.specs.declared.parts.Part.{Part}
 use Rattle.mmtel_transaction.specs.declared.parts.Part.TheVariants as part
 use Rattle.mmtel_transaction.specs.declared.words.Heard.{Heard}
 use Rattle.mmtel_transaction.specs.declared.words.Heard.TheVariants as heard
 use Rattle.mmtel_transaction.specs.declared.words.TKey.{TKey}
 use Rattle.mmtel_transaction.specs.Heads.{head_of, is_invite, is_provisional, is_refusal}
-use Rattle.mmtel_transaction.specs.Deadlines.{deadline, resend_at}
-use Rattle.mmtel_transaction.specs.Changes.{acked, answered, finished, fired, is_ack_of, kept, rang, replied}
-use Rattle.mmtel_transaction.specs.Calls.{Done, DidBegin, DidHear, DidAsk, DidReply, DidAck, DidFire, change, heard_change, is_live, live, offers, opened, step_of}
+use Rattle.mmtel_transaction.specs.Deadlines.{deadline, foremost_in, planned_at, resend_at}
+use Rattle.mmtel_transaction.specs.Changes.{acked, answer_of, answered, finished, fired, fired_by, is_ack_of, kept, offered, rang, replied, settled, with_answers}
+use Rattle.mmtel_transaction.specs.Calls.{Done, DidBegin, DidHear, DidAsk, DidReply, DidAck, DidFire, DidSettle, change, heard_change, is_live, live, offers, opened, step_of}
 use Rattle.mmtel_transaction.specs.Answers.{by_key, gives_same, key_of, then_gives, tkey}
 use Rattle.mmtel_transaction.specs.Belonging.{belongs, is_final_again, owner, response_said, said_by}
 use Rattle.mmtel_transaction.specs.Runs.{IsRun}
@@ -26,10 +28,11 @@ use Rattle.mmtel_transaction.specs.Waiting.{AcksOf2xxEndResends, EndsSuccess, He
 use Rattle.mmtel_transaction.proofs.Lists.{Keeps, keeps_change}
 use Rattle.mmtel_timers.specs.Shelves.{Has}
 use Rattle.mmtel_transaction.proofs.Having.{at_key, has_live, has_more, has_more_back, of_key, same_entry}
-use Rattle.mmtel_transaction.proofs.Acks.{sound}
+use Rattle.mmtel_transaction.proofs.Acks.{acked_silent, sound}
 use Rattle.mmtel_transaction.proofs.Among.{live_below, run_end}
 use Rattle.mmtel_transaction.proofs.Belongs.{hears_by_owner, owners_are_live}
 use Rattle.mmtel_transaction.proofs.Ends.{more_opened, news_key}
+use Rattle.mmtel_transaction.proofs.Unchanged.{offered_client}
 
 -- ---- the ACK of a 2xx
 
@@ -80,6 +83,26 @@ module _ (s : ℕ) (e : Entry) where
   acked_hit : (k : ℕ) (x : Entry) → StaysAcked e x → StaysAcked e (cond (e.key == k) x e)
   acked_hit k x f = acked_if (e.key == k) x e f (λ a. a)
 
+  acked_with : (o : Option ReliableAnswer) → StaysAcked e (with_answers o e)
+  acked_with None = λ a. a
+  acked_with (Some answer) = acked_if (not e.is_server || not (e.done == 0)) e _ (λ a. a) (λ a. a)
+
+  acked_replied : (x : Entry) (i st : ℕ) (t g : List ℕ) (now : ℕ) → StaysAcked e x → StaysAcked e (replied s i st t g now x)
+  acked_replied x i st t g now f = acked_if (not x.is_server || not (x.done == 0)) x _ f (acked_if (is_provisional st) _ _ f f)
+
+  acked_offered : (i : ℕ) (m : Message Start) (now : ℕ) → StaysAcked e (offered s i m now e)
+  acked_offered i m now =
+      let o = answer_of s i m (message_text m) now in
+      acked_replied (with_answers o e) i (head_of m).status (message_text m) (head_of m).to_tag now (acked_with o)
+
+  acked_fired : (o : Option (ℕ × Alarm)) → StaysAcked e (fired_by o s e)
+  acked_fired (Some f) = λ a. a
+  acked_fired None = acked_if (is_some (planned_at e)) _ _ (λ a. a) (λ a. a)
+
+  acked_settled : (own : Option ℕ) → StaysAcked e (settled own e)
+  acked_settled None = λ a. a
+  acked_settled (Some own) = λ a. a
+
   acked_heard : (m : Message Start) (now : ℕ) (t : Part) → StaysAcked e (heard_change s m now t e)
   acked_heard m now part.Fresh a = a
   acked_heard m now part.Full a = a
@@ -94,9 +117,10 @@ module _ (s : ℕ) (e : Entry) where
   acked_change i (DidBegin n) a = a
   acked_change i (DidHear p m now t) a = acked_heard m now t a
   acked_change i (DidAsk p m now) a = a
-  acked_change i (DidReply k m now) a = acked_hit k (replied s i (head_of m).status (message_text m) (head_of m).to_tag now e) (acked_if (not e.is_server || not (e.done == 0)) e _ (λ b. b) (acked_if (is_provisional (head_of m).status) _ _ (λ b. b) (λ b. b))) a
+  acked_change i (DidReply k m now) a = acked_hit k (offered s i m now e) (acked_offered i m now) a
   acked_change i (DidAck k m) a = acked_hit k (kept (message_text m) e) (acked_if (not e.is_server && e.is_refused) _ e (λ b. b) (λ b. b)) a
-  acked_change i (DidFire k) a = acked_hit k (fired s e) (acked_if (is_some (resend_at e)) _ _ (λ b. b) (λ b. b)) a
+  acked_change i (DidFire k) a = acked_hit k (fired s e) (acked_fired (foremost_in e)) a
+  acked_change i (DidSettle k own) a = acked_hit k (settled own e) (acked_settled own) a
 
 -- what each call keeps of a transaction holds of it for as long as it is live
 module _ (P : Entry → Type 0) (key : ℕ) (loud : Done → Bool) (keep : (c : Done) (f : List Done) (e : Entry) → loud c ≡ false → e.key ≡ key → P e → P (change (step_of f) (offers f) c e)) where
@@ -125,7 +149,7 @@ silent h g key e x run q a r =
     let k : e.key ≡ key = (of_key h key e q).1 in
     let less : key < length (opened h) = subst (λ j. j < length (opened h)) k (live_below h e (of_key h key e q).0) in
     let kept = kept_along (λ y. y.is_acked ≡ true) key (λ c. false) (λ c f y l j b. acked_change (step_of f) y (offers f) c b) g h (never g) less first x r in
-    (sound (g ++ h) run x (of_key (g ++ h) key x r).0).acked kept
+    acked_silent x (sound (g ++ h) run x (of_key (g ++ h) key x r).0) kept
 
 -- ---- the ACK that was offered
 
@@ -161,16 +185,25 @@ module _ (s : ℕ) (e : Entry) (client : e.is_server ≡ false) (done : (e.done 
   holds_heard m now part.AckOf2xx = holds_if (is_ack_of (head_of m) e) _ e (refl, λ r. r, refl) as_it_is
   holds_heard m now part.Stray = as_it_is
 
-  holds_replied : (i st : ℕ) (t g : List ℕ) (now : ℕ) → Holds e (replied s i st t g now e)
-  holds_replied i st t g now = subst (λ b. Holds e (cond (not b || not (e.done == 0)) e (cond (is_provisional st) (record e { last = Some t }) (record e { last = Some t; plan = cond (is_invite e.asked) Final End; start = now; shots = 0; step = s; order = i; done = st; to_tag = g; is_refused = is_refusal st })))) (sym client) as_it_is
+  holds_offered : (i : ℕ) (m : Message Start) (now : ℕ) → Holds e (offered s i m now e)
+  holds_offered i m now = subst (Holds e) (sym (offered_client s i m now e client)) as_it_is
+
+  holds_fired : (o : Option (ℕ × Alarm)) → Holds e (fired_by o s e)
+  holds_fired (Some f) = (refl, λ r. r, refl)
+  holds_fired None = holds_if (is_some (planned_at e)) _ _ (refl, λ r. r, refl) (refl, λ r. r, refl)
+
+  holds_settled : (own : Option ℕ) → Holds e (settled own e)
+  holds_settled None = (refl, λ r. r, refl)
+  holds_settled (Some own) = (refl, λ r. r, refl)
 
   holds_change : (i : ℕ) (c : Done) → is_ack_in e.key c ≡ false → Holds e (change s i c e)
   holds_change i (DidBegin n) q = as_it_is
   holds_change i (DidHear p m now t) q = holds_heard m now t
   holds_change i (DidAsk p m now) q = as_it_is
-  holds_change i (DidReply k m now) q = holds_hit k (replied s i (head_of m).status (message_text m) (head_of m).to_tag now e) (holds_replied i (head_of m).status (message_text m) (head_of m).to_tag now)
+  holds_change i (DidReply k m now) q = holds_hit k (offered s i m now e) (holds_offered i m now)
   holds_change i (DidAck k m) q = subst (λ b. Holds e (cond b (kept (message_text m) e) e)) (sym (ne_eqb e.key k (λ f. eqb-false k e.key q (sym f)))) as_it_is
-  holds_change i (DidFire k) q = holds_hit k (fired s e) (holds_if (is_some (resend_at e)) _ _ (refl, λ r. r, refl) (refl, λ r. r, refl))
+  holds_change i (DidFire k) q = holds_hit k (fired s e) (holds_fired (foremost_in e))
+  holds_change i (DidSettle k own) q = holds_hit k (settled own e) (holds_settled own)
 
 -- a client INVITE transaction with this ACK
 record Keeping (p : Peer) (text : List ℕ) (e : Entry) : Type 0 where

@@ -10,18 +10,21 @@ use Rattle.mmtel_message.specs.Message.{Message}
 use Rattle.mmtel_message.specs.Texts.{message_text}
 use Rattle.mmtel_message.specs.declared.messages.Start.{Start}
 use Rattle.mmtel_transaction.specs.declared.heads.Head.{Head}
+use Rattle.mmtel_transaction.specs.declared.entries.Alarm.{Alarm}
 use Rattle.mmtel_transaction.specs.declared.entries.Entry.{Entry}
 use Rattle.mmtel_transaction.specs.declared.entries.Plan.TheVariants as plan
+use Rattle.mmtel_transaction.specs.declared.entries.ReliableAnswer.{ReliableAnswer}
 use Rattle.mmtel_transaction.specs.declared.parts.Part.{Part}
 use Rattle.mmtel_transaction.specs.declared.parts.Part.TheVariants as part
 use Rattle.mmtel_transaction.specs.Heads.{head_of, is_success, is_ack, is_invite, is_provisional, is_refusal, is_same_call}
-use Rattle.mmtel_transaction.specs.Deadlines.{deadline, resend_at}
-use Rattle.mmtel_transaction.specs.Changes.{acked, acked_2xx, answered, finished, hit, is_ack_of, kept, rang, replied}
-use Rattle.mmtel_transaction.specs.Calls.{Done, DidBegin, DidHear, DidAsk, DidReply, DidAck, DidFire, change, heard_opens, is_live, live, offers, opened, opens, step_of}
+use Rattle.mmtel_transaction.specs.Deadlines.{deadline, foremost_in, is_idle, planned_at, resend_at}
+use Rattle.mmtel_transaction.specs.Changes.{acked, acked_2xx, answer_of, answered, finished, fired, fired_by, hit, is_ack_of, kept, offered, rang, replied, settled, with_answers}
+use Rattle.mmtel_transaction.specs.Calls.{Done, DidBegin, DidHear, DidAsk, DidReply, DidAck, DidFire, DidSettle, change, heard_opens, is_live, live, offers, opened, opens, step_of}
 use Rattle.mmtel_transaction.specs.Answers.{by_key, hears, is_client_of, is_full, is_server_of, part_ack, part_of, part_request, part_response}
 use Rattle.mmtel_transaction.specs.Runs.{IsRun}
 use Rattle.mmtel_transaction.specs.Table.{settle}
 use Rattle.mmtel_transaction.specs.Laws.{EndsResends}
+use Rattle.mmtel_transaction.proofs.Foremost.{busy_resend}
 use Rattle.mmtel_transaction.proofs.Lists.{keeps_acked, keeps_change}
 use Rattle.mmtel_transaction.proofs.Standing.{live_hit}
 use Rattle.mmtel_timers.specs.Shelves.{Has}
@@ -59,11 +62,16 @@ acked_is h m j q =
     let w = acked_if j m.is_request (is_ack m) (is_full (live h)) (find (is_server_of m) (live h)) (find (is_client_of m) (live h)) m q in
     (w.0, (found_in (is_server_of m) w.0 (live h) w.1).0, w.2, w.3)
 
--- what is acknowledged is final and not sent again, and what is refused is final
+-- what is acknowledged is final, and by its plan waits for its end alone; and what is refused is final
 pub record IsSound (e : Entry) : Type 0 where
-  pub acked : e.is_acked ≡ true → resend_at e ≡ None
+  pub busy : e.is_acked ≡ true → is_idle e.plan ≡ false
+  pub planned : e.is_acked ≡ true → planned_at e ≡ None
   pub done : e.is_acked ≡ true → (e.done == 0) ≡ false
   pub refused : e.is_refused ≡ true → (e.done == 0) ≡ false
+
+-- so it is not sent again
+pub acked_silent : (e : Entry) → IsSound e → e.is_acked ≡ true → resend_at e ≡ None
+acked_silent e s a = busy_resend e (s.busy a) ∙ s.planned a
 
 sound_if : (b : Bool) (e x : Entry) → (b ≡ true → IsSound e) → (b ≡ false → IsSound x) → IsSound (cond b e x)
 sound_if true e x s t = s refl
@@ -82,9 +90,24 @@ module _ (e : Entry) (s : IsSound e) where
   not_acked : (e.done == 0) ≡ true → e.is_acked ≡ true → ⊥
   not_acked q a = both_ways (e.done == 0) (s.done a) q
 
-  sound_fired : (step : ℕ) (o : Option ℕ) → resend_at e ≡ o → IsSound (cond (is_some o) (record e { shots = e.shots + 1; step = step }) (record e { is_over = true }))
-  sound_fired step None q = record { acked = s.acked; done = s.done; refused = s.refused }
-  sound_fired step (Some a) q = record { acked = λ k. absurd (none-some a (sym (s.acked k) ∙ q)); done = s.done; refused = s.refused }
+  sound_planned : (step : ℕ) (o : Option ℕ) → planned_at e ≡ o → IsSound (cond (is_some o) (record e { shots = e.shots + 1; step = step }) (record e { is_over = true }))
+  sound_planned step None q = record { busy = s.busy; planned = s.planned; done = s.done; refused = s.refused }
+  sound_planned step (Some a) q = record { busy = s.busy; planned = λ k. absurd (none-some a (sym (s.planned k) ∙ q)); done = s.done; refused = s.refused }
+
+  sound_fired_by : (step : ℕ) (o : Option (ℕ × Alarm)) → IsSound (fired_by o step e)
+  sound_fired_by step (Some f) = record { busy = s.busy; planned = s.planned; done = s.done; refused = s.refused }
+  sound_fired_by step None = sound_planned step (planned_at e) refl
+
+  sound_fired : (step : ℕ) → IsSound (fired step e)
+  sound_fired step = sound_fired_by step (foremost_in e)
+
+  sound_settled : (own : Option ℕ) → IsSound (settled own e)
+  sound_settled None = record { busy = s.busy; planned = s.planned; done = s.done; refused = s.refused }
+  sound_settled (Some own) = record { busy = s.busy; planned = s.planned; done = s.done; refused = s.refused }
+
+  sound_with : (o : Option ReliableAnswer) → IsSound (with_answers o e)
+  sound_with None = s
+  sound_with (Some answer) = sound_if (not e.is_server || not (e.done == 0)) e _ (λ q. s) (λ q. record { busy = s.busy; planned = s.planned; done = s.done; refused = s.refused })
 
   undone : (a b : Bool) → (a || not b) ≡ false → b ≡ true
   undone a b q = not-false b (or_parts a (not b) q).1
@@ -92,34 +115,36 @@ module _ (e : Entry) (s : IsSound e) where
   sound_replied : (step i status : ℕ) (text tag : List ℕ) (now : ℕ) → IsSound (replied step i status text tag now e)
   sound_replied step i status text tag now = sound_if (not e.is_server || not (e.done == 0)) e _ (λ q. s) (λ q.
       sound_if (is_provisional status) _ _
-      (λ f. record { acked = s.acked; done = s.done; refused = s.refused })
+      (λ f. record { busy = s.busy; planned = s.planned; done = s.done; refused = s.refused })
       (λ f. record {
-        acked = λ k. absurd (not_acked (undone (not e.is_server) (e.done == 0) q) k);
+        busy = λ k. absurd (not_acked (undone (not e.is_server) (e.done == 0) q) k);
+        planned = λ k. absurd (not_acked (undone (not e.is_server) (e.done == 0) q) k);
         done = λ k. absurd (not_acked (undone (not e.is_server) (e.done == 0) q) k);
         refused = refusal_done status;
       }))
 
   sound_rang : (step now : ℕ) → IsSound (rang step now e)
   sound_rang step now = sound_if (e.is_early || not (e.done == 0)) e _ (λ q. s) (λ q. record {
-    acked = λ k. absurd (not_acked (undone e.is_early (e.done == 0) q) k);
+    busy = λ k. absurd (not_acked (undone e.is_early (e.done == 0) q) k);
+    planned = λ k. absurd (not_acked (undone e.is_early (e.done == 0) q) k);
     done = s.done;
     refused = s.refused;
   })
 
   sound_finished : (step status now : ℕ) → is_provisional status ≡ false → IsSound (finished step status now e)
   sound_finished step status now p = sound_if (not (is_invite e.asked)) _ _
-      (λ q. record { acked = s.acked; done = s.done; refused = s.refused })
+      (λ q. record { busy = s.busy; planned = s.planned; done = s.done; refused = s.refused })
       (λ q. sound_if (not (e.done == 0)) _ _
-      (λ f. record { acked = s.acked; done = s.done; refused = λ k. not-true (e.done == 0) f })
-      (λ f. record { acked = λ k. refl; done = λ k. final_done status p; refused = λ k. final_done status p }))
+      (λ f. record { busy = s.busy; planned = s.planned; done = s.done; refused = λ k. not-true (e.done == 0) f })
+      (λ f. record { busy = λ k. refl; planned = λ k. refl; done = λ k. final_done status p; refused = λ k. final_done status p }))
 
   sound_answered : (step status now : ℕ) → IsSound (answered step status now e)
   sound_answered step status now = sound_if (is_provisional status) (rang step now e) (finished step status now e) (λ q. sound_rang step now) (λ q. sound_finished step status now q)
 
   sound_acked : (step now : ℕ) → e.is_refused ≡ true → IsSound (acked step now e)
-  sound_acked step now q = sound_if e.is_acked e _ (λ f. s) (λ f. record { acked = λ k. refl; done = λ k. s.refused q; refused = s.refused })
+  sound_acked step now q = sound_if e.is_acked e _ (λ f. s) (λ f. record { busy = λ k. refl; planned = λ k. refl; done = λ k. s.refused q; refused = s.refused })
 
-  of_2xx : (m : Head) → is_ack_of m e ≡ true → (e.done == 0) ≡ false
+  pub of_2xx : (m : Head) → is_ack_of m e ≡ true → (e.done == 0) ≡ false
   of_2xx m q =
       let a = and_parts (e.is_server && is_invite e.asked && is_success e.done && not e.is_acked && is_same_call e.asked m) (bytes_eq e.to_tag m.to_tag) q in
       let b = and_parts (e.is_server && is_invite e.asked && is_success e.done && not e.is_acked) (is_same_call e.asked m) a.0 in
@@ -128,10 +153,15 @@ module _ (e : Entry) (s : IsSound e) where
       success_done e.done d.1
 
   sound_acked_2xx : (step : ℕ) (m : Head) → IsSound (acked_2xx step m e)
-  sound_acked_2xx step m = sound_if (is_ack_of m e) _ e (λ q. record { acked = λ k. refl; done = λ k. of_2xx m q; refused = s.refused }) (λ q. s)
+  sound_acked_2xx step m = sound_if (is_ack_of m e) _ e (λ q. record { busy = λ k. refl; planned = λ k. refl; done = λ k. of_2xx m q; refused = s.refused }) (λ q. s)
 
   sound_kept : (text : List ℕ) → IsSound (kept text e)
-  sound_kept text = sound_if (not e.is_server && e.is_refused) _ e (λ q. record { acked = s.acked; done = s.done; refused = s.refused }) (λ q. s)
+  sound_kept text = sound_if (not e.is_server && e.is_refused) _ e (λ q. record { busy = s.busy; planned = s.planned; done = s.done; refused = s.refused }) (λ q. s)
+
+sound_offered : (e : Entry) → IsSound e → (step i : ℕ) (m : Message Start) (now : ℕ) → IsSound (offered step i m now e)
+sound_offered e s step i m now =
+    let o = answer_of step i m (message_text m) now in
+    sound_replied (with_answers o e) (sound_with e s o) step i (head_of m).status (message_text m) (head_of m).to_tag now
 
 module _ (h : List Done) (e : Entry) (g : Has e (live h)) (s : IsSound e) where
   is_refused_at : (m : Head) (j : ℕ) → part.Acked j ≡ part_of m (live h) → (e.key == j) ≡ true → e.is_refused ≡ true
@@ -154,15 +184,16 @@ module _ (h : List Done) (e : Entry) (g : Has e (live h)) (s : IsSound e) where
   sound_more (DidBegin n) r = s
   sound_more (DidHear p m now t) r = sound_heard p m now t r.0
   sound_more (DidAsk p m now) r = s
-  sound_more (DidReply j m now) r = sound_if (e.key == j) _ e (λ f. sound_replied e s (step_of h) (offers h) (head_of m).status (message_text m) (head_of m).to_tag now) (λ f. s)
+  sound_more (DidReply j m now) r = sound_if (e.key == j) _ e (λ f. sound_offered e s (step_of h) (offers h) m now) (λ f. s)
   sound_more (DidAck j m) r = sound_if (e.key == j) _ e (λ f. sound_kept e s (message_text m)) (λ f. s)
-  sound_more (DidFire j) r = sound_if (e.key == j) _ e (λ f. sound_fired e s (step_of h) (resend_at e) refl) (λ f. s)
+  sound_more (DidFire j) r = sound_if (e.key == j) _ e (λ f. sound_fired e s (step_of h)) (λ f. s)
+  sound_more (DidSettle j own) r = sound_if (e.key == j) _ e (λ f. sound_settled e s own) (λ f. s)
 
 sound_same : (e x : Entry) → e ≡ x → IsSound x → IsSound e
 sound_same e x q s = subst IsSound (sym q) s
 
 sound_news_heard : (s k : ℕ) (p : Peer) (m : Message Start) (now : ℕ) (t : Part) (e : Entry) → Has e (heard_opens s k p m now t) → IsSound e
-sound_news_heard s k p m now part.Fresh e (inl q) = sound_same e _ q (record { acked = λ f. absurd cc; done = λ f. absurd cc; refused = λ f. absurd cc })
+sound_news_heard s k p m now part.Fresh e (inl q) = sound_same e _ q (record { busy = λ f. absurd cc; planned = λ f. absurd cc; done = λ f. absurd cc; refused = λ f. absurd cc })
 sound_news_heard s k p m now part.Fresh e (inr f) = absurd f
 sound_news_heard s k p m now part.Full e f = absurd f
 sound_news_heard s k p m now (part.Repeat j) e f = absurd f
@@ -175,11 +206,12 @@ sound_news_heard s k p m now part.Stray e f = absurd f
 sound_news : (s i k : ℕ) (c : Done) (e : Entry) → Has e (opens s i k c) → IsSound e
 sound_news s i k (DidBegin n) e f = absurd f
 sound_news s i k (DidHear p m now t) e f = sound_news_heard s k p m now t e f
-sound_news s i k (DidAsk p m now) e (inl q) = sound_same e _ q (record { acked = λ f. absurd cc; done = λ f. absurd cc; refused = λ f. absurd cc })
+sound_news s i k (DidAsk p m now) e (inl q) = sound_same e _ q (record { busy = λ f. absurd cc; planned = λ f. absurd cc; done = λ f. absurd cc; refused = λ f. absurd cc })
 sound_news s i k (DidAsk p m now) e (inr f) = absurd f
 sound_news s i k (DidReply j m now) e f = absurd f
 sound_news s i k (DidAck j m) e f = absurd f
 sound_news s i k (DidFire j) e f = absurd f
+sound_news s i k (DidSettle j own) e f = absurd f
 
 pub sound : (h : List Done) → IsRun h → (e : Entry) → Has e (live h) → IsSound e
 sound [] r e g = absurd g
@@ -227,7 +259,7 @@ module _ (h : List Done) (p : Peer) (m : Message Start) (now key : ℕ) (r : IsR
   not_again e s f = either e.is_acked refl
     where
       either : (b : Bool) → e.is_acked ≡ b → resend_at (cond b e (record e { is_acked = true; plan = plan.Acked; start = now; shots = 0; step = step_of h })) ≡ None
-      either true a = s.acked a
+      either true a = acked_silent e s a
       either false a = refl
 
   ends_at : (e : Entry) → e.is_acked ≡ false → deadline (acked (step_of h) now e) ≡ Some (now + 5000)

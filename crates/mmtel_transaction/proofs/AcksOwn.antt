@@ -10,13 +10,15 @@ use Rattle.mmtel_message.specs.Message.{Message}
 use Rattle.mmtel_message.specs.Texts.{message_text}
 use Rattle.mmtel_message.specs.declared.messages.Start.{Start}
 use Rattle.mmtel_transaction.specs.declared.heads.Head.{Head}
+use Rattle.mmtel_transaction.specs.declared.entries.Alarm.{Alarm}
 use Rattle.mmtel_transaction.specs.declared.entries.Entry.{Entry}
+use Rattle.mmtel_transaction.specs.declared.entries.ReliableAnswer.{ReliableAnswer}
 use Rattle.mmtel_transaction.specs.declared.parts.Part.{Part}
 use Rattle.mmtel_transaction.specs.declared.parts.Part.TheVariants as part
 use Rattle.mmtel_transaction.specs.Heads.{head_of, invite, is_ack, is_cancel, is_provisional, is_refusal}
-use Rattle.mmtel_transaction.specs.Deadlines.{resend_at}
-use Rattle.mmtel_transaction.specs.Changes.{acked, answered, fired, is_ack_of, kept, replied}
-use Rattle.mmtel_transaction.specs.Calls.{Done, DidBegin, DidHear, DidAsk, DidReply, DidAck, DidFire, change, heard_opens, live, offers, opened, opens, step_of}
+use Rattle.mmtel_transaction.specs.Deadlines.{foremost_in, planned_at}
+use Rattle.mmtel_transaction.specs.Changes.{acked, answer_of, answered, fired, fired_by, is_ack_of, kept, offered, replied, settled, with_answers}
+use Rattle.mmtel_transaction.specs.Calls.{Done, DidBegin, DidHear, DidAsk, DidReply, DidAck, DidFire, DidSettle, change, heard_opens, live, offers, opened, opens, step_of}
 use Rattle.mmtel_transaction.specs.Answers.{is_client_of, is_invite_of, is_server_of, key_method, part_of}
 use Rattle.mmtel_transaction.specs.Belonging.{AcksBelong, IsRefusedInvite, if_refused, owner}
 use Rattle.mmtel_transaction.specs.Runs.{IsRun}
@@ -33,6 +35,26 @@ IsPlain e = e.is_server ≡ true → e.is_refused ≡ is_refusal e.done
 plain_if : (b : Bool) (e x : Entry) → IsPlain e → IsPlain x → IsPlain (cond b e x)
 plain_if true e x f g = f
 plain_if false e x f g = g
+
+plain_with : (o : Option ReliableAnswer) (e : Entry) → IsPlain e → IsPlain (with_answers o e)
+plain_with None e f = f
+plain_with (Some answer) e f = plain_if (not e.is_server || not (e.done == 0)) e _ f f
+
+plain_replied : (e : Entry) → IsPlain e → (s i st : ℕ) (t g : List ℕ) (now : ℕ) → IsPlain (replied s i st t g now e)
+plain_replied e f s i st t g now = plain_if (not e.is_server || not (e.done == 0)) e _ f (plain_if (is_provisional st) _ _ f (λ x. refl))
+
+plain_offered : (e : Entry) → IsPlain e → (s i : ℕ) (m : Message Start) (now : ℕ) → IsPlain (offered s i m now e)
+plain_offered e f s i m now =
+    let o = answer_of s i m (message_text m) now in
+    plain_replied (with_answers o e) (plain_with o e f) s i (head_of m).status (message_text m) (head_of m).to_tag now
+
+plain_fired : (o : Option (ℕ × Alarm)) (s : ℕ) (e : Entry) → IsPlain e → IsPlain (fired_by o s e)
+plain_fired (Some first) s e f = f
+plain_fired None s e f = plain_if (is_some (planned_at e)) _ _ f f
+
+plain_settled : (own : Option ℕ) (e : Entry) → IsPlain e → IsPlain (settled own e)
+plain_settled None e f = f
+plain_settled (Some own) e f = f
 
 module _ (h : List Done) (e : Entry) (g : Has e (live h)) (f : IsPlain e) where
   -- no response answers it
@@ -55,9 +77,10 @@ module _ (h : List Done) (e : Entry) (g : Has e (live h)) (f : IsPlain e) where
   plain_more (DidBegin n) r = f
   plain_more (DidHear p m now t) r = plain_heard p m now t r.0
   plain_more (DidAsk p m now) r = f
-  plain_more (DidReply j m now) r = plain_if (e.key == j) (replied (step_of h) (offers h) (head_of m).status (message_text m) (head_of m).to_tag now e) e (plain_if (not e.is_server || not (e.done == 0)) e _ f (plain_if (is_provisional (head_of m).status) _ _ f (λ s. refl))) f
+  plain_more (DidReply j m now) r = plain_if (e.key == j) (offered (step_of h) (offers h) m now e) e (plain_offered e f (step_of h) (offers h) m now) f
   plain_more (DidAck j m) r = plain_if (e.key == j) (kept (message_text m) e) e (plain_if (not e.is_server && e.is_refused) _ e f f) f
-  plain_more (DidFire j) r = plain_if (e.key == j) (fired (step_of h) e) e (plain_if (is_some (resend_at e)) _ _ f f) f
+  plain_more (DidFire j) r = plain_if (e.key == j) (fired (step_of h) e) e (plain_fired (foremost_in e) (step_of h) e f) f
+  plain_more (DidSettle j own) r = plain_if (e.key == j) (settled own e) e (plain_settled own e f) f
 
 plain_same : (e x : Entry) → e ≡ x → IsPlain x → IsPlain e
 plain_same e x q f = subst IsPlain (sym q) f
@@ -81,6 +104,7 @@ plain_first s i k (DidAsk p m now) e (inr f) = absurd f
 plain_first s i k (DidReply j m now) e f = absurd f
 plain_first s i k (DidAck j m) e f = absurd f
 plain_first s i k (DidFire j) e f = absurd f
+plain_first s i k (DidSettle j own) e f = absurd f
 
 plain : (h : List Done) → IsRun h → (e : Entry) → Has e (live h) → IsPlain e
 plain [] r e g = absurd g

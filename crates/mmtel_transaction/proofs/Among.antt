@@ -15,14 +15,15 @@ use Rattle.mmtel_timers.specs.declared.schedules.Schedule.TheVariants as schedul
 use Rattle.mmtel_transaction.specs.declared.heads.Head.{Head}
 use Rattle.mmtel_transaction.specs.declared.entries.Entry.{Entry}
 use Rattle.mmtel_transaction.specs.declared.entries.Plan.TheVariants.{Idle, Invite, Other, Slow, Final, End}
+use Rattle.mmtel_transaction.specs.declared.entries.ReliableAnswer.{ReliableAnswer}
 use Rattle.mmtel_transaction.specs.declared.parts.Part.{Part}
 use Rattle.mmtel_transaction.specs.declared.parts.Part.TheVariants as part
 use Rattle.mmtel_transaction.specs.declared.words.Due.{Due}
 use Rattle.mmtel_transaction.specs.declared.words.Due.TheVariants as due
 use Rattle.mmtel_transaction.specs.Heads.{head_of, is_success, is_ack, is_invite, is_provisional, is_refusal, is_same_call}
-use Rattle.mmtel_transaction.specs.Deadlines.{counted, deadline, ends, last_at, last_by, resend_at, resend_by}
-use Rattle.mmtel_transaction.specs.Changes.{acked, answered, asked_first, finished, fired, hit, replied}
-use Rattle.mmtel_transaction.specs.Calls.{Done, DidBegin, DidHear, DidAsk, DidReply, DidAck, DidFire, change, is_live, live, offers, opened, step_of}
+use Rattle.mmtel_transaction.specs.Deadlines.{counted, deadline, ends, is_idle, last_at, last_by, planned_at, resend_at, resend_by}
+use Rattle.mmtel_transaction.specs.Changes.{acked, answer_of, answered, asked_first, finished, fired, hit, replied, with_answers}
+use Rattle.mmtel_transaction.specs.Calls.{Done, DidBegin, DidHear, DidAsk, DidReply, DidAck, DidFire, DidSettle, change, is_live, live, offers, opened, step_of}
 use Rattle.mmtel_transaction.specs.Answers.{Next, by_key, is_client_of, is_full, is_server_of, next_due, part_of, says_due, tkey}
 use Rattle.mmtel_transaction.specs.Runs.{IsNextOf, IsRun}
 use Rattle.mmtel_transaction.specs.Laws.{sent_again}
@@ -30,7 +31,9 @@ use Rattle.mmtel_transaction.specs.Waiting.{AwaitsFinal, acknowledges, FinalsAwa
 use Rattle.mmtel_transaction.proofs.Lists.{Rising, keeps_change, rising}
 use Rattle.mmtel_timers.specs.Shelves.{Has}
 use Rattle.mmtel_transaction.proofs.Having.{at_key, found_in, has_live, has_more, has_more_back, has_new, of_key, run_before, same_entry}
+use Rattle.mmtel_transaction.proofs.Foremost.{busy_fired, busy_resend, busy_text, planned_by}
 use Rattle.mmtel_transaction.proofs.Order.{is_next, none_due}
+use Rattle.mmtel_transaction.proofs.Unchanged.{offered_client, offered_done, settled_none}
 use Rattle.mmtel_transaction.proofs.Ends.{more_opened, none_of, still_ended}
 use Rattle.mmtel_transaction.proofs.Acks.{acked_is, final_done, sound}
 use Rattle.mmtel_transaction.proofs.Repeats.{answer_if, no_answer}
@@ -102,15 +105,16 @@ abbrev pub shot : Entry → ℕ → ℕ → Entry
 shot b s n = record b { shots = n; step = s }
 
 -- what a firing alone makes of a transaction
-abbrev fired_by : ℕ → Done → Entry → Entry
-fired_by s (DidBegin n) e = e
-fired_by s (DidHear p m now t) e = e
-fired_by s (DidAsk p m now) e = e
-fired_by s (DidReply k m now) e = e
-fired_by s (DidAck k m) e = e
-fired_by s (DidFire k) e = hit k (fired s) e
+abbrev by_firing : ℕ → Done → Entry → Entry
+by_firing s (DidBegin n) e = e
+by_firing s (DidHear p m now t) e = e
+by_firing s (DidAsk p m now) e = e
+by_firing s (DidReply k m now) e = e
+by_firing s (DidAck k m) e = e
+by_firing s (DidFire k) e = hit k (fired s) e
+by_firing s (DidSettle k own) e = e
 
-module _ (key : ℕ) (b : Entry) (moments : List ℕ) (at : b.key ≡ key) (alive : b.is_over ≡ false) (r : (s n : ℕ) → resend_at (shot b s n) ≡ counted b.start moments n) (z : last_at b ≡ Some (b.start + 32000)) where
+module _ (key : ℕ) (b : Entry) (moments : List ℕ) (at : b.key ≡ key) (alive : b.is_over ≡ false) (busy : is_idle b.plan ≡ false) (r : (s n : ℕ) → planned_at (shot b s n) ≡ counted b.start moments n) (z : last_at b ≡ Some (b.start + 32000)) where
   -- it stands, and so many fired; or all of them did, and it is no longer live
   abbrev State : ℕ → List Done → Type 0
   State n h = ((n ≤ length moments) × ((s : ℕ) × Has (shot b s n) (live h))) ⊎ ((length moments < n) × (by_key key (live h) ≡ None))
@@ -120,13 +124,13 @@ module _ (key : ℕ) (b : Entry) (moments : List ℕ) (at : b.key ≡ key) (aliv
 
   fires_again : (t s n d : ℕ) → slice_get moments n ≡ Some d → fired t (shot b s n) ≡ shot b t (suc n)
   fires_again t s n d q =
-      let w : resend_at (shot b s n) ≡ Some (b.start + d) = r s n ∙ ap (option_map (λ x. b.start + x)) q in
-      ap (λ o. cond (is_some o) (shot b t (n + 1)) (record (shot b s n) { is_over = true })) w ∙ ap (shot b t) (let a : n + 1 ≡ suc n = omega arith in a)
+      let w : planned_at (shot b s n) ≡ Some (b.start + d) = r s n ∙ ap (option_map (λ x. b.start + x)) q in
+      busy_fired (shot b s n) t busy ∙ (ap (λ o. planned_by o t (shot b s n)) w ∙ ap (shot b t) (let a : n + 1 ≡ suc n = omega arith in a))
 
   fires_last : (t s n : ℕ) → slice_get moments n ≡ None → is_live (fired t (shot b s n)) ≡ false
   fires_last t s n q =
-      let w : resend_at (shot b s n) ≡ None = r s n ∙ ap (option_map (λ x. b.start + x)) q in
-      ap (λ o. is_live (cond (is_some o) (shot b t (n + 1)) (record (shot b s n) { is_over = true }))) w
+      let w : planned_at (shot b s n) ≡ None = r s n ∙ ap (option_map (λ x. b.start + x)) q in
+      ap is_live (busy_fired (shot b s n) t busy) ∙ ap (λ o. is_live (planned_by o t (shot b s n))) w
 
   stands : (c : Done) (h : List Done) (s t n m : ℕ) → Has (shot b s n) (live h) → change (step_of h) (offers h) c (shot b s n) ≡ shot b t m → Has (shot b t m) (live (c ∷ h))
   stands c h s t n m g q = subst (λ e. Has e (live (c ∷ h))) q (has_more c h (shot b s n) g (ap is_live q ∙ lives t m))
@@ -163,7 +167,7 @@ module _ (key : ℕ) (b : Entry) (moments : List ℕ) (at : b.key ≡ key) (aliv
 
   -- a call that changes nothing of it, but where its deadline fires
   abbrev Quiet : Done → List Done → Type 0
-  Quiet c h = (s n : ℕ) → Has (shot b s n) (live h) → change (step_of h) (offers h) c (shot b s n) ≡ fired_by (step_of h) c (shot b s n)
+  Quiet c h = (s n : ℕ) → Has (shot b s n) (live h) → change (step_of h) (offers h) c (shot b s n) ≡ by_firing (step_of h) c (shot b s n)
 
   other_more : (c : Done) (h : List Done) (n : ℕ) → key < length (opened h) → ((s : ℕ) → Has (shot b s n) (live h) → change (step_of h) (offers h) c (shot b s n) ≡ shot b s n) → State n h → State n (c ∷ h)
   other_more c h n less q (inl w) = inl (w.0, (w.1.0, stands c h w.1.0 w.1.0 n n w.1.1 (q w.1.0 w.1.1)))
@@ -175,6 +179,7 @@ module _ (key : ℕ) (b : Entry) (moments : List ℕ) (at : b.key ≡ key) (aliv
   more (DidAsk p m now) g h less q w = other_more (DidAsk p m now) (g ++ h) (times_fired key g) less (λ s f. q s (times_fired key g) f) w
   more (DidReply j m now) g h less q w = other_more (DidReply j m now) (g ++ h) (times_fired key g) less (λ s f. q s (times_fired key g) f) w
   more (DidAck j m) g h less q w = other_more (DidAck j m) (g ++ h) (times_fired key g) less (λ s f. q s (times_fired key g) f) w
+  more (DidSettle j own) g h less q w = other_more (DidSettle j own) (g ++ h) (times_fired key g) less (λ s f. q s (times_fired key g) f) w
   more (DidFire j) g h less q (inl w) = fire_if (j == key) j (g ++ h) w.1.0 (times_fired key g) refl w.0 w.1.1
   more (DidFire j) g h less q (inr w) = over_if (j == key) j (times_fired key g) (g ++ h) w.0 (still_ended (DidFire j) (g ++ h) key less w.1)
 
@@ -189,16 +194,16 @@ module _ (key : ℕ) (b : Entry) (moments : List ℕ) (at : b.key ≡ key) (aliv
   found s n h g = subst (λ j. by_key j (live h) ≡ Some (shot b s n)) at (at_key h (shot b s n) g)
 
   waits : (s n : ℕ) (o : Option ℕ) → slice_get moments n ≡ o → deadline (shot b s n) ≡ option_or (option_map (λ d. b.start + d) o) (Some (b.start + 32000))
-  waits s n o q = ap (λ x. option_or x (last_at b)) (r s n ∙ ap (option_map (λ d. b.start + d)) q) ∙ ap (option_or (option_map (λ d. b.start + d) o)) z
+  waits s n o q = ap (λ x. option_or x (last_at b)) (busy_resend (shot b s n) busy ∙ (r s n ∙ ap (option_map (λ d. b.start + d)) q)) ∙ ap (option_or (option_map (λ d. b.start + d) o)) z
 
   next : (n : ℕ) (h : List Done) → State n h → option_map deadline (by_key key (live h)) ≡ option_map (λ d. Some (b.start + d)) (slice_get (moments ++ 32000 ∷ []) n)
   next n h (inl w) = ap (option_map deadline) (found w.1.0 n h w.1.1) ∙ (ap (λ x. Some x) (waits w.1.0 n (slice_get moments n) refl) ∙ next_at b.start moments n w.0)
   next n h (inr w) = ap (option_map deadline) w.1 ∙ ap (option_map (λ d. Some (b.start + d))) (sym (past_at moments n w.0))
 
-  module _ (low : AreBelow moments) where
+  module _ (low : AreBelow 32000 moments) where
     not_late : (s n a : ℕ) (o : Option ℕ) → slice_get moments n ≡ o → deadline (shot b s n) ≡ Some a → a ≤ b.start + 32000
     not_late s n a None q d = let w = same_Some (b.start + 32000) a (sym (waits s n None q) ∙ d) in omega (arith, w)
-    not_late s n a (Some x) q d = let w = same_Some (b.start + x) a (sym (waits s n (Some x) q) ∙ d) in omega (arith, w, below_at moments low x n q)
+    not_late s n a (Some x) q d = let w = same_Some (b.start + x) a (sym (waits s n (Some x) q) ∙ d) in omega (arith, w, below_at 32000 moments low x n q)
 
     has_one : (s n : ℕ) (o : Option ℕ) → slice_get moments n ≡ o → (a : ℕ) × (deadline (shot b s n) ≡ Some a)
     has_one s n None q = (b.start + 32000, waits s n None q)
@@ -236,11 +241,15 @@ resend_if : (i : Bool) (start opened n : ℕ) → resend_by (cond i Invite Other
 resend_if true start opened n = refl
 resend_if false start opened n = refl
 
+busy_if : (i : Bool) → is_idle (cond i Invite Other) ≡ false
+busy_if true = refl
+busy_if false = refl
+
 last_if : (i : Bool) (start opened : ℕ) → last_by (cond i Invite Other) start opened ≡ Some (start + 32000)
 last_if true start opened = refl
 last_if false start opened = refl
 
-below_if : (i : Bool) → AreBelow (moments_of (cond i schedule.Invite schedule.Other))
+below_if : (i : Bool) → AreBelow 32000 (moments_of (cond i schedule.Invite schedule.Other))
 below_if true = invites_below
 below_if false = others_below
 
@@ -253,7 +262,7 @@ says_again : (x : Option ℕ) (o : Option ℕ) (a b : Due) → x ≡ o → cond 
 says_again x o a b q = ap (λ y. cond (is_some y) a b) q
 
 -- an ACK of a non-2xx final is of no transaction that has none
-not_acked : (h : List Done) (m : Head) (j : ℕ) (e : Entry) → part.Acked j ≡ part_of m (live h) → Has e (live h) → e.is_refused ≡ false → (e.key == j) ≡ false
+pub not_acked : (h : List Done) (m : Head) (j : ℕ) (e : Entry) → part.Acked j ≡ part_of m (live h) → Has e (live h) → e.is_refused ≡ false → (e.key == j) ≡ false
 not_acked h m j e q g f = ne_eqb e.key j (λ k.
     let w = acked_is h m j q in
     let same : w.0 ≡ e = same_entry h w.0 e w.1 g (sym w.3 ∙ sym k) in
@@ -280,19 +289,26 @@ module _ (h : List Done) (p : Peer) (m : Message Start) (t : ℕ) where
   heard_quiet g q n now part.AckOf2xx r a s k f = refl
   heard_quiet g q n now part.Stray r a s k f = refl
 
-  asked_quiet : (c : Done) (g : List Done) → IsRun (c ∷ g) → is_answer_to own_key c ≡ false → (s k : ℕ) → Has (shot first s k) (live g) → change (step_of g) (offers g) c (shot first s k) ≡ fired_by (step_of g) c (shot first s k)
+  asked_quiet : (c : Done) (g : List Done) → IsRun (c ∷ g) → is_answer_to own_key c ≡ false → (s k : ℕ) → Has (shot first s k) (live g) → change (step_of g) (offers g) c (shot first s k) ≡ by_firing (step_of g) c (shot first s k)
   asked_quiet (DidBegin x) g r a s k f = refl
   asked_quiet (DidHear q n now taken) g r a s k f = heard_quiet g q n now taken r.0 a s k f
   asked_quiet (DidAsk q n now) g r a s k f = refl
-  asked_quiet (DidReply j n now) g r a s k f = same_if (own_key == j) (shot first s k)
+  asked_quiet (DidReply j n now) g r a s k f = ap (λ x. cond (own_key == j) x (shot first s k)) (offered_client (step_of g) (offers g) n now (shot first s k) refl) ∙ same_if (own_key == j) (shot first s k)
   asked_quiet (DidAck j n) g r a s k f = same_if (own_key == j) (shot first s k)
   asked_quiet (DidFire j) g r a s k f = refl
+  asked_quiet (DidSettle j own) g r a s k f = ap (λ x. cond (own_key == j) x (shot first s k)) (settled_none own (shot first s k) refl) ∙ same_if (own_key == j) (shot first s k)
 
   abbrev its_moments : List ℕ
   its_moments = request_moments (head_of m)
 
+  its_plan : (s n : ℕ) → planned_at (shot first s n) ≡ counted t its_moments n
+  its_plan s n = resend_if (is_invite (head_of m)) t t n
+
+  its_busy : is_idle first.plan ≡ false
+  its_busy = busy_if (is_invite (head_of m))
+
   its_resend : (s n : ℕ) → resend_at (shot first s n) ≡ counted t its_moments n
-  its_resend s n = resend_if (is_invite (head_of m)) t t n
+  its_resend s n = busy_resend (shot first s n) its_busy ∙ its_plan s n
 
   abbrev AskedState : ℕ → List Done → Type 0
   AskedState n g = ((n ≤ length its_moments) × ((s : ℕ) × Has (shot first s n) (live g))) ⊎ ((length its_moments < n) × (by_key own_key (live g) ≡ None))
@@ -302,18 +318,18 @@ module _ (h : List Done) (p : Peer) (m : Message Start) (t : ℕ) where
 
   asked_state : (g : List Done) → IsRun (g ++ DidAsk p m t ∷ h) → list_any (is_answer_to own_key) g ≡ false → AskedState (times_fired own_key g) (g ++ DidAsk p m t ∷ h)
   asked_state g run quiet =
-      tracked own_key first its_moments refl refl its_resend (last_if (is_invite (head_of m)) t t) (is_answer_to own_key) asked_quiet g (DidAsk p m t ∷ h) run quiet asked_less
+      tracked own_key first its_moments refl refl its_busy its_plan (last_if (is_invite (head_of m)) t t) (is_answer_to own_key) asked_quiet g (DidAsk p m t ∷ h) run quiet asked_less
       (inl (omega arith, (step_of h, has_new (DidAsk p m t) h first (inl refl))))
 
   asked_again : (s n d : ℕ) → slice_get its_moments n ≡ Some d → says_due (Some (record { at = t + d; entry = shot first s n })) ≡ sent_again p m t d
-  asked_again s n d q = says_again (resend_at (shot first s n)) (Some (t + d)) _ _ (its_resend s n ∙ ap (option_map (λ x. t + x)) q)
+  asked_again s n d q = says_again (resend_at (shot first s n)) (Some (t + d)) _ _ (its_resend s n ∙ ap (option_map (λ x. t + x)) q) ∙ ap (due.Again p (t + d)) (busy_text (shot first s n) its_busy)
 
   asked_last : (s n : ℕ) → slice_get its_moments n ≡ None → says_due (Some (record { at = t + 32000; entry = shot first s n })) ≡ due.Silent (tkey own_key) (head_of m).branch (head_of m).method (t + 32000)
   asked_last s n q = says_again (resend_at (shot first s n)) None _ _ (its_resend s n ∙ ap (option_map (λ x. t + x)) q) ∙ ends_if (is_invite (head_of m)) own_key (head_of m) (t + 32000)
 
   asked_goes : (g : List Done) → IsRun (g ++ DidAsk p m t ∷ h) → list_any (is_answer_to own_key) g ≡ false → GoesBy own_key t its_moments (said_of_request own_key p m t) (times_fired own_key g) (g ++ DidAsk p m t ∷ h)
   asked_goes g run quiet =
-      goes own_key first its_moments refl refl its_resend (last_if (is_invite (head_of m)) t t) (below_if (is_invite (head_of m))) (sent_again p m t) (due.Silent (tkey own_key) (head_of m).branch (head_of m).method (t + 32000)) asked_again asked_last
+      goes own_key first its_moments refl refl its_busy its_plan (last_if (is_invite (head_of m)) t t) (below_if (is_invite (head_of m))) (sent_again p m t) (due.Silent (tkey own_key) (head_of m).branch (head_of m).method (t + 32000)) asked_again asked_last
       (times_fired own_key g) (g ++ DidAsk p m t ∷ h) (asked_state g run quiet)
 
 pub unanswered : UnansweredAreGivenUp
@@ -365,9 +381,10 @@ module _ (h : List Done) (p : Peer) (m : Message Start) (t at : ℕ) where
   rung_quiet (DidBegin x) g r a s f = refl
   rung_quiet (DidHear q n now taken) g r a s f = rung_heard g q n now taken r.0 a s f
   rung_quiet (DidAsk q n now) g r a s f = refl
-  rung_quiet (DidReply j n now) g r a s f = same_if (this_key == j) (rung s)
+  rung_quiet (DidReply j n now) g r a s f = ap (λ x. cond (this_key == j) x (rung s)) (offered_client (step_of g) (offers g) n now (rung s) refl) ∙ same_if (this_key == j) (rung s)
   rung_quiet (DidAck j n) g r a s f = same_if (this_key == j) (rung s)
   rung_quiet (DidFire j) g r a s f = ap (λ b. cond b (fired (step_of g) (rung s)) (rung s)) (not_next g j s r.0 f)
+  rung_quiet (DidSettle j own) g r a s f = ap (λ x. cond (this_key == j) x (rung s)) (settled_none own (rung s) refl) ∙ same_if (this_key == j) (rung s)
 
   still_rung : (f g : List Done) (s : ℕ) → IsRun (f ++ g) → list_any (is_final_to this_key) f ≡ false → Has (rung s) (live g) → Has (rung s) (live (f ++ g))
   still_rung [] g s run quiet w = w
@@ -430,6 +447,7 @@ module _ (h : List Done) (key : ℕ) (e : Entry) (m : Message Start) (t : ℕ) (
     step = step_of h;
     order = offers h;
     last = Some (message_text m);
+    reliable = [];
     is_early = e.is_early;
     done = (head_of m).status;
     to_tag = (head_of m).to_tag;
@@ -447,8 +465,12 @@ module _ (h : List Done) (key : ℕ) (e : Entry) (m : Message Start) (t : ℕ) (
   not_over : e.is_over ≡ false
   not_over = not-true e.is_over (has_live h e its_own.0)
 
+  final_with : IsRun h → (o : Option ReliableAnswer) → cond (e.key == key) (replied (step_of h) (offers h) (head_of m).status (message_text m) (head_of m).to_tag t (with_answers o e)) e ≡ final
+  final_with run None = rw (its_own.1, eq-eqb key key refl, w.server, w.undone, pr, w.invite, not_yet run, not_over) refl
+  final_with run (Some answer) = rw (its_own.1, eq-eqb key key refl, w.server, w.undone, pr, w.invite, not_yet run, not_over) refl
+
   final_is : IsRun h → change (step_of h) (offers h) (DidReply key m t) e ≡ final
-  final_is run = rw (its_own.1, eq-eqb key key refl, w.server, w.undone, pr, w.invite, not_yet run, not_over) refl
+  final_is run = final_with run (answer_of (step_of h) (offers h) m (message_text m) t)
 
   final_first : IsRun h → Has (shot final (step_of h) 0) (live (DidReply key m t ∷ h))
   final_first run = subst (λ x. Has x (live (DidReply key m t ∷ h))) (final_is run) (has_more (DidReply key m t) h e its_own.0 (ap is_live (final_is run)))
@@ -466,27 +488,17 @@ module _ (h : List Done) (key : ℕ) (e : Entry) (m : Message Start) (t : ℕ) (
   server_quiet g q n now part.AckOf2xx r a s k f = ap (λ b. cond b (record (shot final s k) { is_acked = true; plan = End; step = step_of g }) (shot final s k)) (ack_if (is_invite e.asked) (is_success (head_of m).status) (is_same_call e.asked (head_of n)) (bytes_eq (head_of m).to_tag (head_of n).to_tag) w.invite a)
   server_quiet g q n now part.Stray r a s k f = refl
 
-  -- what a first final would make of it
-  abbrev another : List Done → Message Start → ℕ → ℕ → ℕ → Entry
-  another g n now s k =
-      cond (is_provisional (head_of n).status) (record (shot final s k) { last = Some (message_text n) })
-      (record (shot final s k) { last = Some (message_text n); plan = cond (is_invite e.asked) Final End; start = now; shots = 0; step = step_of g; order = offers g; done = (head_of n).status; to_tag = (head_of n).to_tag; is_refused = is_refusal (head_of n).status })
-
-  replied_quiet : (g : List Done) (j : ℕ) (n : Message Start) (now s k : ℕ) → change (step_of g) (offers g) (DidReply j n now) (shot final s k) ≡ shot final s k
-  replied_quiet g j n now s k =
-      let d : replied (step_of g) (offers g) (head_of n).status (message_text n) (head_of n).to_tag now (shot final s k) ≡ shot final s k = ap (λ b. cond (not b) (shot final s k) (another g n now s k)) (final_done (head_of m).status pr) in
-      ap (λ x. cond (key == j) x (shot final s k)) d ∙ same_if (key == j) (shot final s k)
-
-  final_quiet : (c : Done) (g : List Done) → IsRun (c ∷ g) → is_ack_to key e.asked (head_of m) c ≡ false → (s k : ℕ) → Has (shot final s k) (live g) → change (step_of g) (offers g) c (shot final s k) ≡ fired_by (step_of g) c (shot final s k)
+  final_quiet : (c : Done) (g : List Done) → IsRun (c ∷ g) → is_ack_to key e.asked (head_of m) c ≡ false → (s k : ℕ) → Has (shot final s k) (live g) → change (step_of g) (offers g) c (shot final s k) ≡ by_firing (step_of g) c (shot final s k)
   final_quiet (DidBegin x) g r a s k f = refl
   final_quiet (DidHear q n now taken) g r a s k f = server_quiet g q n now taken r.0 a s k f
   final_quiet (DidAsk q n now) g r a s k f = refl
-  final_quiet (DidReply j n now) g r a s k f = replied_quiet g j n now s k
+  final_quiet (DidReply j n now) g r a s k f = ap (λ x. cond (key == j) x (shot final s k)) (offered_done (step_of g) (offers g) n now (shot final s k) (final_done (head_of m).status pr)) ∙ same_if (key == j) (shot final s k)
   final_quiet (DidAck j n) g r a s k f = same_if (key == j) (shot final s k)
   final_quiet (DidFire j) g r a s k f = refl
+  final_quiet (DidSettle j own) g r a s k f = ap (λ x. cond (key == j) x (shot final s k)) (settled_none own (shot final s k) refl) ∙ same_if (key == j) (shot final s k)
 
-  final_resend : (s n : ℕ) → resend_at (shot final s n) ≡ counted t (moments_of schedule.Other) n
-  final_resend s n = refl
+  final_plan : (s n : ℕ) → planned_at (shot final s n) ≡ counted t (moments_of schedule.Other) n
+  final_plan s n = refl
 
   final_again : (s n d : ℕ) → slice_get (moments_of schedule.Other) n ≡ Some d → says_due (Some (record { at = t + d; entry = shot final s n })) ≡ sent_again e.peer m t d
   final_again s n d q = says_again (resend_at (shot final s n)) (Some (t + d)) _ _ (ap (option_map (λ x. t + x)) q)
@@ -500,9 +512,9 @@ module _ (h : List Done) (key : ℕ) (e : Entry) (m : Message Start) (t : ℕ) (
   final_goes : (g : List Done) → IsRun (g ++ DidReply key m t ∷ h) → list_any (is_ack_to key e.asked (head_of m)) g ≡ false → GoesBy key t (moments_of schedule.Other) (said_of_final key e.peer m t) (times_fired key g) (g ++ DidReply key m t ∷ h)
   final_goes g run quiet =
       let before : IsRun h = run_end g (DidReply key m t ∷ h) run in
-      goes key final (moments_of schedule.Other) refl refl final_resend refl others_below (sent_again e.peer m t) (due.Over (tkey key) (t + 32000)) final_again final_last
+      goes key final (moments_of schedule.Other) refl refl refl final_plan refl others_below (sent_again e.peer m t) (due.Over (tkey key) (t + 32000)) final_again final_last
       (times_fired key g) (g ++ DidReply key m t ∷ h)
-      (tracked key final (moments_of schedule.Other) refl refl final_resend refl (is_ack_to key e.asked (head_of m)) final_quiet g (DidReply key m t ∷ h) run quiet (final_less before) (inl (omega arith, (step_of h, final_first before))))
+      (tracked key final (moments_of schedule.Other) refl refl refl final_plan refl (is_ack_to key e.asked (head_of m)) final_quiet g (DidReply key m t ∷ h) run quiet (final_less before) (inl (omega arith, (step_of h, final_first before))))
 
 pub unacknowledged : FinalsAwaitTheirAck
 unacknowledged h g key e m t w pr run quiet = final_goes h key e m t w pr g run quiet

@@ -1,59 +1,177 @@
 -- A deadline is armed in the step of the call that brought it.
-use Rattle.std.proofs.Common.{◌≡◌, ℕ, List, ◌∷◌, length, refl, true, false, Bool, not, ◌&&◌, ◌||◌, ◌⊎◌, inl, inr, sym, ap, ◌∙◌, cond, subst}
-use Rattle.std.specs.Prelude.{Some, ◌==◌, is_some}
+use Rattle.std.proofs.Common.{◌≡◌, ℕ, zero, suc, ◌+◌, List, [], ◌∷◌, ◌++◌, length, refl, true, false, Bool, not, ◌&&◌, ◌||◌, ◌⊎◌, inl, inr, sym, ap, ◌∙◌, cond, subst}
+use Rattle.std.specs.Prelude.{Option, Some, None, ◌==◌, filter, flat_map, is_some, option_map, option_to_list, slice_get}
+use Rattle.std.specs.Option.{option_or}
+use Rattle.std.proofs.lemmas.Option.{none-some, same_Some}
 use Rattle.mmtel_types.specs.declared.numbers.Peer.{Peer}
 use Rattle.mmtel_message.specs.Message.{Message}
 use Rattle.mmtel_message.specs.Texts.{message_text}
 use Rattle.mmtel_message.specs.declared.messages.Start.{Start}
 use Rattle.mmtel_transaction.specs.declared.heads.Head.{Head}
+use Rattle.mmtel_transaction.specs.declared.entries.Alarm.{Alarm}
 use Rattle.mmtel_transaction.specs.declared.entries.Entry.{Entry}
+use Rattle.mmtel_transaction.specs.declared.entries.Plan.TheVariants.{Idle, Slow, Final, End}
+use Rattle.mmtel_transaction.specs.declared.entries.Plan.TheVariants as plan
+use Rattle.mmtel_transaction.specs.declared.entries.ReliableAnswer.{ReliableAnswer}
 use Rattle.mmtel_transaction.specs.declared.parts.Part.{Part}
 use Rattle.mmtel_transaction.specs.declared.parts.Part.TheVariants as part
-use Rattle.mmtel_transaction.specs.Heads.{head_of, is_invite, is_provisional}
-use Rattle.mmtel_transaction.specs.Deadlines.{deadline, resend_at}
-use Rattle.mmtel_transaction.specs.Changes.{acked, acked_2xx, answered, finished, fired, is_ack_of, kept, rang, replied}
-use Rattle.mmtel_transaction.specs.Calls.{Done, DidBegin, DidHear, DidAsk, DidReply, DidAck, DidFire, change, heard_change, heard_opens, is_live, live, offers, opened, opens, step_of}
+use Rattle.mmtel_transaction.specs.Heads.{head_of, is_invite, is_provisional, is_refusal, reliable_number}
+use Rattle.mmtel_transaction.specs.Deadlines.{alarm_at_plan, alarm_of, answer_alarms, answers_alarms, deadline, foremost_in, is_idle, last_at, message_due, order_due, plan_alarms, planned_at, step_due}
+use Rattle.mmtel_transaction.specs.Changes.{acked, acked_2xx, answer_of, answered, finished, fired, fired_by, is_ack_of, kept, offered, planned, rang, replied, settled, with_answer, with_answers, without_own}
+use Rattle.mmtel_transaction.specs.Calls.{Done, DidBegin, DidHear, DidAsk, DidReply, DidAck, DidFire, DidSettle, change, heard_change, heard_opens, is_live, live, offers, opened, opens, step_of}
 use Rattle.mmtel_transaction.specs.Answers.{by_key}
 use Rattle.mmtel_transaction.specs.Settling.{ArmedInItsStep}
 use Rattle.mmtel_transaction.proofs.Lists.{keeps_change}
 use Rattle.mmtel_timers.specs.Shelves.{Has}
+use Rattle.mmtel_transaction.proofs.Foremost.{again, again_at, alarm_in, alarm_there, answers_in, fired_answer, its_step, next_alarm, no_answer_in, plan_alarm, plan_alarm_at, plan_is}
 use Rattle.mmtel_transaction.proofs.Having.{at_key, has_live, has_more_back, of_key}
 
--- a changed transaction that is live was armed in this step, or waits as before
+-- what an answer or a plan has next stands among all of that
+abbrev At : List Alarm → Alarm → Type 0
+At ls a = (place : ℕ) × (slice_get ls place ≡ Some a)
+
+at_left : (ls bs : List Alarm) (a : Alarm) → At ls a → At (ls ++ bs) a
+at_left [] bs a w = absurd (none-some a w.1)
+at_left (x ∷ ls) bs a (zero, q) = (0, q)
+at_left (x ∷ ls) bs a (suc i, q) = let w = at_left ls bs a (i, q) in (suc w.0, w.1)
+
+at_right : (ls bs : List Alarm) (a : Alarm) → At bs a → At (ls ++ bs) a
+at_right [] bs a w = w
+at_right (x ∷ ls) bs a w = let v = at_right ls bs a w in (suc v.0, v.1)
+
+at_first : (o : Option Alarm) (ls : List Alarm) (a : Alarm) → o ≡ Some a → At (option_to_list o ++ ls) a
+at_first None ls a q = absurd (none-some a q)
+at_first (Some x) ls a q = (0, q)
+
+answer_at : (xs : List ReliableAnswer) (i : ℕ) (a : Alarm) → alarm_there xs i ≡ Some a → At (flat_map answer_alarms xs) a
+answer_at [] i a q = absurd (none-some a q)
+answer_at (x ∷ xs) zero a q = at_first (alarm_of x) (flat_map answer_alarms xs) a q
+answer_at (x ∷ xs) (suc i) a q = at_right (answer_alarms x) (flat_map answer_alarms xs) a (answer_at xs i a q)
+
+plan_at : (e : Entry) (o : Option ℕ) (a : Alarm) → plan_alarm_at e o ≡ Some a → At (alarm_at_plan e o) a
+plan_at e None a q = absurd (none-some a q)
+plan_at e (Some at) a q = (0, q)
+
+abbrev Stood : Entry → Alarm → Type 0
+Stood e a = At (answers_alarms e ++ plan_alarms e) a
+
+answer_stood : (e : Entry) (i : ℕ) (a : Alarm) → alarm_there e.reliable i ≡ Some a → Stood e a
+answer_stood e i a q = at_left (answers_alarms e) (plan_alarms e) a (answer_at e.reliable i a q)
+
+plan_stood : (e : Entry) (a : Alarm) → plan_alarm e ≡ Some a → Stood e a
+plan_stood e a q = at_right (answers_alarms e) (plan_alarms e) a (plan_at e (option_or (planned_at e) (last_at e)) a q)
+
+-- what a changed transaction that is live waits for was armed in this step, or stood before
 abbrev Armed : ℕ → Entry → Entry → Type 0
-Armed s e x = is_live x ≡ true → (x.step ≡ s) ⊎ ((deadline x ≡ deadline e) × (x.step ≡ e.step) × (x.order ≡ e.order))
+Armed s e x = is_live x ≡ true → (p : Option ℕ) (a : Alarm) → alarm_in x p ≡ Some a → (a.step ≡ s) ⊎ Stood e a
 
 module _ (s : ℕ) (e : Entry) where
   armed_if : (b : Bool) (x y : Entry) → Armed s e x → Armed s e y → Armed s e (cond b x y)
   armed_if true x y f g = f
   armed_if false x y f g = g
 
+  -- by what its answers and its plan have next
+  abbrev AnswersArmed : List ReliableAnswer → Type 0
+  AnswersArmed xs = (i : ℕ) (a : Alarm) → alarm_there xs i ≡ Some a → (a.step ≡ s) ⊎ Stood e a
+
+  armed_by : (x : Entry) → AnswersArmed x.reliable → ((a : Alarm) → plan_alarm x ≡ Some a → (a.step ≡ s) ⊎ Stood e a) → Armed s e x
+  armed_by x f g l None a q = g a q
+  armed_by x f g l (Some i) a q = either (is_idle x.plan) refl
+    where
+      either : (t : Bool) → is_idle x.plan ≡ t → (a.step ≡ s) ⊎ Stood e a
+      either true t = f i a (sym (answers_in x i t) ∙ q)
+      either false t = absurd (none-some a (sym (no_answer_in x i t) ∙ q))
+
+  answers_stood : AnswersArmed e.reliable
+  answers_stood i a q = inr (answer_stood e i a q)
+
+  -- with the answers that it had, its plan armed in this step, or as before
+  armed_now : (x : Entry) → x.reliable ≡ e.reliable → x.step ≡ s → Armed s e x
+  armed_now x r k = armed_by x (λ i a q. answers_stood i a (ap (λ xs. alarm_there xs i) (sym r) ∙ q)) (λ a q. inl ((plan_is x (option_or (planned_at x) (last_at x)) a q).1 ∙ k))
+
+  armed_so : (x : Entry) → AnswersArmed x.reliable → plan_alarm x ≡ plan_alarm e → Armed s e x
+  armed_so x f k = armed_by x f (λ a q. inr (plan_stood e a (sym k ∙ q)))
+
   as_before : Armed s e e
-  as_before l = inr (refl, refl, refl)
+  as_before = armed_so e answers_stood refl
+
+  again_armed : (place : ℕ) (xs : List ReliableAnswer) → AnswersArmed xs → AnswersArmed (again_at s place xs)
+  again_armed place [] f i a q = f i a q
+  again_armed zero (x ∷ xs) f zero a q = inl (its_step (again s x) a q)
+  again_armed zero (x ∷ xs) f (suc i) a q = f (suc i) a q
+  again_armed (suc place) (x ∷ xs) f zero a q = f 0 a q
+  again_armed (suc place) (x ∷ xs) f (suc i) a q = again_armed place xs (λ j b r. f (suc j) b r) i a q
+
+  armed_planned : Armed s e (planned s e)
+  armed_planned = armed_if (is_some (planned_at e)) (record e { shots = e.shots + 1; step = s }) (record e { is_over = true }) (armed_now (record e { shots = e.shots + 1; step = s }) refl refl) (λ l. absurd cc)
 
   armed_fired : Armed s e (fired s e)
-  armed_fired = armed_if (is_some (resend_at e)) _ _ (λ l. inl refl) (λ l. absurd cc)
+  armed_fired = either (foremost_in e) refl
+    where
+      either : (o : Option (ℕ × Alarm)) → foremost_in e ≡ o → Armed s e (fired s e)
+      either (Some f) q =
+          let x : Entry = record e { reliable = again_at s f.0 e.reliable } in
+          subst (Armed s e) (sym (fired_answer e s f q)) (armed_so x (again_armed f.0 e.reliable answers_stood) refl)
+      either None q = subst (Armed s e) (sym (ap (λ o. fired_by o s e) q)) armed_planned
 
-  armed_replied : (i st : ℕ) (t g : List ℕ) (now : ℕ) → Armed s e (replied s i st t g now e)
-  armed_replied i st t g now = armed_if (not e.is_server || not (e.done == 0)) e _ as_before (armed_if (is_provisional st) _ _ (λ l. inr (refl, refl, refl)) (λ l. inl refl))
+  -- a reliable answer that is offered in this step
+  more_armed : (x : ReliableAnswer) (xs : List ReliableAnswer) → x.step ≡ s → AnswersArmed xs → AnswersArmed (xs ++ x ∷ [])
+  more_armed x [] k f zero a q = inl (its_step x a q ∙ k)
+  more_armed x [] k f (suc i) a q = absurd (none-some a q)
+  more_armed x (y ∷ xs) k f zero a q = f 0 a q
+  more_armed x (y ∷ xs) k f (suc i) a q = more_armed x xs k (λ j b r. f (suc j) b r) i a q
+
+  armed_with : (i now : ℕ) (m : Message Start) → Armed s e (with_answers (answer_of s i m (message_text m) now) e)
+  armed_with i now m = either (reliable_number m)
+    where
+      either : (o : Option ℕ) → Armed s e (with_answers (option_map (λ own. record { own = own; text = message_text m; start = now; shots = 0; step = s; order = i }) o) e)
+      either None = as_before
+      either (Some own) =
+          let x : ReliableAnswer = record { own = own; text = message_text m; start = now; shots = 0; step = s; order = i } in
+          let y : Entry = record e { reliable = e.reliable ++ x ∷ [] } in
+          armed_if (not e.is_server || not (e.done == 0)) e y as_before (armed_so y (more_armed x e.reliable refl answers_stood) refl)
+
+  -- a second change, which leaves what the first left, or arms in this step
+  armed_replied : (x : Entry) (i st : ℕ) (t g : List ℕ) (now : ℕ) → Armed s e x → Armed s e (replied s i st t g now x)
+  armed_replied x i st t g now f =
+      let final : Entry = record x { last = Some t; plan = cond (is_invite x.asked) Final End; start = now; shots = 0; step = s; order = i; done = st; to_tag = g; is_refused = is_refusal st; reliable = [] } in
+      armed_if (not x.is_server || not (x.done == 0)) x _ f
+      (armed_if (is_provisional st) (record x { last = Some t }) final f (armed_by final (λ j a q. absurd (none-some a q)) (λ a q. inl (plan_is final (option_or (planned_at final) (last_at final)) a q).1)))
+
+  armed_offered : (i now : ℕ) (m : Message Start) → Armed s e (offered s i m now e)
+  armed_offered i now m = armed_replied (with_answers (answer_of s i m (message_text m) now) e) i (head_of m).status (message_text m) (head_of m).to_tag now (armed_with i now m)
+
+  filter_armed : (p : ReliableAnswer → Bool) (xs : List ReliableAnswer) → AnswersArmed xs → AnswersArmed (filter p xs)
+  filter_armed p [] f = f
+  filter_armed p (x ∷ xs) f = either (p x) (filter_armed p xs (λ j b r. f (suc j) b r))
+    where
+      either : (b : Bool) → AnswersArmed (filter p xs) → AnswersArmed (cond b (x ∷ filter p xs) (filter p xs))
+      either true g zero a q = f 0 a q
+      either true g (suc i) a q = g i a q
+      either false g i a q = g i a q
+
+  armed_settled : (own : Option ℕ) → Armed s e (settled own e)
+  armed_settled None = armed_so (record e { reliable = [] }) (λ i a q. absurd (none-some a q)) refl
+  armed_settled (Some own) = armed_so (record e { reliable = without_own own e.reliable }) (filter_armed (λ (x : ReliableAnswer). not (x.own == own)) e.reliable answers_stood) refl
 
   armed_rang : (now : ℕ) → Armed s e (rang s now e)
-  armed_rang now = armed_if (e.is_early || not (e.done == 0)) e _ as_before (λ l. inl refl)
+  armed_rang now = armed_if (e.is_early || not (e.done == 0)) e _ as_before (armed_now (record e { is_early = true; plan = cond (is_invite e.asked) Idle Slow; start = now; shots = 0; step = s }) refl refl)
 
   armed_finished : (st now : ℕ) → Armed s e (finished s st now e)
-  armed_finished st now = armed_if (not (is_invite e.asked)) _ _ (λ l. absurd cc) (armed_if (not (e.done == 0)) _ _ (λ l. inr (refl, refl, refl)) (λ l. inl refl))
+  armed_finished st now = armed_if (not (is_invite e.asked)) (record e { is_over = true }) _ (λ l. absurd cc)
+      (armed_if (not (e.done == 0)) (record e { is_refused = e.is_refused || is_refusal st }) _ as_before (armed_now (record e { plan = End; start = now; shots = 0; step = s; done = st; is_refused = is_refusal st }) refl refl))
 
   armed_answered : (st now : ℕ) → Armed s e (answered s st now e)
   armed_answered st now = armed_if (is_provisional st) (rang s now e) (finished s st now e) (armed_rang now) (armed_finished st now)
 
   armed_acked : (now : ℕ) → Armed s e (acked s now e)
-  armed_acked now = armed_if e.is_acked e _ as_before (λ l. inl refl)
+  armed_acked now = armed_if e.is_acked e _ as_before (armed_now (record e { is_acked = true; plan = plan.Acked; start = now; shots = 0; step = s }) refl refl)
 
   armed_acked_2xx : (m : Head) → Armed s e (acked_2xx s m e)
-  armed_acked_2xx m = armed_if (is_ack_of m e) _ e (λ l. inl refl) as_before
+  armed_acked_2xx m = armed_if (is_ack_of m e) _ e (armed_now (record e { is_acked = true; plan = End; step = s }) refl refl) as_before
 
   armed_kept : (t : List ℕ) → Armed s e (kept t e)
-  armed_kept t = armed_if (not e.is_server && e.is_refused) _ e (λ l. inr (refl, refl, refl)) as_before
+  armed_kept t = armed_if (not e.is_server && e.is_refused) (record e { last = Some t }) e as_before as_before
 
   armed_hit : (k : ℕ) (x : Entry) → Armed s e x → Armed s e (cond (e.key == k) x e)
   armed_hit k x f = armed_if (e.key == k) x e f as_before
@@ -72,12 +190,21 @@ module _ (s : ℕ) (e : Entry) where
   armed_change i (DidBegin n) = as_before
   armed_change i (DidHear p m now t) = armed_heard m now t
   armed_change i (DidAsk p m now) = as_before
-  armed_change i (DidReply k m now) = armed_hit k (replied s i (head_of m).status (message_text m) (head_of m).to_tag now e) (armed_replied i (head_of m).status (message_text m) (head_of m).to_tag now)
+  armed_change i (DidReply k m now) = armed_hit k (offered s i m now e) (armed_offered i now m)
   armed_change i (DidAck k m) = armed_hit k (kept (message_text m) e) (armed_kept (message_text m))
   armed_change i (DidFire k) = armed_hit k (fired s e) armed_fired
+  armed_change i (DidSettle k own) = armed_hit k (settled own e) (armed_settled own)
 
-news_heard : (s k : ℕ) (p : Peer) (m : Message Start) (now : ℕ) (t : Part) (e : Entry) → Has e (heard_opens s k p m now t) → e.step ≡ s
-news_heard s k p m now part.Fresh e (inl q) = ap (λ (x : Entry). x.step) q
+-- what is opened has no answers, and its plan is armed in this step
+record IsNew (s : ℕ) (e : Entry) : Type 0 where
+  step : e.step ≡ s
+  answers : e.reliable ≡ []
+
+is_new : (s : ℕ) (e x : Entry) → e ≡ x → x.step ≡ s → x.reliable ≡ [] → IsNew s e
+is_new s e x q k r = record { step = ap (λ (y : Entry). y.step) q ∙ k; answers = ap (λ (y : Entry). y.reliable) q ∙ r }
+
+news_heard : (s k : ℕ) (p : Peer) (m : Message Start) (now : ℕ) (t : Part) (e : Entry) → Has e (heard_opens s k p m now t) → IsNew s e
+news_heard s k p m now part.Fresh e (inl q) = is_new s e _ q refl refl
 news_heard s k p m now part.Fresh e (inr f) = absurd f
 news_heard s k p m now part.Full e f = absurd f
 news_heard s k p m now (part.Repeat j) e f = absurd f
@@ -87,32 +214,37 @@ news_heard s k p m now (part.Acked j) e f = absurd f
 news_heard s k p m now part.AckOf2xx e f = absurd f
 news_heard s k p m now part.Stray e f = absurd f
 
-news_step : (s i k : ℕ) (c : Done) (e : Entry) → Has e (opens s i k c) → e.step ≡ s
+news_step : (s i k : ℕ) (c : Done) (e : Entry) → Has e (opens s i k c) → IsNew s e
 news_step s i k (DidBegin n) e f = absurd f
 news_step s i k (DidHear p m now t) e f = news_heard s k p m now t e f
-news_step s i k (DidAsk p m now) e (inl q) = ap (λ (x : Entry). x.step) q
+news_step s i k (DidAsk p m now) e (inl q) = is_new s e _ q refl refl
 news_step s i k (DidAsk p m now) e (inr f) = absurd f
 news_step s i k (DidReply j m now) e f = absurd f
 news_step s i k (DidAck j m) e f = absurd f
 news_step s i k (DidFire j) e f = absurd f
+news_step s i k (DidSettle j own) e f = absurd f
+
+new_armed : (s : ℕ) (e : Entry) → IsNew s e → (p : Option ℕ) (a : Alarm) → alarm_in e p ≡ Some a → a.step ≡ s
+new_armed s e w None a q = (plan_is e (option_or (planned_at e) (last_at e)) a q).1 ∙ w.step
+new_armed s e w (Some i) a q = either (is_idle e.plan) refl
+  where
+    either : (t : Bool) → is_idle e.plan ≡ t → a.step ≡ s
+    either true t = absurd (none-some a (sym (ap (λ xs. alarm_there xs i) w.answers) ∙ (sym (answers_in e i t) ∙ q)))
+    either false t = absurd (none-some a (sym (no_answer_in e i t) ∙ q))
 
 pub armed_in_its_step : ArmedInItsStep
 armed_in_its_step c h key a x q d =
     let v = of_key (c ∷ h) key x q in
+    let next : Alarm = record { at = a; step = step_due x; order = order_due x } in
+    let waits : alarm_in x (message_due x) ≡ Some next = next_alarm x a d in
     elim (has_more_back c h x v.0) [
       | inl w ↦
           let e : Entry = w.0 in
           let same : x ≡ change (step_of h) (offers h) c e = w.2 in
           let k : e.key ≡ key = sym ((keeps_change (step_of h) (offers h) c e).key) ∙ (ap (λ (y : Entry). y.key) (sym same) ∙ v.1) in
-          elim (armed_change (step_of h) e (offers h) c (ap is_live (sym same) ∙ has_live (c ∷ h) x v.0)) [
-            | inl s ↦ inl (ap (λ (y : Entry). y.step) same ∙ s)
-            | inr s ↦ inr (record {
-              entry = e;
-              live = subst (λ j. by_key j (live h) ≡ Some e) k (at_key h e w.1);
-              moment = sym s.0 ∙ (ap deadline (sym same) ∙ d);
-              step = ap (λ (y : Entry). y.step) same ∙ s.1;
-              order = ap (λ (y : Entry). y.order) same ∙ s.2;
-            })
+          elim (armed_change (step_of h) e (offers h) c (ap is_live (sym same) ∙ has_live (c ∷ h) x v.0) (message_due x) next (ap (λ (y : Entry). alarm_in y (message_due x)) (sym same) ∙ waits)) [
+            | inl s ↦ inl s
+            | inr s ↦ inr (record { entry = e; live = subst (λ j. by_key j (live h) ≡ Some e) k (at_key h e w.1); place = s.0; stood = s.1 })
           ]
-      | inr f ↦ inl (news_step (step_of h) (offers h) (length (opened h)) c x f)
+      | inr f ↦ inl (new_armed (step_of h) x (news_step (step_of h) (offers h) (length (opened h)) c x f) (message_due x) next waits)
     ]

@@ -19,7 +19,7 @@ use Rattle.mmtel_transaction.specs.declared.entries.Entry.{Entry}
 use Rattle.mmtel_transaction.specs.declared.names.Name.{Name}
 use Rattle.mmtel_transaction.specs.declared.names.Waits.{Waits}
 use Rattle.mmtel_transaction.specs.Answers.{is_of}
-use Rattle.mmtel_transaction.specs.Changes.{hit}
+use Rattle.mmtel_transaction.specs.Changes.{hit, with_answers}
 use Rattle.mmtel_transaction.specs.Calls.{is_live}
 use Rattle.mmtel_transaction.specs.Table.{settle}
 use Rattle.mmtel_transaction.specs.Indexes.{AreTables, call_name, call_named, client_name, client_named, name_cmp, server_name, server_named, waiting, waits, waits_cmp}
@@ -310,6 +310,15 @@ pub not_hit : (k : ℕ) (f : Entry → Entry) (es : List Entry) → position (is
 not_hit k f es p =
     let w : nat_lt (position_or_len (is_of k) es) (length es) ≡ false = past (nat_lt (position_or_len (is_of k) es) (length es)) (position_or_len (is_of k) es) p in
     absent_at k f es (grind (arith, nat_tests))
+
+-- where nothing changes
+pub hit_none : (k : ℕ) (es : List Entry) → es ≡ map (hit k (with_answers None)) es
+hit_none k [] = refl
+hit_none k (e ∷ es) = either (e.key == k) (hit_none k es)
+  where
+    either : (b : Bool) → es ≡ map (hit k (with_answers None)) es → e ∷ es ≡ cond b e e ∷ map (hit k (with_answers None)) es
+    either true ih = ap (λ xs. e ∷ xs) ih
+    either false ih = ap (λ xs. e ∷ xs) ih
 
 -- whose name is an item
 server_if : (e : Entry) (n x : Name) (b : Bool) → cond b (Some n) None ≡ Some x → n ≡ x

@@ -13,7 +13,7 @@ use Rattle.mmtel_transaction.specs.declared.entries.Entry.{Entry}
 use Rattle.mmtel_transaction.specs.declared.parts.Part.{Part}
 use Rattle.mmtel_transaction.specs.declared.parts.Part.TheVariants as part
 use Rattle.mmtel_transaction.specs.Heads.{head_of, invite, is_ack, is_invite, is_refusal}
-use Rattle.mmtel_transaction.specs.Calls.{Done, DidBegin, DidHear, DidAsk, DidReply, DidAck, DidFire, change, heard_opens, live, offers, opened, opens, step_of}
+use Rattle.mmtel_transaction.specs.Calls.{Done, DidBegin, DidHear, DidAsk, DidReply, DidAck, DidFire, DidSettle, change, heard_opens, live, offers, opened, opens, step_of}
 use Rattle.mmtel_transaction.specs.Answers.{by_key, is_client_of, is_full, is_server_of, key_method, part_ack, part_of, part_request, part_response}
 use Rattle.mmtel_transaction.specs.Runs.{IsRun}
 use Rattle.mmtel_transaction.specs.Laws.{HaveOneKey}
@@ -118,6 +118,7 @@ news_apart (DidAsk p m now) h r e x g (inr f) k = f
 news_apart (DidReply j m now) h r e x g f k = f
 news_apart (DidAck j m) h r e x g f k = f
 news_apart (DidFire j) h r e x g f k = f
+news_apart (DidSettle j own) h r e x g f k = f
 
 heard_alone : (s k : ℕ) (p : Peer) (m : Message Start) (now : ℕ) (t : Part) (e x : Entry) → Has e (heard_opens s k p m now t) → Has x (heard_opens s k p m now t) → e ≡ x
 heard_alone s k p m now part.Fresh e x (inl a) (inl b) = a ∙ sym b
@@ -140,6 +141,7 @@ news_alone s i k (DidAsk p m now) e x (inr f) g = absurd f
 news_alone s i k (DidReply j m now) e x f g = absurd f
 news_alone s i k (DidAck j m) e x f g = absurd f
 news_alone s i k (DidFire j) e x f g = absurd f
+news_alone s i k (DidSettle j own) e x f g = absurd f
 
 abbrev AreApart : List Entry → Type 0
 AreApart es = (e x : Entry) → Has e es → Has x es → HaveOneKey e x → e ≡ x

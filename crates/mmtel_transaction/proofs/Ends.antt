@@ -12,9 +12,10 @@ use Rattle.mmtel_transaction.specs.declared.parts.Part.TheVariants as part
 use Rattle.mmtel_transaction.specs.declared.words.Due.TheVariants as due
 use Rattle.mmtel_transaction.specs.Deadlines.{ends, resend_at}
 use Rattle.mmtel_transaction.specs.Changes.{fired, hit}
-use Rattle.mmtel_transaction.specs.Calls.{Done, DidBegin, DidHear, DidAsk, DidReply, DidAck, DidFire, heard_opens, is_live, live, offers, opened, opens, step_of}
+use Rattle.mmtel_transaction.specs.Calls.{Done, DidBegin, DidHear, DidAsk, DidReply, DidAck, DidFire, DidSettle, heard_opens, is_live, live, offers, opened, opens, step_of}
 use Rattle.mmtel_transaction.specs.Answers.{Next, by_key, fires, is_of, next_due, says_due, text_again, tkey}
 use Rattle.mmtel_transaction.specs.Laws.{IsLast, LastOnesEnd, WhatEndedStays}
+use Rattle.mmtel_transaction.proofs.Foremost.{fired_over}
 use Rattle.mmtel_transaction.proofs.Lists.{keeps_change}
 use Rattle.mmtel_timers.specs.Shelves.{Has}
 use Rattle.mmtel_transaction.proofs.Having.{finds, has_live, has_more_back, of_key, same_entry}
@@ -43,6 +44,7 @@ news_key s i k (DidAsk p m now) e (inr f) = absurd f
 news_key s i k (DidReply j m now) e f = absurd f
 news_key s i k (DidAck j m) e f = absurd f
 news_key s i k (DidFire j) e f = absurd f
+news_key s i k (DidSettle j own) e f = absurd f
 
 pub more_opened : (h g : List Done) → length (opened h) ≤ length (opened (g ++ h))
 more_opened h [] = omega arith
@@ -74,7 +76,7 @@ last_is key n q = either (resend_at n.entry) refl (ends n.entry.plan) q
     either (Some a) f b p = absurd p
 
 over_is : (step : ℕ) (e : Entry) → resend_at e ≡ None → is_live (fired step e) ≡ false
-over_is step e q = rw q refl
+over_is step e q = ap is_live (fired_over e step q)
 
 last_ends : (h : List Done) (now key : ℕ) (n : Next) → next_due now (live h) ≡ Some n → IsLast key (says_due (Some n)) → by_key key (live (DidFire n.entry.key ∷ h)) ≡ None
 last_ends h now key n q l = none_of (by_key key (live (DidFire n.entry.key ∷ h))) (λ e f.

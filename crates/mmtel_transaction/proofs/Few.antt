@@ -8,7 +8,7 @@ use Rattle.mmtel_message.specs.declared.messages.Start.{Start}
 use Rattle.mmtel_transaction.specs.declared.entries.Entry.{Entry}
 use Rattle.mmtel_transaction.specs.declared.parts.Part.{Part}
 use Rattle.mmtel_transaction.specs.declared.parts.Part.TheVariants as part
-use Rattle.mmtel_transaction.specs.Calls.{Done, DidBegin, DidHear, DidAsk, DidReply, DidAck, DidFire, heard_opens, live, offers, opened, opens, step_of}
+use Rattle.mmtel_transaction.specs.Calls.{Done, DidBegin, DidHear, DidAsk, DidReply, DidAck, DidFire, DidSettle, heard_opens, live, offers, opened, opens, step_of}
 use Rattle.mmtel_transaction.specs.Laws.{FewAreOpened, NumbersCount, NumbersDiffer, RoomIsLeft}
 use Rattle.mmtel_transaction.proofs.Lists.{Rising, rising}
 
@@ -33,6 +33,7 @@ few_opened (DidAsk p m now ∷ h) = omega (arith, more (DidAsk p m now) h, few_o
 few_opened (DidReply k m now ∷ h) = omega (arith, more (DidReply k m now) h, few_opened h)
 few_opened (DidAck k m ∷ h) = omega (arith, more (DidAck k m) h, few_opened h)
 few_opened (DidFire k ∷ h) = omega (arith, more (DidFire k) h, few_opened h)
+few_opened (DidSettle k own ∷ h) = omega (arith, more (DidSettle k own) h, few_opened h)
 
 pub room_left : RoomIsLeft
 room_left h steps draws a b s d = omega (arith, few_opened h, a, b, s, d)
@@ -63,6 +64,7 @@ counts_opens s i k (DidAsk p m now) = (refl, tt)
 counts_opens s i k (DidReply j m now) = tt
 counts_opens s i k (DidAck j m) = tt
 counts_opens s i k (DidFire j) = tt
+counts_opens s i k (DidSettle j own) = tt
 
 counts_opened : (h : List Done) → Counts 0 (opened h)
 counts_opened [] = tt

@@ -6,7 +6,7 @@ use Rattle.std.proofs.lemmas.Bool.{eq-eqb, eqb-true, false_from_ne_true}
 use Rattle.std.proofs.lemmas.Option.{none-some, same_Some}
 use Rattle.mmtel_timers.specs.Shelves.{Has}
 use Rattle.mmtel_transaction.specs.declared.entries.Entry.{Entry}
-use Rattle.mmtel_transaction.specs.Calls.{Done, DidBegin, DidHear, DidAsk, DidReply, DidAck, DidFire, change, entry_of, is_live, live, offers, opened, opens, step_of}
+use Rattle.mmtel_transaction.specs.Calls.{Done, DidBegin, DidHear, DidAsk, DidReply, DidAck, DidFire, DidSettle, change, entry_of, is_live, live, offers, opened, opens, step_of}
 use Rattle.mmtel_transaction.specs.Answers.{by_key, is_of}
 use Rattle.mmtel_transaction.specs.Runs.{IsRun}
 use Rattle.mmtel_transaction.proofs.Lists.{Rising, live_more, rising}
@@ -132,3 +132,4 @@ run_before (DidAsk p m now) h r = r
 run_before (DidReply k m now) h r = r
 run_before (DidAck k m) h r = r
 run_before (DidFire k) h r = r.1
+run_before (DidSettle k own) h r = r

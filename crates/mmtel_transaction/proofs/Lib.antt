@@ -1,11 +1,15 @@
 mod Drawn
 mod Few
 mod Times
+mod Reliable
 mod Lists
 mod Places
 mod Standing
 mod Having
 mod Distinct
+mod Before
+mod Foremost
+mod Unchanged
 mod Order
 mod Repeats
 mod Acks
@@ -20,6 +24,7 @@ mod Later
 mod Arming
 mod Among
 mod Acknowledged
+mod Pracked
 mod HeadLines
 mod Identified
 mod Naming

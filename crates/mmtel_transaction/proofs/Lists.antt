@@ -1,6 +1,6 @@
 -- The live transactions after one more call are those before it, changed.
 use Rattle.std.proofs.Common.{◌≡◌, ℕ, suc, ◌+◌, ◌≤◌, ◌<◌, List, [], ◌∷◌, ◌++◌, length, refl, true, false, Bool, not, ◌&&◌, ◌||◌, sym, ap, ◌∙◌, arith, map, cond, length-append, subst}
-use Rattle.std.specs.Prelude.{nat_lt, ◌==◌, filter, is_some}
+use Rattle.std.specs.Prelude.{nat_lt, ◌==◌, filter, is_some, Option, Some, None}
 use Rattle.std.proofs.lemmas.List.{map-append}
 use Rattle.std.proofs.lemmas.Bool.Decides.{nat_tests}
 use Rattle.mmtel_types.specs.declared.numbers.Peer.{Peer}
@@ -9,15 +9,17 @@ use Rattle.mmtel_message.specs.Texts.{message_text}
 use Rattle.mmtel_message.specs.declared.messages.Start.{Start}
 use Rattle.mmtel_transaction.specs.Heads.{head_of, is_invite, is_provisional}
 use Rattle.mmtel_transaction.specs.declared.heads.Head.{Head}
+use Rattle.mmtel_transaction.specs.declared.entries.Alarm.{Alarm}
 use Rattle.mmtel_transaction.specs.declared.entries.Entry.{Entry}
+use Rattle.mmtel_transaction.specs.declared.entries.ReliableAnswer.{ReliableAnswer}
 use Rattle.mmtel_transaction.specs.declared.parts.Part.{Part}
 use Rattle.mmtel_transaction.specs.declared.parts.Part.TheVariants as part
 use Rattle.mmtel_transaction.specs.declared.entries.Change.{Change}
 use Rattle.mmtel_transaction.specs.declared.entries.Change.TheVariants as change_kind
 use Rattle.mmtel_transaction.specs.Table.{made, settle}
-use Rattle.mmtel_transaction.specs.Deadlines.{resend_at}
-use Rattle.mmtel_transaction.specs.Changes.{fired, replied, rang, finished, answered, acked, acked_2xx, kept, hit}
-use Rattle.mmtel_transaction.specs.Calls.{Done, DidBegin, DidHear, DidAsk, DidReply, DidAck, DidFire, offers, step_of, opens, heard_opens, opened, entry_of, live, is_live, change, heard_change}
+use Rattle.mmtel_transaction.specs.Deadlines.{foremost_in, planned_at}
+use Rattle.mmtel_transaction.specs.Changes.{answer_of, fired, fired_by, offered, planned, replied, rang, finished, answered, acked, acked_2xx, kept, settled, with_answers, hit}
+use Rattle.mmtel_transaction.specs.Calls.{Done, DidBegin, DidHear, DidAsk, DidReply, DidAck, DidFire, DidSettle, offers, step_of, opens, heard_opens, opened, entry_of, live, is_live, change, heard_change}
 
 -- keys rise
 abbrev pub Rising : ℕ → List Entry → ℕ → Type 0
@@ -49,6 +51,7 @@ rising_opens s i k (DidAsk p m now) = (omega arith, omega arith)
 rising_opens s i k (DidReply j m now) = omega arith
 rising_opens s i k (DidAck j m) = omega arith
 rising_opens s i k (DidFire j) = omega arith
+rising_opens s i k (DidSettle j own) = omega arith
 
 pub rising_opened : (h : List Done) → Rising 0 (opened h) (length (opened h))
 rising_opened [] = omega arith
@@ -81,12 +84,35 @@ keeps_if false e x y a b = b
 same : {A : Type 0} (x : A) → x ≡ x
 same x = refl
 
+keeps_then : (e x y : Entry) → Keeps e x → Keeps x y → Keeps e y
+keeps_then e x y a b = record { key = b.key ∙ a.key; server = b.server ∙ a.server; asked = b.asked ∙ a.asked; peer = b.peer ∙ a.peer; over = λ o. b.over (a.over o) }
+
+keeps_planned : (s : ℕ) (e : Entry) → Keeps e (planned s e)
+keeps_planned s e = keeps_if (is_some (planned_at e)) e (record e { shots = e.shots + 1; step = s }) (record e { is_over = true }) (record { key = refl; server = refl; asked = refl; peer = refl; over = λ o. o }) (record { key = refl; server = refl; asked = refl; peer = refl; over = λ o. refl })
+
+keeps_fired_by : (o : Option (ℕ × Alarm)) (s : ℕ) (e : Entry) → Keeps e (fired_by o s e)
+keeps_fired_by (Some first) s e = record { key = refl; server = refl; asked = refl; peer = refl; over = λ o. o }
+keeps_fired_by None s e = keeps_planned s e
+
 pub keeps_fired : (s : ℕ) (e : Entry) → Keeps e (fired s e)
-keeps_fired s e = keeps_if (is_some (resend_at e)) e (record e { shots = e.shots + 1; step = s }) (record e { is_over = true }) (record { key = refl; server = refl; asked = refl; peer = refl; over = λ o. o }) (record { key = refl; server = refl; asked = refl; peer = refl; over = λ o. refl })
+keeps_fired s e = keeps_fired_by (foremost_in e) s e
+
+keeps_settled : (own : Option ℕ) (e : Entry) → Keeps e (settled own e)
+keeps_settled None e = record { key = refl; server = refl; asked = refl; peer = refl; over = λ o. o }
+keeps_settled (Some own) e = record { key = refl; server = refl; asked = refl; peer = refl; over = λ o. o }
+
+pub keeps_with : (answer : Option ReliableAnswer) (e : Entry) → Keeps e (with_answers answer e)
+keeps_with None e = record { key = refl; server = refl; asked = refl; peer = refl; over = λ o. o }
+keeps_with (Some answer) e = keeps_if (not e.is_server || not (e.done == 0)) e e _ (record { key = refl; server = refl; asked = refl; peer = refl; over = λ o. o }) (record { key = refl; server = refl; asked = refl; peer = refl; over = λ o. o })
 
 pub keeps_replied : (s i st : ℕ) (t g : List ℕ) (now : ℕ) (e : Entry) → Keeps e (replied s i st t g now e)
 keeps_replied s i st t g now e = keeps_if (not e.is_server || not (e.done == 0)) e e _ (record { key = refl; server = refl; asked = refl; peer = refl; over = λ o. o })
     (keeps_if (is_provisional st) e _ _ (record { key = refl; server = refl; asked = refl; peer = refl; over = λ o. o }) (record { key = refl; server = refl; asked = refl; peer = refl; over = λ o. o }))
+
+keeps_offered : (s i : ℕ) (m : Message Start) (now : ℕ) (e : Entry) → Keeps e (offered s i m now e)
+keeps_offered s i m now e =
+    let x = with_answers (answer_of s i m (message_text m) now) e in
+    keeps_then e x (offered s i m now e) (keeps_with (answer_of s i m (message_text m) now) e) (keeps_replied s i (head_of m).status (message_text m) (head_of m).to_tag now x)
 
 keeps_rang : (s now : ℕ) (e : Entry) → Keeps e (rang s now e)
 keeps_rang s now e = keeps_if (e.is_early || not (e.done == 0)) e _ _ (record { key = refl; server = refl; asked = refl; peer = refl; over = λ o. o }) (record { key = refl; server = refl; asked = refl; peer = refl; over = λ o. o })
@@ -113,6 +139,7 @@ keeps_made (change_kind.Reply step order status text to_tag now) e = keeps_repli
 keeps_made (change_kind.Answer step status now) e = keeps_answered step status now e
 keeps_made (change_kind.Ack step now) e = keeps_acked step now e
 keeps_made (change_kind.Keep text) e = keeps_kept text e
+keeps_made (change_kind.Settle own) e = keeps_settled own e
 
 pub keeps_hit : (k : ℕ) (f : Entry → Entry) (e : Entry) → Keeps e (f e) → Keeps e (hit k f e)
 keeps_hit k f e a = keeps_if (e.key == k) e _ _ a (record { key = refl; server = refl; asked = refl; peer = refl; over = λ o. o })
@@ -131,9 +158,10 @@ pub keeps_change : (s i : ℕ) (c : Done) (e : Entry) → Keeps e (change s i c 
 keeps_change s i (DidBegin n) e = record { key = refl; server = refl; asked = refl; peer = refl; over = λ o. o }
 keeps_change s i (DidHear p m now t) e = keeps_heard s now m t e
 keeps_change s i (DidAsk p m now) e = record { key = refl; server = refl; asked = refl; peer = refl; over = λ o. o }
-keeps_change s i (DidReply j m now) e = keeps_hit j (replied s i (head_of m).status (message_text m) (head_of m).to_tag now) e (keeps_replied s i (head_of m).status (message_text m) (head_of m).to_tag now e)
+keeps_change s i (DidReply j m now) e = keeps_hit j (offered s i m now) e (keeps_offered s i m now e)
 keeps_change s i (DidAck j m) e = keeps_hit j (kept (message_text m)) e (keeps_kept (message_text m) e)
 keeps_change s i (DidFire j) e = keeps_hit j (fired s) e (keeps_fired s e)
+keeps_change s i (DidSettle j own) e = keeps_hit j (settled own) e (keeps_settled own e)
 
 -- what ended may be left out before a change
 not_live : (e x : Entry) → Keeps e x → is_live e ≡ false → is_live x ≡ false
@@ -180,6 +208,7 @@ news h d s i (DidAsk p m now) = rw (not_later (length (opened h))) refl
 news h d s i (DidReply j m now) = refl
 news h d s i (DidAck j m) = refl
 news h d s i (DidFire j) = refl
+news h d s i (DidSettle j own) = refl
 
 -- the live transactions after one more call
 pub live_more : (c : Done) (h : List Done) → live (c ∷ h) ≡ filter is_live (map (change (step_of h) (offers h) c) (live h)) ++ opens (step_of h) (offers h) (length (opened h)) c
@@ -240,8 +269,26 @@ settled_if k f e es fs gs false l p q = rw (l, q refl) refl
 same_key : (e : Entry) (k : ℕ) → (e.key == k) ≡ true → e.key ≡ k
 same_key e k q = grind (arith, nat_tests)
 
-pub settled : (k lo : ℕ) (f : Entry → Entry) (es : List Entry) (hi : ℕ) → Rising lo es hi → AllLive es → filter is_live (map (hit k f) es) ≡ settle k f es
-settled k lo f [] hi r a = refl
-settled k lo f (e ∷ es) hi r a = settled_if k f e es (filter is_live (map (hit k f) es)) (settle k f es) (e.key == k) a.0
+pub settles_one : (k lo : ℕ) (f : Entry → Entry) (es : List Entry) (hi : ℕ) → Rising lo es hi → AllLive es → filter is_live (map (hit k f) es) ≡ settle k f es
+settles_one k lo f [] hi r a = refl
+settles_one k lo f (e ∷ es) hi r a = settled_if k f e es (filter is_live (map (hit k f) es)) (settle k f es) (e.key == k) a.0
     (λ q. let w : e.key ≡ k = same_key e k q in no_hit k (suc e.key) f es hi (omega (arith, w)) r.1 a.1)
-    (λ q. settled k (suc e.key) f es hi r.1 a.1)
+    (λ q. settles_one k (suc e.key) f es hi r.1 a.1)
+
+-- one that changes twice, of those whose keys rise
+none_of : (k lo : ℕ) (f : Entry → Entry) (es : List Entry) (hi : ℕ) → k < lo → Rising lo es hi → map (hit k f) es ≡ es
+none_of k lo f [] hi l r = refl
+none_of k lo f (e ∷ es) hi l r =
+    let n : (e.key == k) ≡ false = grind (arith, nat_tests, r.0) in
+    rw (n, none_of k (suc e.key) f es hi (omega (arith, l, r.0)) r.1) refl
+
+pub settled_twice : (k lo : ℕ) (f g : Entry → Entry) (es : List Entry) (hi : ℕ) → ((e : Entry) → (f e).key ≡ e.key) → Rising lo es hi → settle k g (map (hit k f) es) ≡ settle k (λ e. g (f e)) es
+settled_twice k lo f g [] hi keeps r = refl
+settled_twice k lo f g (e ∷ es) hi keeps r = by_test (e.key == k) refl (settled_twice k (suc e.key) f g es hi keeps r.1)
+  where
+    by_test : (b : Bool) → (e.key == k) ≡ b → settle k g (map (hit k f) es) ≡ settle k (λ x. g (f x)) es → settle k g (cond b (f e) e ∷ map (hit k f) es) ≡ cond b (cond (is_live (g (f e))) (g (f e) ∷ es) es) (e ∷ settle k (λ x. g (f x)) es)
+    by_test true t ih =
+        let own : e.key ≡ k = same_key e k t in
+        let kept : ((f e).key == k) ≡ true = ap (λ n. n == k) (keeps e) ∙ t in
+        rw (kept, none_of k (suc e.key) f es hi (omega (arith, own)) r.1) refl
+    by_test false t ih = rw (t, ih) refl

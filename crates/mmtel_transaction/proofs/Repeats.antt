@@ -1,6 +1,6 @@
 -- A request that is heard again opens nothing until the end of its transaction was given.
 use Rattle.std.proofs.Common.{◌≡◌, ℕ, ◌+◌, List, [], ◌∷◌, ◌++◌, length, refl, true, false, Bool, not, ◌&&◌, ◌||◌, ◌⊎◌, inl, inr, sym, ap, ◌∙◌, cond, subst, append-nil}
-use Rattle.std.specs.Prelude.{Option, Some, None, ◌==◌, is_some}
+use Rattle.std.specs.Prelude.{Option, Some, None, ◌==◌, is_some, option_map}
 use Rattle.std.specs.Option.{option_or}
 use Rattle.std.specs.List.{find}
 use Rattle.std.specs.Str.{bytes_eq}
@@ -11,18 +11,20 @@ use Rattle.mmtel_message.specs.Message.{Message}
 use Rattle.mmtel_message.specs.Texts.{message_text}
 use Rattle.mmtel_message.specs.declared.messages.Start.{Start}
 use Rattle.mmtel_transaction.specs.declared.heads.Head.{Head}
+use Rattle.mmtel_transaction.specs.declared.entries.Alarm.{Alarm}
 use Rattle.mmtel_transaction.specs.declared.entries.Entry.{Entry}
 use Rattle.mmtel_transaction.specs.declared.entries.Plan.{Plan}
 use Rattle.mmtel_transaction.specs.declared.entries.Plan.TheVariants.{Idle, Invite, Other, Slow, Final, End}
 use Rattle.mmtel_transaction.specs.declared.entries.Plan.TheVariants as plan
+use Rattle.mmtel_transaction.specs.declared.entries.ReliableAnswer.{ReliableAnswer}
 use Rattle.mmtel_transaction.specs.declared.parts.Part.{Part}
 use Rattle.mmtel_transaction.specs.declared.parts.Part.TheVariants as part
 use Rattle.mmtel_transaction.specs.declared.words.Heard.TheVariants as heard
 use Rattle.mmtel_transaction.specs.declared.words.Due.TheVariants as due
 use Rattle.mmtel_transaction.specs.Heads.{head_of, invite, is_success, is_ack, is_invite, is_provisional, is_refusal}
-use Rattle.mmtel_transaction.specs.Deadlines.{ends, last_by, resend_at}
-use Rattle.mmtel_transaction.specs.Changes.{acked, answered, heard_first, is_ack_of, kept, replied}
-use Rattle.mmtel_transaction.specs.Calls.{Done, DidBegin, DidHear, DidAsk, DidReply, DidAck, DidFire, change, is_live, live, offers, opened, step_of}
+use Rattle.mmtel_transaction.specs.Deadlines.{ends, foremost_in, last_by, planned_at, resend_at}
+use Rattle.mmtel_transaction.specs.Changes.{acked, answer_of, answered, fired, fired_by, heard_first, is_ack_of, kept, offered, replied, settled, with_answers}
+use Rattle.mmtel_transaction.specs.Calls.{Done, DidBegin, DidHear, DidAsk, DidReply, DidAck, DidFire, DidSettle, change, is_live, live, offers, opened, step_of}
 use Rattle.mmtel_transaction.specs.Answers.{Next, by_key, fires, gives_again, gives_same, hear_says, is_client_of, is_full, is_server_of, key_method, part_ack, part_of, part_request, part_response, says, says_due, then_gives, tkey}
 use Rattle.mmtel_transaction.specs.Runs.{IsNextOf, IsRun}
 use Rattle.mmtel_transaction.specs.Laws.{EndWasGiven, GivesEnd, IsRepeatOf, OpensNothing}
@@ -54,6 +56,27 @@ serving_if false e x s t = t
 final_plan : (b : Bool) → is_servers (cond b Final End) ≡ true
 final_plan true = refl
 final_plan false = refl
+
+serving_with : (o : Option ReliableAnswer) (e : Entry) → IsServing e → IsServing (with_answers o e)
+serving_with None e s = s
+serving_with (Some answer) e s = serving_if (not e.is_server || not (e.done == 0)) e _ s (record { live = s.live; plan = s.plan })
+
+serving_replied : (e : Entry) → IsServing e → (step i st : ℕ) (t g : List ℕ) (now : ℕ) → IsServing (replied step i st t g now e)
+serving_replied e s step i st t g now = serving_if (not e.is_server || not (e.done == 0)) e _ s (serving_if (is_provisional st) _ _ (record { live = s.live; plan = s.plan }) (record { live = s.live; plan = final_plan (is_invite e.asked) }))
+
+serving_offered : (e : Entry) → IsServing e → (step i : ℕ) (m : Message Start) (now : ℕ) → IsServing (offered step i m now e)
+serving_offered e s step i m now =
+    let o = answer_of step i m (message_text m) now in
+    serving_replied (with_answers o e) (serving_with o e s) step i (head_of m).status (message_text m) (head_of m).to_tag now
+
+serving_settled : (own : Option ℕ) (e : Entry) → IsServing e → IsServing (settled own e)
+serving_settled None e s = record { live = s.live; plan = s.plan }
+serving_settled (Some own) e s = record { live = s.live; plan = s.plan }
+
+-- for as long as a message of it is sent again
+serving_fired : (o : Option (ℕ × Alarm)) (step a : ℕ) (e : Entry) → IsServing e → option_or (option_map (λ (f : ℕ × Alarm). f.1.at) o) (planned_at e) ≡ Some a → IsServing (fired_by o step e)
+serving_fired (Some f) step a e s q = record { live = s.live; plan = s.plan }
+serving_fired None step a e s q = subst (λ o. IsServing (cond (is_some o) (record e { shots = e.shots + 1; step = step }) (record e { is_over = true }))) (sym q) (record { live = s.live; plan = s.plan })
 
 -- a response is taken for one to a client transaction
 ack_no_answer : (j : ℕ) (o : Option Entry) → part.Answer j ≡ part_ack o → ⊥
@@ -123,10 +146,13 @@ gives_end h j e r g s k f =
 
 -- a server transaction after one more call of a run: it goes on, or its end was given
 module _ (h : List Done) (e : Entry) (g : Has e (live h)) (server : e.is_server ≡ true) (s : IsServing e) where
-  fire_if : (t : Bool) (o : Option ℕ) (j : ℕ) → IsNextOf j h → (e.key == j) ≡ t → resend_at e ≡ o → IsServing (cond t (cond (is_some o) (record e { shots = e.shots + 1; step = step_of h }) (record e { is_over = true })) e) ⊎ GivesEnd e.key (DidFire j) h
-  fire_if false o j r k f = inl s
-  fire_if true (Some a) j r k f = inl (record { live = s.live; plan = s.plan })
-  fire_if true None j r k f = inr (gives_end h j e r g s (eqb-true e.key j k) f)
+  fire_if : (t : Bool) (j : ℕ) → IsNextOf j h → (e.key == j) ≡ t → IsServing (cond t (fired (step_of h) e) e) ⊎ GivesEnd e.key (DidFire j) h
+  fire_if false j r k = inl s
+  fire_if true j r k = either (resend_at e) refl
+    where
+      either : (o : Option ℕ) → resend_at e ≡ o → IsServing (fired (step_of h) e) ⊎ GivesEnd e.key (DidFire j) h
+      either None f = inr (gives_end h j e r g s (eqb-true e.key j k) f)
+      either (Some a) f = inl (serving_fired (foremost_in e) (step_of h) a e s f)
 
   answer_hit : (t : Bool) (j : ℕ) (x : Entry) → (e.key == j) ≡ t → (e.key ≡ j → ⊥) → IsServing (cond t x e)
   answer_hit true j x k f = absurd (f (eqb-true e.key j k))
@@ -146,9 +172,10 @@ module _ (h : List Done) (e : Entry) (g : Has e (live h)) (server : e.is_server 
   serving_more (DidBegin n) r = inl s
   serving_more (DidHear p m now t) r = inl (heard_more p m now t r.0)
   serving_more (DidAsk p m now) r = inl s
-  serving_more (DidReply j m now) r = inl (serving_if (e.key == j) (replied (step_of h) (offers h) (head_of m).status (message_text m) (head_of m).to_tag now e) e (serving_if (not e.is_server || not (e.done == 0)) e _ s (serving_if (is_provisional (head_of m).status) _ _ (record { live = s.live; plan = s.plan }) (record { live = s.live; plan = final_plan (is_invite e.asked) }))) s)
+  serving_more (DidReply j m now) r = inl (serving_if (e.key == j) (offered (step_of h) (offers h) m now e) e (serving_offered e s (step_of h) (offers h) m now) s)
   serving_more (DidAck j m) r = inl (serving_if (e.key == j) (kept (message_text m) e) e (serving_if (not e.is_server && e.is_refused) _ e (record { live = s.live; plan = s.plan }) s) s)
-  serving_more (DidFire j) r = fire_if (e.key == j) (resend_at e) j r.0 refl refl
+  serving_more (DidFire j) r = fire_if (e.key == j) j r.0 refl
+  serving_more (DidSettle j own) r = inl (serving_if (e.key == j) (settled own e) e (serving_settled own e s) s)
 
 -- the transaction that a request opened
 record Tracks (k : ℕ) (p : Peer) (m : Head) (e : Entry) : Type 0 where

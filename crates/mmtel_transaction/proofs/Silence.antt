@@ -1,6 +1,6 @@
 -- A request that nobody answers: for each peer, message and moment.
-use Rattle.std.proofs.Common.{◌≡◌, ℕ, suc, ◌+◌, ◌≤◌, List, [], ◌∷◌, ◌++◌, length, map, refl, true, false, arith, Bool, ap, ◌∙◌, cond}
-use Rattle.std.specs.Prelude.{nat_le, Option, Some, None, option_map, slice_get}
+use Rattle.std.proofs.Common.{◌≡◌, ℕ, suc, ◌+◌, ◌≤◌, List, [], ◌∷◌, ◌++◌, length, map, refl, true, false, arith, Bool, sym, ap, ◌∙◌, cond}
+use Rattle.std.specs.Prelude.{nat_le, Option, Some, None, is_some, option_map, slice_get}
 use Rattle.std.specs.Option.{option_or}
 use Rattle.std.proofs.lemmas.Bool.Decides.{nat_tests}
 use Rattle.std.proofs.lemmas.Bool.{eq-eqb}
@@ -11,16 +11,17 @@ use Rattle.mmtel_message.specs.declared.messages.Start.{Start}
 use Rattle.mmtel_timers.specs.Schedules.{moments_of}
 use Rattle.mmtel_timers.specs.declared.schedules.Schedule.TheVariants as schedule
 use Rattle.mmtel_transaction.specs.Heads.{head_of, is_invite}
-use Rattle.mmtel_transaction.specs.Deadlines.{counted, resend_by, last_by, resend_at, deadline, ends}
+use Rattle.mmtel_transaction.specs.Deadlines.{counted, resend_by, last_by, resend_at, deadline, ends, is_idle}
 use Rattle.mmtel_transaction.specs.Changes.{fired, asked_first}
 use Rattle.mmtel_transaction.specs.Calls.{Done, DidAsk, DidFire, is_live, live, offers, opened, step_of}
-use Rattle.mmtel_transaction.specs.Answers.{Next, next_due, due_one, sooner, says_due, fires, text_again, tkey}
+use Rattle.mmtel_transaction.specs.Answers.{Next, next_due, due_one, sooner, says_due, fires, text_again, text_planned, tkey}
 use Rattle.mmtel_transaction.specs.Table.{settle}
 use Rattle.mmtel_transaction.specs.Laws.{IsGivenUpAfter, said_in_turn, sent_again}
 use Rattle.mmtel_transaction.specs.declared.entries.Plan.{Plan}
 use Rattle.mmtel_transaction.specs.declared.entries.Plan.TheVariants.{Invite, Other}
 use Rattle.mmtel_transaction.specs.declared.entries.Entry.{Entry}
 use Rattle.mmtel_transaction.specs.declared.words.Due.TheVariants as due
+use Rattle.mmtel_transaction.proofs.Foremost.{busy_fired, busy_resend, busy_text, fired_over, planned_by}
 use Rattle.mmtel_transaction.proofs.Standing.{live_hit, live_new}
 
 only : (now at : ℕ) (e : Entry) → deadline e ≡ Some at → nat_le at now ≡ true → next_due now (e ∷ []) ≡ Some (record { at = at; entry = e })
@@ -52,17 +53,18 @@ pub live_none : (h : List Done) (e x : Entry) → live h ≡ e ∷ [] → fired 
 live_none h e x l q v = fired_live h e l ∙ settle_gone e x (fired (step_of h)) q v
 
 -- what is said of a deadline, by whether the message is sent again
-says_again : (n : Next) (x : ℕ) → resend_at n.entry ≡ Some x → says_due (Some n) ≡ due.Again n.entry.peer n.at (text_again n.entry)
-says_again n x q = rw q refl
+says_again : (n : Next) (x : ℕ) → is_idle n.entry.plan ≡ false → resend_at n.entry ≡ Some x → says_due (Some n) ≡ due.Again n.entry.peer n.at (text_planned n.entry)
+says_again n x b q =
+    ap (λ o. cond (is_some o) (due.Again n.entry.peer n.at (text_again n.entry)) (cond (ends n.entry.plan) (due.Over (tkey n.entry.key) n.at) (due.Silent (tkey n.entry.key) n.entry.asked.branch n.entry.asked.method n.at))) q
+    ∙ ap (due.Again n.entry.peer n.at) (busy_text n.entry b)
 
 says_silent : (n : Next) → resend_at n.entry ≡ None → ends n.entry.plan ≡ false → says_due (Some n) ≡ due.Silent (tkey n.entry.key) n.entry.asked.branch n.entry.asked.method n.at
-says_silent n q e = rw (q, e) refl
+says_silent n q e =
+    ap (λ o. cond (is_some o) (due.Again n.entry.peer n.at (text_again n.entry)) (cond (ends n.entry.plan) (due.Over (tkey n.entry.key) n.at) (due.Silent (tkey n.entry.key) n.entry.asked.branch n.entry.asked.method n.at))) q
+    ∙ ap (λ b. cond b (due.Over (tkey n.entry.key) n.at) (due.Silent (tkey n.entry.key) n.entry.asked.branch n.entry.asked.method n.at)) e
 
-fired_again : (s x : ℕ) (e : Entry) → resend_at e ≡ Some x → fired s e ≡ record e { shots = e.shots + 1; step = s }
-fired_again s x e q = rw q refl
-
-fired_over : (s : ℕ) (e : Entry) → resend_at e ≡ None → fired s e ≡ record e { is_over = true }
-fired_over s e q = rw q refl
+fired_again : (s x : ℕ) (e : Entry) → is_idle e.plan ≡ false → resend_at e ≡ Some x → fired s e ≡ record e { shots = e.shots + 1; step = s }
+fired_again s x e b q = busy_fired e s b ∙ ap (λ o. planned_by o s e) (sym (busy_resend e b) ∙ q)
 
 abbrev AreWithin : List ℕ → Type 0
 AreWithin [] = Unit {0}
@@ -75,9 +77,9 @@ past a b c l m = grind (arith, nat_tests)
 abbrev waiting : ℕ → ℕ → ℕ → Peer → Message Start → ℕ → Plan → ℕ → Entry
 waiting s i key p m t plan k = record (asked_first s i key p (head_of m) (message_text m) t) { plan = plan; shots = k }
 
-module _ (step i key : ℕ) (p : Peer) (m : Message Start) (t now : ℕ) (plan : Plan) (moments : List ℕ) (l : t + 32000 ≤ now) (r : (k : ℕ) → resend_by plan t t k ≡ counted t moments k) (z : last_by plan t t ≡ Some (t + 32000)) (g : ends plan ≡ false) where
+module _ (step i key : ℕ) (p : Peer) (m : Message Start) (t now : ℕ) (plan : Plan) (moments : List ℕ) (l : t + 32000 ≤ now) (r : (k : ℕ) → resend_by plan t t k ≡ counted t moments k) (z : last_by plan t t ≡ Some (t + 32000)) (g : ends plan ≡ false) (busy : is_idle plan ≡ false) where
   resend : (k : ℕ) (o : Option ℕ) → slice_get moments k ≡ o → resend_at (waiting step i key p m t plan k) ≡ option_map (λ d. t + d) o
-  resend k o q = r k ∙ ap (option_map (λ d. t + d)) q
+  resend k o q = busy_resend (waiting step i key p m t plan k) busy ∙ (r k ∙ ap (option_map (λ d. t + d)) q)
 
   due_then : (k : ℕ) (o : Option ℕ) → slice_get moments k ≡ o → deadline (waiting step i key p m t plan k) ≡ option_or (option_map (λ d. t + d) o) (Some (t + 32000))
   due_then k o q = ap (λ x. option_or x (last_by plan t t)) (resend k o q) ∙ ap (option_or (option_map (λ d. t + d) o)) z
@@ -89,13 +91,13 @@ module _ (step i key : ℕ) (p : Peer) (m : Message Start) (t now : ℕ) (plan :
   rest k [] h s e q w =
       dues_one 1 now (t + 32000) h (waiting step i key p m t plan k) e (due_then k None (first_of k [] q)) (past t 32000 now l (omega arith))
       ∙ (ap (λ x. x ∷ said_in_turn 1 now (DidFire key ∷ h)) (says_silent (record { at = t + 32000; entry = waiting step i key p m t plan k }) (resend k None (first_of k [] q)) g)
-      ∙ ap (λ xs. due.Silent (tkey key) (head_of m).branch (head_of m).method (t + 32000) ∷ xs) (dues_last now (DidFire key ∷ h) (live_none h (waiting step i key p m t plan k) (record (waiting step i key p m t plan k) { is_over = true }) e (fired_over (step_of h) (waiting step i key p m t plan k) (resend k None (first_of k [] q))) refl)))
+      ∙ ap (λ xs. due.Silent (tkey key) (head_of m).branch (head_of m).method (t + 32000) ∷ xs) (dues_last now (DidFire key ∷ h) (live_none h (waiting step i key p m t plan k) (record (waiting step i key p m t plan k) { is_over = true }) e (fired_over (waiting step i key p m t plan k) (step_of h) (resend k None (first_of k [] q))) refl)))
   rest k (d ∷ ds) h s e q w =
       ap (λ n. said_in_turn n now h) (let a : length (d ∷ ds) + 2 ≡ suc (length ds + 2) = omega arith in a)
       ∙ (dues_one (length ds + 2) now (t + d) h (waiting step i key p m t plan k) e (due_then k (Some d) (first_of k (d ∷ ds) q)) (past t d now l w.0)
-      ∙ (ap (λ x. x ∷ said_in_turn (length ds + 2) now (DidFire key ∷ h)) (says_again (record { at = t + d; entry = waiting step i key p m t plan k }) (t + d) (resend k (Some d) (first_of k (d ∷ ds) q)))
+      ∙ (ap (λ x. x ∷ said_in_turn (length ds + 2) now (DidFire key ∷ h)) (says_again (record { at = t + d; entry = waiting step i key p m t plan k }) (t + d) busy (resend k (Some d) (first_of k (d ∷ ds) q)))
       ∙ ap (λ xs. sent_again p m t d ∷ xs) (rest (k + 1) ds (DidFire key ∷ h) s
-      (live_one h (waiting step i key p m t plan k) (waiting step i key p m t plan (k + 1)) e (fired_again (step_of h) (t + d) (waiting step i key p m t plan k) (resend k (Some d) (first_of k (d ∷ ds) q)) ∙ ap (λ x. let e : Entry = record (waiting step i key p m t plan (k + 1)) { step = x } in e) s) refl)
+      (live_one h (waiting step i key p m t plan k) (waiting step i key p m t plan (k + 1)) e (fired_again (step_of h) (t + d) (waiting step i key p m t plan k) busy (resend k (Some d) (first_of k (d ∷ ds) q)) ∙ ap (λ x. let e : Entry = record (waiting step i key p m t plan (k + 1)) { step = x } in e) s) refl)
       (λ j. ap (slice_get moments) (let a : (k + 1) + j ≡ k + suc j = omega arith in a) ∙ q (suc j))
       w.1)))
 
@@ -107,14 +109,14 @@ asked_alone h p m t b l q =
 
 pub invite_given_up : (p : Peer) (m : Message Start) (t : ℕ) → is_invite (head_of m) ≡ true → IsGivenUpAfter (moments_of schedule.Invite) p m t
 invite_given_up p m t i h now l le =
-    rest (step_of h) (offers h) (length (opened h)) p m t now Invite (moments_of schedule.Invite) le (λ k. refl) refl refl 0 (moments_of schedule.Invite) (DidAsk p m t ∷ h) refl
+    rest (step_of h) (offers h) (length (opened h)) p m t now Invite (moments_of schedule.Invite) le (λ k. refl) refl refl refl 0 (moments_of schedule.Invite) (DidAsk p m t ∷ h) refl
     (asked_alone h p m t true l i)
     (λ j. ap (slice_get (moments_of schedule.Invite)) (let a : 0 + j ≡ j = omega arith in a))
     (omega arith, (omega arith, (omega arith, (omega arith, (omega arith, (omega arith, tt))))))
 
 pub other_given_up : (p : Peer) (m : Message Start) (t : ℕ) → is_invite (head_of m) ≡ false → IsGivenUpAfter (moments_of schedule.Other) p m t
 other_given_up p m t i h now l le =
-    rest (step_of h) (offers h) (length (opened h)) p m t now Other (moments_of schedule.Other) le (λ k. refl) refl refl 0 (moments_of schedule.Other) (DidAsk p m t ∷ h) refl
+    rest (step_of h) (offers h) (length (opened h)) p m t now Other (moments_of schedule.Other) le (λ k. refl) refl refl refl 0 (moments_of schedule.Other) (DidAsk p m t ∷ h) refl
     (asked_alone h p m t false l i)
     (λ j. ap (slice_get (moments_of schedule.Other)) (let a : 0 + j ≡ j = omega arith in a))
     (omega arith, (omega arith, (omega arith, (omega arith, (omega arith, (omega arith, (omega arith, (omega arith, (omega arith, (omega arith, tt))))))))))

@@ -13,7 +13,7 @@ use Rattle.mmtel_timers.proofs.Looked.{find_has, find_misses}
 use Rattle.mmtel_timers.proofs.Ordered.{all_has}
 use Rattle.mmtel_transaction.specs.declared.entries.Entry.{Entry}
 use Rattle.mmtel_transaction.specs.declared.names.Waits.{Waits}
-use Rattle.mmtel_transaction.specs.Deadlines.{deadline}
+use Rattle.mmtel_transaction.specs.Deadlines.{deadline, order_due, step_due}
 use Rattle.mmtel_transaction.specs.Answers.{by_key, due_one, is_before, is_of, Next, next_due, sooner}
 use Rattle.mmtel_transaction.specs.Indexes.{due_first, or_never, waiting, waits, waits_cmp}
 use Rattle.mmtel_transaction.proofs.Changing.{one_key}
@@ -87,7 +87,7 @@ not_later a b k Equal e q = let l : a ≡ b = ranked a b Equal e in omega (arith
 not_later a b k Greater e q = absurd cc
 
 abbrev waits_with : Option ℕ → Entry → Waits
-waits_with o e = record { at = or_never o; step = e.step; order = e.order; key = e.key }
+waits_with o e = record { at = or_never o; step = step_due e; order = order_due e; key = e.key }
 
 -- the next deadline is one of those
 one_has : (now : ℕ) (e : Entry) (n : Next) (o : Option ℕ) → deadline e ≡ o → due_one now e o ≡ Some n → (e ≡ n.entry) × (deadline n.entry ≡ Some n.at)
@@ -129,7 +129,7 @@ module _ (now a : ℕ) (e : Entry) (d : deadline e ≡ Some a) (soon : a ≤ now
   first = record { at = a; entry = e }
 
   own : due_one now e (deadline e) ≡ Some first
-  own = let t : nat_le a now ≡ true = grind (arith, nat_tests) in rw (d, t) refl
+  own = let t : nat_le a now ≡ true = grind (arith, nat_tests) in ap (due_one now e) d ∙ ap (λ b. cond b (Some first) None) t
 
   abbrev IsLeast : List Entry → Type 0
   IsLeast es = (x : Entry) (b : ℕ) → Has x es → deadline x ≡ Some b → (x.key ≡ e.key) ⊎ (waits_cmp (waits_with (Some a) e) (waits_with (Some b) x) ≡ Less)
@@ -140,7 +140,7 @@ module _ (now a : ℕ) (e : Entry) (d : deadline e ≡ Some a) (soon : a ≤ now
       let u = next_has now es n q in
       elim (m n.entry n.at u.0 u.1) [
         | inl w ↦ let l : e.key < n.entry.key = r n.entry u.0 in absurd (omega (arith, w, l))
-        | inr w ↦ let f : is_before n.at n.entry a e ≡ false = top_false a n.at e.step n.entry.step e.order n.entry.order (nat_cmp e.key n.entry.key) (nat_cmp a n.at) refl w in rw f refl
+        | inr w ↦ let f : is_before n.at n.entry a e ≡ false = top_false a n.at (step_due e) (step_due n.entry) (order_due e) (order_due n.entry) (nat_cmp e.key n.entry.key) (nat_cmp a n.at) refl w in ap (λ t. Some (cond t n first)) f
       ]
 
   comes : (x : Entry) (es : List Entry) (o : Option ℕ) → deadline x ≡ o → x.key < e.key → IsLeast (x ∷ es) → sooner (due_one now x o) (Some first) ≡ Some first
@@ -150,11 +150,11 @@ module _ (now a : ℕ) (e : Entry) (d : deadline e ≡ Some a) (soon : a ≤ now
       earlier : is_before a e b x ≡ true
       earlier = elim (m x b (inl refl) q) [
         | inl w ↦ absurd (omega (arith, w, k))
-        | inr w ↦ top_true a b e.step x.step e.order x.order e.key x.key (nat_cmp a b) refl w k
+        | inr w ↦ top_true a b (step_due e) (step_due x) (order_due e) (order_due x) e.key x.key (nat_cmp a b) refl w k
       ]
 
       by_test : (t : Bool) → sooner (cond t (Some (record { at = b; entry = x })) None) (Some first) ≡ Some first
-      by_test true = rw earlier refl
+      by_test true = ap (λ t. Some (cond t first (record { at = b; entry = x }))) earlier
       by_test false = refl
 
   pub least_next : (es : List Entry) → Has e es → Rises (λ (x : Entry). x.key) es → IsLeast es → next_due now es ≡ Some first

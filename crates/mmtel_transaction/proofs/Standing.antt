@@ -5,11 +5,14 @@ use Rattle.std.proofs.Math.Nat.{min-eq_left, min-eq_right}
 use Rattle.std.proofs.lemmas.Bool.{cases_lt}
 use Rattle.mmtel_types.specs.declared.numbers.Peer.{Peer}
 use Rattle.mmtel_message.specs.Message.{Message}
+use Rattle.mmtel_message.specs.Texts.{message_text}
 use Rattle.mmtel_message.specs.declared.messages.Start.{Start}
 use Rattle.mmtel_transaction.specs.Heads.{head_of}
 use Rattle.mmtel_transaction.specs.declared.heads.Head.{Head}
+use Rattle.mmtel_transaction.specs.declared.entries.Change.{Change}
 use Rattle.mmtel_transaction.specs.declared.entries.Entry.{Entry}
 use Rattle.mmtel_transaction.specs.declared.entries.Plan.TheVariants.{End}
+use Rattle.mmtel_transaction.specs.declared.entries.ReliableAnswer.{ReliableAnswer}
 use Rattle.mmtel_transaction.specs.declared.parts.Part.{Part}
 use Rattle.mmtel_transaction.specs.declared.parts.Part.TheVariants as part
 use Rattle.mmtel_transaction.specs.declared.tables.Found.{Found}
@@ -18,13 +21,13 @@ use Rattle.mmtel_transaction.specs.declared.words.Heard.{Heard}
 use Rattle.mmtel_transaction.specs.declared.words.HearFault.{HearFault}
 use Rattle.mmtel_transaction.specs.declared.words.TKey.{TKey}
 use Rattle.mmtel_transaction.specs.declared.transactions.Transactions.{Transactions}
-use Rattle.mmtel_transaction.specs.Changes.{fired, hit, acked_2xx, is_ack_of}
-use Rattle.mmtel_transaction.specs.Calls.{Done, DidHear, DidFire, offers, step_of, opens, opened, live, is_live, change, entry_of}
+use Rattle.mmtel_transaction.specs.Changes.{answer_of, fired, hit, acked_2xx, is_ack_of, offered, replied, with_answers}
+use Rattle.mmtel_transaction.specs.Calls.{Done, DidHear, DidFire, DidReply, offers, step_of, opens, opened, live, is_live, change, entry_of}
 use Rattle.mmtel_transaction.specs.Answers.{next_due, fires, hear_says, hears, part_of, says, says_due, says_opened}
 use Rattle.mmtel_transaction.specs.Runs.{IsRun}
-use Rattle.mmtel_transaction.specs.Table.{HearsAs, settle, found_of}
+use Rattle.mmtel_transaction.specs.Table.{HearsAs, made, settle, found_of}
 use Rattle.mmtel_transaction.specs.Stands.{HasRoom, MayOpen, Stands}
-use Rattle.mmtel_transaction.proofs.Lists.{live_more, settled, rising, all_live, AllLive}
+use Rattle.mmtel_transaction.proofs.Lists.{AllLive, all_live, keeps_with, live_more, Rising, rising, settles_one, settled_twice}
 
 map_as : (f g : Entry → Entry) (es : List Entry) → ((e : Entry) → f e ≡ g e) → map f es ≡ map g es
 map_as f g [] q = refl
@@ -36,7 +39,7 @@ all_kept f (e ∷ es) q a = rw (q e, a.0, all_kept f es q a.1) refl
 
 -- a call that hits one key
 pub live_hit : (c : Done) (h : List Done) (k : ℕ) (f : Entry → Entry) → ((e : Entry) → change (step_of h) (offers h) c e ≡ hit k f e) → opens (step_of h) (offers h) (length (opened h)) c ≡ [] → live (c ∷ h) ≡ settle k f (live h)
-live_hit c h k f q o = live_more c h ∙ (ap (λ xs. filter is_live (map (change (step_of h) (offers h) c) (live h)) ++ xs) o ∙ (append-nil _ ∙ (ap (filter is_live) (map_as (change (step_of h) (offers h) c) (hit k f) (live h) q) ∙ settled k 0 f (live h) (length (opened h)) (rising h) (all_live (map (entry_of h) (opened h))))))
+live_hit c h k f q o = live_more c h ∙ (ap (λ xs. filter is_live (map (change (step_of h) (offers h) c) (live h)) ++ xs) o ∙ (append-nil _ ∙ (ap (filter is_live) (map_as (change (step_of h) (offers h) c) (hit k f) (live h) q) ∙ settles_one k 0 f (live h) (length (opened h)) (rising h) (all_live (map (entry_of h) (opened h))))))
 
 -- a call that changes nothing but what it opens
 pub live_new : (c : Done) (h : List Done) → ((e : Entry) → change (step_of h) (offers h) c e ≡ e) → live (c ∷ h) ≡ live h ++ opens (step_of h) (offers h) (length (opened h)) c
@@ -76,6 +79,22 @@ module _ (c : Done) (h : List Done) (old new : Transactions) (st : Stands old h)
     entries = items ∙ (st.entries ∙ sym (live_new c h q ∙ (ap (λ xs. live h ++ xs) o ∙ append-nil (live h))));
     run = run;
   }
+
+-- an answer that is offered: it is kept where it is reliable, and then it is offered as every other one
+module _ (old mid new : Transactions) (h : List Done) (key now : ℕ) (m : Message Start) (answer : Option ReliableAnswer) (change : Change) (st : Stands old h) (kept : mid ≡ record old { entries = map (hit key (with_answers answer)) old.entries }) (reliable : answer ≡ answer_of old.step old.offers m (message_text m) now) (made_so : made change ≡ replied mid.step mid.offers (head_of m).status (message_text m) (head_of m).to_tag now) where
+  as_offered : settle key (made change) mid.entries ≡ settle key (offered old.step old.offers m now) old.entries
+  as_offered =
+      let F : ℕ → ℕ → Entry → Entry = λ s i. replied s i (head_of m).status (message_text m) (head_of m).to_tag now in
+      let r : Rising 0 old.entries (length (opened h)) = subst (λ es. Rising 0 es (length (opened h))) (sym st.entries) (rising h) in
+      ap (λ f. settle key f mid.entries) made_so
+      ∙ (ap (λ (t : Transactions). settle key (F t.step t.offers) t.entries) kept
+      ∙ (settled_twice key 0 (with_answers answer) (F old.step old.offers) old.entries (length (opened h)) (λ e. (keeps_with answer e).key) r
+      ∙ ap (λ a. settle key (λ e. F old.step old.offers (with_answers a e)) old.entries) reliable))
+
+  pub stands_replied : new.step ≡ mid.step → new.next ≡ mid.next → new.offers ≡ min (mid.offers + 1) (2 ^ 128 - 1) → new.entries ≡ settle key (made change) mid.entries → Stands new (DidReply key m now ∷ h)
+  stands_replied step next offers entries =
+      stands_hit (DidReply key m now) h old new st st.run (offers ∙ (ap (λ (t : Transactions). min (t.offers + 1) (2 ^ 128 - 1)) kept ∙ ap (λ n. min (n + 1) (2 ^ 128 - 1)) st.offers)) key (λ s i. offered s i m now)
+      (step ∙ ap (λ (t : Transactions). t.step) kept) (next ∙ ap (λ (t : Transactions). t.next) kept) (entries ∙ as_offered) refl refl (λ e. refl)
 
 length_both : (xs ys : List Entry) → length (xs ++ ys) ≡ length xs + length ys
 length_both xs ys = length-append xs ys

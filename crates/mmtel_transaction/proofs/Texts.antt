@@ -1,30 +1,35 @@
 -- Texts that are due to trusted peers decide nothing.
-use Rattle.std.proofs.Common.{◌≡◌, ℕ, suc, ◌+◌, ◌-◌, ◌^◌, List, [], ◌∷◌, ◌++◌, length, refl, true, false, Bool, not, ◌&&◌, ◌||◌, sym, ap, ◌∙◌, arith, map, cond, length-append}
-use Rattle.std.specs.Prelude.{Option, Some, None, option_map, filter, is_some, min, nat_le, ◌==◌}
+use Rattle.std.proofs.Common.{◌≡◌, ℕ, zero, suc, ◌+◌, ◌-◌, ◌^◌, List, [], ◌∷◌, ◌++◌, length, refl, true, false, Bool, not, ◌&&◌, ◌||◌, sym, ap, ◌∙◌, arith, map, cond, length-append}
+use Rattle.std.specs.Prelude.{Option, Some, None, option_map, filter, is_some, min, nat_le, slice_get, ◌==◌}
 use Rattle.std.specs.List.{find, list_any}
-use Rattle.std.specs.Option.{unwrap_or}
+use Rattle.std.specs.Option.{option_or, unwrap_or}
 use Rattle.std.proofs.lemmas.List.{map-append}
 use Rattle.std.proofs.lemmas.List.Recursion.{is_count_by}
+use Rattle.mmtel_scan.specs.Chain.{◌>>=◌}
 use Rattle.mmtel_types.specs.declared.numbers.Peer.{Peer}
 use Rattle.mmtel_message.specs.Message.{Message}
 use Rattle.mmtel_message.specs.Texts.{message_text}
 use Rattle.mmtel_message.specs.declared.messages.Start.{Start}
-use Rattle.mmtel_transaction.specs.Heads.{head_of, is_success, is_ack, is_cancel, is_invite, is_provisional}
+use Rattle.mmtel_transaction.specs.Heads.{head_of, is_success, is_ack, is_cancel, is_invite, is_provisional, reliable_number}
 use Rattle.mmtel_transaction.specs.declared.heads.Head.{Head}
+use Rattle.mmtel_transaction.specs.declared.entries.Alarm.{Alarm}
 use Rattle.mmtel_transaction.specs.declared.entries.Entry.{Entry}
+use Rattle.mmtel_transaction.specs.declared.entries.ReliableAnswer.{ReliableAnswer}
 use Rattle.mmtel_transaction.specs.declared.parts.Part.{Part}
 use Rattle.mmtel_transaction.specs.declared.parts.Part.TheVariants as part
-use Rattle.mmtel_transaction.specs.Deadlines.{resend_at, deadline, ends}
-use Rattle.mmtel_transaction.specs.Changes.{fired, replied, rang, finished, answered, acked, acked_2xx, kept, hit, is_ack_of}
-use Rattle.mmtel_transaction.specs.Calls.{Done, DidBegin, DidHear, DidAsk, DidReply, DidAck, DidFire, offers, step_of, opens, heard_opens, opened, live, is_live, change, heard_change}
-use Rattle.mmtel_transaction.specs.Answers.{Next, by_key, is_of, due_one, sooner, is_before, gives_again, gives_same, is_full, is_invite_of, is_client_of, is_server_of, merged_with, is_other, key_of, next_due, part_of, part_ack, part_request, part_response, peer_of, says, says_due, says_fresh, servers, text_again, then_gives, upcoming_of}
+use Rattle.mmtel_transaction.specs.Deadlines.{alarm_of, at_place, deadline, ends, foremost_from, foremost_in, is_idle, last_at, order_due, planned_at, resend_at, sooner_of, step_due}
+use Rattle.mmtel_transaction.specs.Changes.{answer_of, fired, fired_by, offered, replied, resent, rang, finished, answered, acked, acked_2xx, kept, hit, is_ack_of, settled, with_answers, without_own}
+use Rattle.mmtel_transaction.specs.Calls.{Done, DidBegin, DidHear, DidAsk, DidReply, DidAck, DidFire, DidSettle, offers, step_of, opens, heard_opens, opened, live, is_live, change, heard_change}
+use Rattle.mmtel_transaction.specs.Answers.{Next, by_key, is_of, due_one, sooner, is_before, gives_again, gives_same, is_full, is_invite_of, is_client_of, is_server_of, merged_with, is_other, key_of, next_due, part_of, part_ack, part_request, part_response, peer_of, says, says_due, says_fresh, servers, text_again, text_by, text_planned, then_gives, upcoming_of}
 use Rattle.mmtel_transaction.specs.Table.{settle}
 use Rattle.mmtel_transaction.specs.Belonging.{if_refused, owner}
-use Rattle.mmtel_transaction.specs.Alike.{Alike, AnswerAlike, GoOnAlike, TextsDecideNothing, blank, blank_due, blank_given, blank_heard, blank_if, blank_maybe, next_key}
+use Rattle.mmtel_transaction.specs.Alike.{Alike, AnswerAlike, GoOnAlike, TextsDecideNothing, blank, blank_answer, blank_due, blank_given, blank_heard, blank_if, blank_maybe, next_key}
 use Rattle.mmtel_transaction.specs.declared.words.Due.TheVariants as due
 use Rattle.mmtel_transaction.specs.declared.words.Heard.TheVariants as heard
 use Rattle.mmtel_transaction.specs.declared.words.TKey.{TKey}
-use Rattle.mmtel_transaction.proofs.Lists.{live_more}
+use Rattle.mmtel_transaction.proofs.Before.{before}
+use Rattle.mmtel_transaction.proofs.Foremost.{again as again_of, again_at, resent_is}
+use Rattle.mmtel_transaction.proofs.Lists.{keeps_with, live_more}
 use Rattle.mmtel_transaction.proofs.Standing.{live_hit}
 
 -- ---- a text that is blank
@@ -36,6 +41,51 @@ twice false t = refl
 twice_maybe : (b : Bool) (o : Option (List ℕ)) → blank_maybe b (blank_maybe b o) ≡ blank_maybe b o
 twice_maybe b None = refl
 twice_maybe b (Some t) = ap (λ (x : List ℕ). Some x) (twice b t)
+
+abbrev blanks : Bool → List ReliableAnswer → List ReliableAnswer
+blanks b xs = map (blank_answer b) xs
+
+twice_answer : (b : Bool) (x : ReliableAnswer) → blank_answer b (blank_answer b x) ≡ blank_answer b x
+twice_answer b x = ap (λ (t : List ℕ). (let r : ReliableAnswer = record x { text = t } in r)) (twice b x.text)
+
+twice_answers : (b : Bool) (xs : List ReliableAnswer) → blanks b (blanks b xs) ≡ blanks b xs
+twice_answers b [] = refl
+twice_answers b (x ∷ xs) = ap (λ y. y ∷ blanks b (blanks b xs)) (twice_answer b x) ∙ ap (λ ys. blank_answer b x ∷ ys) (twice_answers b xs)
+
+-- a further answer, one that was sent again, and one that is left out
+twice_more : (b : Bool) (x : ReliableAnswer) (xs : List ReliableAnswer) → blanks b (blanks b xs ++ x ∷ []) ≡ blanks b (xs ++ x ∷ [])
+twice_more b x [] = refl
+twice_more b x (y ∷ xs) = ap (λ z. z ∷ blanks b (blanks b xs ++ x ∷ [])) (twice_answer b y) ∙ ap (λ ys. blank_answer b y ∷ ys) (twice_more b x xs)
+
+other_more : (b : Bool) (x y : ReliableAnswer) (xs : List ReliableAnswer) → blank_answer b x ≡ blank_answer b y → blanks b (xs ++ x ∷ []) ≡ blanks b (xs ++ y ∷ [])
+other_more b x y [] q = ap (λ z. z ∷ []) q
+other_more b x y (z ∷ xs) q = ap (λ ys. blank_answer b z ∷ ys) (other_more b x y xs q)
+
+twice_at : (b : Bool) (s place : ℕ) (xs : List ReliableAnswer) → blanks b (again_at s place (blanks b xs)) ≡ blanks b (again_at s place xs)
+twice_at b s place [] = refl
+twice_at b s zero (x ∷ xs) = ap (λ z. z ∷ blanks b (blanks b xs)) (twice_answer b (again_of s x)) ∙ ap (λ ys. blank_answer b (again_of s x) ∷ ys) (twice_answers b xs)
+twice_at b s (suc place) (x ∷ xs) = ap (λ z. z ∷ blanks b (again_at s place (blanks b xs))) (twice_answer b x) ∙ ap (λ ys. blank_answer b x ∷ ys) (twice_at b s place xs)
+
+twice_resent : (b : Bool) (s place : ℕ) (xs : List ReliableAnswer) → blanks b (resent s place (slice_get (blanks b xs) place) (blanks b xs)) ≡ blanks b (resent s place (slice_get xs place) xs)
+twice_resent b s place xs = ap (blanks b) (resent_is s place (blanks b xs)) ∙ (twice_at b s place xs ∙ sym (ap (blanks b) (resent_is s place xs)))
+
+twice_without : (b : Bool) (own : ℕ) (xs : List ReliableAnswer) → blanks b (without_own own (blanks b xs)) ≡ blanks b (without_own own xs)
+twice_without b own [] = refl
+twice_without b own (x ∷ xs) = either (not (x.own == own)) (twice_without b own xs)
+  where
+    either : (t : Bool) → blanks b (without_own own (blanks b xs)) ≡ blanks b (without_own own xs) → blanks b (cond t (blank_answer b x ∷ without_own own (blanks b xs)) (without_own own (blanks b xs))) ≡ blanks b (cond t (x ∷ without_own own xs) (without_own own xs))
+    either true q = ap (λ z. z ∷ blanks b (without_own own (blanks b xs))) (twice_answer b x) ∙ ap (λ ys. blank_answer b x ∷ ys) q
+    either false q = q
+
+-- which answer comes first does not rest on texts
+foremost_blank : (b : Bool) (k : ℕ) (xs : List ReliableAnswer) → foremost_from k (blanks b xs) ≡ foremost_from k xs
+foremost_blank b k [] = refl
+foremost_blank b k (x ∷ xs) = ap (sooner_of (at_place k (alarm_of x))) (foremost_blank b (suc k) xs)
+
+get_blank : (b : Bool) (xs : List ReliableAnswer) (i : ℕ) → slice_get (blanks b xs) i ≡ option_map (blank_answer b) (slice_get xs i)
+get_blank b [] i = refl
+get_blank b (x ∷ xs) zero = refl
+get_blank b (x ∷ xs) (suc i) = get_blank b xs i
 
 blank_text : (b : Bool) (s t : List ℕ) → (b ≡ false → s ≡ t) → blank_if b s ≡ blank_if b t
 blank_text true s t e = refl
@@ -51,35 +101,59 @@ module _ (v : Peer → Bool) where
   Absorbs f = (e : Entry) → blank v (f (blank v e)) ≡ blank v (f e)
 
   again : Absorbs (λ e. e)
-  again e = rw (twice (v e.peer) e.request, twice_maybe (v e.peer) e.last) refl
+  again e = rw (twice (v e.peer) e.request, twice_maybe (v e.peer) e.last, twice_answers (v e.peer) e.reliable) refl
+
+  -- so what is equal but for those texts stays so
+  carried : (f : Entry → Entry) → Absorbs f → (e x : Entry) → blank v e ≡ blank v x → blank v (f e) ≡ blank v (f x)
+  carried f a e x q = sym (a e) ∙ (ap (λ (y : Entry). blank v (f y)) q ∙ a x)
+
+  foremost_like : (e : Entry) → foremost_in (blank v e) ≡ foremost_in e
+  foremost_like e = ap (λ o. cond (is_idle e.plan) o None) (foremost_blank (v e.peer) 0 e.reliable)
 
   absorbs_fired : (s : ℕ) → Absorbs (fired s)
-  absorbs_fired s e = blank_both v (is_some (resend_at e)) _ _ _ _ (rw (twice (v e.peer) e.request, twice_maybe (v e.peer) e.last) refl) (rw (twice (v e.peer) e.request, twice_maybe (v e.peer) e.last) refl)
+  absorbs_fired s e = ap (λ o. blank v (fired_by o s (blank v e))) (foremost_like e) ∙ either (foremost_in e)
+    where
+      either : (o : Option (ℕ × Alarm)) → blank v (fired_by o s (blank v e)) ≡ blank v (fired_by o s e)
+      either (Some f) = rw (twice (v e.peer) e.request, twice_maybe (v e.peer) e.last, twice_resent (v e.peer) s f.0 e.reliable) refl
+      either None = blank_both v (is_some (planned_at e)) _ _ _ _ (rw (twice (v e.peer) e.request, twice_maybe (v e.peer) e.last, twice_answers (v e.peer) e.reliable) refl) (rw (twice (v e.peer) e.request, twice_maybe (v e.peer) e.last, twice_answers (v e.peer) e.reliable) refl)
+
+  absorbs_settled : (own : Option ℕ) → Absorbs (settled own)
+  absorbs_settled None e = rw (twice (v e.peer) e.request, twice_maybe (v e.peer) e.last) refl
+  absorbs_settled (Some own) e = rw (twice (v e.peer) e.request, twice_maybe (v e.peer) e.last, twice_without (v e.peer) own e.reliable) refl
+
+  absorbs_with : (o : Option ReliableAnswer) → Absorbs (with_answers o)
+  absorbs_with None e = again e
+  absorbs_with (Some answer) e = blank_both v (not e.is_server || not (e.done == 0)) _ _ _ _ (again e) (rw (twice (v e.peer) e.request, twice_maybe (v e.peer) e.last, twice_more (v e.peer) answer e.reliable) refl)
 
   absorbs_replied : (s i st : ℕ) (t g : List ℕ) (now : ℕ) → Absorbs (replied s i st t g now)
   absorbs_replied s i st t g now e =
       blank_both v (not e.is_server || not (e.done == 0)) _ _ _ _ (again e)
-      (blank_both v (is_provisional st) _ _ _ _ (rw (twice (v e.peer) e.request) refl) (rw (twice (v e.peer) e.request) refl))
+      (blank_both v (is_provisional st) _ _ _ _ (rw (twice (v e.peer) e.request, twice_answers (v e.peer) e.reliable) refl) (rw (twice (v e.peer) e.request) refl))
+
+  absorbs_offered : (s i : ℕ) (m : Message Start) (now : ℕ) → Absorbs (offered s i m now)
+  absorbs_offered s i m now e =
+      let o = answer_of s i m (message_text m) now in
+      carried (replied s i (head_of m).status (message_text m) (head_of m).to_tag now) (absorbs_replied s i (head_of m).status (message_text m) (head_of m).to_tag now) (with_answers o (blank v e)) (with_answers o e) (absorbs_with o e)
 
   absorbs_rang : (s now : ℕ) → Absorbs (rang s now)
-  absorbs_rang s now e = blank_both v (e.is_early || not (e.done == 0)) _ _ _ _ (again e) (rw (twice (v e.peer) e.request, twice_maybe (v e.peer) e.last) refl)
+  absorbs_rang s now e = blank_both v (e.is_early || not (e.done == 0)) _ _ _ _ (again e) (rw (twice (v e.peer) e.request, twice_maybe (v e.peer) e.last, twice_answers (v e.peer) e.reliable) refl)
 
   absorbs_finished : (s st now : ℕ) → Absorbs (finished s st now)
   absorbs_finished s st now e =
-      blank_both v (not (is_invite e.asked)) _ _ _ _ (rw (twice (v e.peer) e.request, twice_maybe (v e.peer) e.last) refl)
-      (blank_both v (not (e.done == 0)) _ _ _ _ (rw (twice (v e.peer) e.request, twice_maybe (v e.peer) e.last) refl) (rw (twice (v e.peer) e.request, twice_maybe (v e.peer) e.last) refl))
+      blank_both v (not (is_invite e.asked)) _ _ _ _ (rw (twice (v e.peer) e.request, twice_maybe (v e.peer) e.last, twice_answers (v e.peer) e.reliable) refl)
+      (blank_both v (not (e.done == 0)) _ _ _ _ (rw (twice (v e.peer) e.request, twice_maybe (v e.peer) e.last, twice_answers (v e.peer) e.reliable) refl) (rw (twice (v e.peer) e.request, twice_maybe (v e.peer) e.last, twice_answers (v e.peer) e.reliable) refl))
 
   absorbs_answered : (s st now : ℕ) → Absorbs (answered s st now)
   absorbs_answered s st now e = blank_both v (is_provisional st) _ _ _ _ (absorbs_rang s now e) (absorbs_finished s st now e)
 
   absorbs_acked : (s now : ℕ) → Absorbs (acked s now)
-  absorbs_acked s now e = blank_both v e.is_acked _ _ _ _ (again e) (rw (twice (v e.peer) e.request, twice_maybe (v e.peer) e.last) refl)
+  absorbs_acked s now e = blank_both v e.is_acked _ _ _ _ (again e) (rw (twice (v e.peer) e.request, twice_maybe (v e.peer) e.last, twice_answers (v e.peer) e.reliable) refl)
 
   absorbs_acked_2xx : (s : ℕ) (m : Head) → Absorbs (acked_2xx s m)
-  absorbs_acked_2xx s m e = blank_both v (is_ack_of m e) _ _ _ _ (rw (twice (v e.peer) e.request, twice_maybe (v e.peer) e.last) refl) (again e)
+  absorbs_acked_2xx s m e = blank_both v (is_ack_of m e) _ _ _ _ (rw (twice (v e.peer) e.request, twice_maybe (v e.peer) e.last, twice_answers (v e.peer) e.reliable) refl) (again e)
 
   absorbs_kept : (t : List ℕ) → Absorbs (kept t)
-  absorbs_kept t e = blank_both v (not e.is_server && e.is_refused) _ _ _ _ (rw (twice (v e.peer) e.request) refl) (again e)
+  absorbs_kept t e = blank_both v (not e.is_server && e.is_refused) _ _ _ _ (rw (twice (v e.peer) e.request, twice_answers (v e.peer) e.reliable) refl) (again e)
 
   absorbs_hit : (k : ℕ) (f : Entry → Entry) → Absorbs f → Absorbs (hit k f)
   absorbs_hit k f a e = blank_both v (e.key == k) _ _ _ _ (a e) (again e)
@@ -94,14 +168,33 @@ module _ (v : Peer → Bool) where
   absorbs_heard s m now part.AckOf2xx = absorbs_acked_2xx s (head_of m)
   absorbs_heard s m now part.Stray = again
 
-  -- so what is equal but for those texts stays so
-  carried : (f : Entry → Entry) → Absorbs f → (e x : Entry) → blank v e ≡ blank v x → blank v (f e) ≡ blank v (f x)
-  carried f a e x q = sym (a e) ∙ (ap (λ (y : Entry). blank v (f y)) q ∙ a x)
-
   other_reply : (s i st : ℕ) (t u g : List ℕ) (now : ℕ) (e : Entry) → (v e.peer ≡ false → t ≡ u) → blank v (replied s i st t g now e) ≡ blank v (replied s i st u g now e)
   other_reply s i st t u g now e q =
       blank_both v (not e.is_server || not (e.done == 0)) _ _ _ _ refl
       (blank_both v (is_provisional st) _ _ _ _ (rw (blank_text (v e.peer) t u q) refl) (rw (blank_text (v e.peer) t u q) refl))
+
+  -- an answer of one head that is reliable or not
+  other_answer : (s i now : ℕ) (m n : Message Start) (e : Entry) → reliable_number m ≡ reliable_number n → (v e.peer ≡ false → message_text m ≡ message_text n)
+      → blank v (with_answers (answer_of s i m (message_text m) now) e) ≡ blank v (with_answers (answer_of s i n (message_text n) now) e)
+  other_answer s i now m n e r q = ap (λ o. blank v (with_answers (option_map (λ own. record { own = own; text = message_text m; start = now; shots = 0; step = s; order = i }) o) e)) r ∙ either (reliable_number n)
+    where
+      either : (o : Option ℕ) → blank v (with_answers (option_map (λ own. record { own = own; text = message_text m; start = now; shots = 0; step = s; order = i }) o) e)
+          ≡ blank v (with_answers (option_map (λ own. record { own = own; text = message_text n; start = now; shots = 0; step = s; order = i }) o) e)
+      either None = refl
+      either (Some own) =
+          let x : ReliableAnswer = record { own = own; text = message_text m; start = now; shots = 0; step = s; order = i } in
+          let y : ReliableAnswer = record { own = own; text = message_text n; start = now; shots = 0; step = s; order = i } in
+          let same : blank_answer (v e.peer) x ≡ blank_answer (v e.peer) y = ap (λ (t : List ℕ). (let r : ReliableAnswer = record x { text = t } in r)) (blank_text (v e.peer) (message_text m) (message_text n) q) in
+          blank_both v (not e.is_server || not (e.done == 0)) _ _ _ _ refl (ap (λ xs. (let r : Entry = record (blank v e) { reliable = xs } in r)) (other_more (v e.peer) x y e.reliable same))
+
+  other_offer : (s i now : ℕ) (m n : Message Start) (e : Entry) → head_of m ≡ head_of n → reliable_number m ≡ reliable_number n → (v e.peer ≡ false → message_text m ≡ message_text n) → blank v (offered s i m now e) ≡ blank v (offered s i n now e)
+  other_offer s i now m n e h r q =
+      let x : Entry = with_answers (answer_of s i m (message_text m) now) e in
+      let y : Entry = with_answers (answer_of s i n (message_text n) now) e in
+      let peer : y.peer ≡ e.peer = (keeps_with (answer_of s i n (message_text n) now) e).peer in
+      carried (replied s i (head_of m).status (message_text m) (head_of m).to_tag now) (absorbs_replied s i (head_of m).status (message_text m) (head_of m).to_tag now) x y (other_answer s i now m n e r q)
+      ∙ (ap (λ (z : Head). blank v (replied s i z.status (message_text m) z.to_tag now y)) h
+      ∙ other_reply s i (head_of n).status (message_text m) (message_text n) (head_of n).to_tag now y (λ w. q (ap v (sym peer) ∙ w)))
 
   other_kept : (t u : List ℕ) (e : Entry) → (v e.peer ≡ false → t ≡ u) → blank v (kept t e) ≡ blank v (kept u e)
   other_kept t u e q = blank_both v (not e.is_server && e.is_refused) _ _ _ _ (rw (blank_text (v e.peer) t u q) refl) refl
@@ -183,6 +276,25 @@ module _ (v : Peer → Bool) where
   abbrev pub blank_next : Next → Next
   blank_next n = record { at = n.at; entry = blank v n.entry }
 
+  deadline_like : (e : Entry) → deadline (blank v e) ≡ deadline e
+  deadline_like e = ap (λ (o : Option (ℕ × Alarm)). option_or (option_or (option_map (λ (f : ℕ × Alarm). f.1.at) o) (planned_at e)) (last_at e)) (foremost_like e)
+
+  resend_like : (e : Entry) → resend_at (blank v e) ≡ resend_at e
+  resend_like e = ap (λ (o : Option (ℕ × Alarm)). option_or (option_map (λ (f : ℕ × Alarm). f.1.at) o) (planned_at e)) (foremost_like e)
+
+  step_like : (e : Entry) → step_due (blank v e) ≡ step_due e
+  step_like e = ap (λ (o : Option (ℕ × Alarm)). unwrap_or (option_map (λ (f : ℕ × Alarm). f.1.step) o) e.step) (foremost_like e)
+
+  order_like : (e : Entry) → order_due (blank v e) ≡ order_due e
+  order_like e = ap (λ (o : Option (ℕ × Alarm)). unwrap_or (option_map (λ (f : ℕ × Alarm). f.1.order) o) e.order) (foremost_like e)
+
+  before_like : (a : ℕ) (x : Entry) (b : ℕ) (y : Entry) → is_before a (blank v x) b (blank v y) ≡ is_before a x b y
+  before_like a x b y =
+      ap (λ s. before a s (order_due (blank v x)) b (step_due (blank v y)) (order_due (blank v y))) (step_like x)
+      ∙ (ap (λ o. before a (step_due x) o b (step_due (blank v y)) (order_due (blank v y))) (order_like x)
+      ∙ (ap (λ t. before a (step_due x) (order_due x) b t (order_due (blank v y))) (step_like y)
+      ∙ ap (λ u. before a (step_due x) (order_due x) b (step_due y) u) (order_like y)))
+
   one_blank : (now : ℕ) (e : Entry) (o : Option ℕ) → due_one now (blank v e) o ≡ option_map blank_next (due_one now e o)
   one_blank now e None = refl
   one_blank now e (Some at) = either (nat_le at now)
@@ -194,7 +306,7 @@ module _ (v : Peer → Bool) where
   sooner_blank : (x y : Option Next) → sooner (option_map blank_next x) (option_map blank_next y) ≡ option_map blank_next (sooner x y)
   sooner_blank None y = refl
   sooner_blank (Some x) None = refl
-  sooner_blank (Some x) (Some y) = either (is_before y.at y.entry x.at x.entry)
+  sooner_blank (Some x) (Some y) = ap (λ t. Some (cond t (blank_next y) (blank_next x))) (before_like y.at y.entry x.at x.entry) ∙ either (is_before y.at y.entry x.at x.entry)
     where
       either : (b : Bool) → Some (cond b (blank_next y) (blank_next x)) ≡ option_map blank_next (Some (cond b y x))
       either true = refl
@@ -202,7 +314,7 @@ module _ (v : Peer → Bool) where
 
   next_blank : (now : ℕ) (es : List Entry) → next_due now (map (blank v) es) ≡ option_map blank_next (next_due now es)
   next_blank now [] = refl
-  next_blank now (e ∷ es) = ap (λ (o : Option Next). sooner (due_one now (blank v e) (deadline e)) o) (next_blank now es) ∙ (ap (λ (o : Option Next). sooner o (option_map blank_next (next_due now es))) (one_blank now e (deadline e)) ∙ sooner_blank (due_one now e (deadline e)) (next_due now es))
+  next_blank now (e ∷ es) = ap (λ d. sooner (due_one now (blank v e) d) (next_due now (map (blank v) es))) (deadline_like e) ∙ (ap (λ (o : Option Next). sooner (due_one now (blank v e) (deadline e)) o) (next_blank now es) ∙ (ap (λ (o : Option Next). sooner o (option_map blank_next (next_due now es))) (one_blank now e (deadline e)) ∙ sooner_blank (due_one now e (deadline e)) (next_due now es)))
 
   -- ---- what is decided
 
@@ -236,7 +348,7 @@ module _ (v : Peer → Bool) where
 
   step_blank : (o : Option Next) → upcoming_of (option_map blank_next o) ≡ upcoming_of o
   step_blank None = refl
-  step_blank (Some n) = refl
+  step_blank (Some n) = ap (λ s. Some (n.at, s)) (step_like n.entry)
 
   fires_blank : (o : Option Next) → next_key (option_map blank_next o) ≡ next_key o
   fires_blank None = refl
@@ -251,6 +363,23 @@ module _ (v : Peer → Bool) where
   text_blank false true o r = or_blank o
   text_blank false false o r = refl
 
+  -- what is sent again is equal, but for a text of a trusted peer's
+  again_text : (e : Entry) → blank_if (v e.peer) (text_again (blank v e)) ≡ blank_if (v e.peer) (text_again e)
+  again_text e =
+      ap (λ (o : Option (ℕ × Alarm)). blank_if (v e.peer) (text_by (o >>= λ (f : ℕ × Alarm). slice_get (blanks (v e.peer) e.reliable) f.0) (blank v e))) (foremost_like e)
+      ∙ of_answer (foremost_in e)
+    where
+      planned_text : blank_if (v e.peer) (text_planned (blank v e)) ≡ blank_if (v e.peer) (text_planned e)
+      planned_text = text_blank (v e.peer) e.is_server e.last e.request
+
+      by_text : (o : Option ReliableAnswer) → blank_if (v e.peer) (text_by (option_map (blank_answer (v e.peer)) o) (blank v e)) ≡ blank_if (v e.peer) (text_by o e)
+      by_text None = planned_text
+      by_text (Some x) = twice (v e.peer) x.text
+
+      of_answer : (o : Option (ℕ × Alarm)) → blank_if (v e.peer) (text_by (o >>= λ (f : ℕ × Alarm). slice_get (blanks (v e.peer) e.reliable) f.0) (blank v e)) ≡ blank_if (v e.peer) (text_by (o >>= λ (f : ℕ × Alarm). slice_get e.reliable f.0) e)
+      of_answer None = planned_text
+      of_answer (Some f) = ap (λ o. blank_if (v e.peer) (text_by o (blank v e))) (get_blank (v e.peer) e.reliable f.0) ∙ by_text (slice_get e.reliable f.0)
+
   says_if : (a b : Bool) (n : Next) (t u : List ℕ) → blank_if (v n.entry.peer) t ≡ blank_if (v n.entry.peer) u
       → blank_due v (cond a (due.Again n.entry.peer n.at t) (cond b (due.Over (record { 0 = n.entry.key }) n.at) (due.Silent (record { 0 = n.entry.key }) n.entry.asked.branch n.entry.asked.method n.at)))
       ≡ blank_due v (cond a (due.Again n.entry.peer n.at u) (cond b (due.Over (record { 0 = n.entry.key }) n.at) (due.Silent (record { 0 = n.entry.key }) n.entry.asked.branch n.entry.asked.method n.at)))
@@ -260,7 +389,9 @@ module _ (v : Peer → Bool) where
 
   says_blank : (o : Option Next) → blank_due v (says_due (option_map blank_next o)) ≡ blank_due v (says_due o)
   says_blank None = refl
-  says_blank (Some n) = says_if (is_some (resend_at n.entry)) (ends n.entry.plan) n (text_again (blank v n.entry)) (text_again n.entry) (text_blank (v n.entry.peer) n.entry.is_server n.entry.last n.entry.request)
+  says_blank (Some n) =
+      ap (λ o. blank_due v (cond (is_some o) (due.Again n.entry.peer n.at (text_again (blank v n.entry))) (cond (ends n.entry.plan) (due.Over (record { 0 = n.entry.key }) n.at) (due.Silent (record { 0 = n.entry.key }) n.entry.asked.branch n.entry.asked.method n.at)))) (resend_like n.entry)
+      ∙ says_if (is_some (resend_at n.entry)) (ends n.entry.plan) n (text_again (blank v n.entry)) (text_again n.entry) (again_text n.entry)
 
   module _ (g h : List Done) (a : Alike v g h) where
     abbrev same_key : (k : ℕ) → option_map (blank v) (by_key k (live g)) ≡ option_map (blank v) (by_key k (live h))
@@ -446,15 +577,12 @@ module _ (v : Peer → Bool) where
           goes_on (DidAsk p m now) (DidAsk p n now) a.step (ap (λ (x : ℕ). min (x + 1) (2 ^ 128 - 1)) a.offers) (λ s i e x w. w)
           (λ s i k. rw (q, blank_text (v p) (message_text m) (message_text n) r) refl)
           (λ s i k. refl);
-      replies = λ key m n now q r.
-          hits (DidReply key m now) (DidReply key n now) key
-          (λ s i. replied s i (head_of m).status (message_text m) (head_of m).to_tag now)
-          (λ s i. replied s i (head_of n).status (message_text n) (head_of n).to_tag now)
+      replies = λ key m n now q k r.
+          hits (DidReply key m now) (DidReply key n now) key (λ s i. offered s i m now) (λ s i. offered s i n now)
           a.step (ap (λ (x : ℕ). min (x + 1) (2 ^ 128 - 1)) a.offers) (λ s i e. refl) (λ s i e. refl) (λ s i k. refl) (λ s i k. refl)
           (λ s i e x w same.
-          carried (replied s i (head_of m).status (message_text m) (head_of m).to_tag now) (absorbs_replied s i (head_of m).status (message_text m) (head_of m).to_tag now) e x same
-          ∙ (ap (λ (y : Head). blank v (replied s i y.status (message_text m) y.to_tag now x)) q
-          ∙ other_reply s i (head_of n).status (message_text m) (message_text n) (head_of n).to_tag now x (strange key x (message_text m) (message_text n) w r)));
+          carried (offered s i m now) (absorbs_offered s i m now) e x same
+          ∙ other_offer s i now m n x q k (strange key x (message_text m) (message_text n) w r));
       acks = λ key m n r.
           hits (DidAck key m) (DidAck key n) key (λ s i. kept (message_text m)) (λ s i. kept (message_text n))
           a.step a.offers (λ s i e. refl) (λ s i e. refl) (λ s i k. refl) (λ s i k. refl)
@@ -462,6 +590,7 @@ module _ (v : Peer → Bool) where
           carried (kept (message_text m)) (absorbs_kept (message_text m)) e x same
           ∙ other_kept (message_text m) (message_text n) x (strange key x (message_text m) (message_text n) w r));
       fires = λ key. goes_on (DidFire key) (DidFire key) a.step a.offers (λ s i e x q. carried (hit key (fired s)) (absorbs_hit key (fired s) (absorbs_fired s)) e x q) (λ s i k. refl) (λ s i k. refl);
+      settles = λ key own. goes_on (DidSettle key own) (DidSettle key own) a.step a.offers (λ s i e x q. carried (hit key (settled own)) (absorbs_hit key (settled own) (absorbs_settled own)) e x q) (λ s i k. refl) (λ s i k. refl);
     }
 
 pub texts_decide_nothing : TextsDecideNothing

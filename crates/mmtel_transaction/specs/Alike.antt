@@ -4,14 +4,15 @@ use Rattle.mmtel_types.specs.declared.numbers.Peer.{Peer}
 use Rattle.mmtel_message.specs.Message.{Message}
 use Rattle.mmtel_message.specs.Texts.{message_text}
 use Rattle.mmtel_message.specs.declared.messages.Start.{Start}
-use Rattle.mmtel_transaction.specs.Heads.{head_of}
-use Rattle.mmtel_transaction.specs.Calls.{Done, DidBegin, DidHear, DidAsk, DidReply, DidAck, DidFire, live, offers, opened, step_of}
+use Rattle.mmtel_transaction.specs.Heads.{head_of, reliable_number}
+use Rattle.mmtel_transaction.specs.Calls.{Done, DidBegin, DidHear, DidAsk, DidReply, DidAck, DidFire, DidSettle, live, offers, opened, step_of}
 use Rattle.mmtel_transaction.specs.Answers.{Next, by_key, gives_again, gives_same, hear_says, is_invite_of, is_merged, key_of, next_due, part_of, peer_of, says_due}
 use Rattle.mmtel_transaction.specs.Answers.{then_gives, upcoming_of}
 use Rattle.std.specs.List.{find}
 use Rattle.mmtel_transaction.specs.Belonging.{owner}
 use Rattle.mmtel_transaction.specs.declared.heads.Head.{Head}
 use Rattle.mmtel_transaction.specs.declared.entries.Entry.{Entry}
+use Rattle.mmtel_transaction.specs.declared.entries.ReliableAnswer.{ReliableAnswer}
 use Rattle.mmtel_transaction.specs.declared.parts.Part.{Part}
 use Rattle.mmtel_transaction.specs.declared.words.Due.{Due}
 use Rattle.mmtel_transaction.specs.declared.words.Due.TheVariants as due
@@ -25,9 +26,16 @@ blank_if b t = if b then [] else t
 abbrev pub blank_maybe : Bool → Option (List ℕ) → Option (List ℕ)
 blank_maybe b o = option_map (blank_if b) o
 
+abbrev pub blank_answer : Bool → ReliableAnswer → ReliableAnswer
+blank_answer b answer = record answer { text = blank_if b answer.text }
+
 -- a transaction without its texts, where its peer is trusted
 abbrev pub blank : (Peer → Bool) → Entry → Entry
-blank trusts e = record e { request = blank_if (trusts e.peer) e.request; last = blank_maybe (trusts e.peer) e.last }
+blank trusts e = record e {
+  request = blank_if (trusts e.peer) e.request;
+  last = blank_maybe (trusts e.peer) e.last;
+  reliable = map (blank_answer (trusts e.peer)) e.reliable;
+}
 
 abbrev pub blank_given : (Peer → Bool) → Peer × List ℕ → Peer × List ℕ
 blank_given trusts g = (g.0, blank_if (trusts g.0) g.1)
@@ -78,15 +86,17 @@ pub record AnswerAlike (trusts : Peer → Bool) (g h : List Done) : Type 0 where
 abbrev pub SentAlike : (Peer → Bool) → ℕ → List Done → Message Start → Message Start → Type 0
 SentAlike trusts key h m n = (p : Peer) → peer_of key (live h) ≡ Some p → trusts p ≡ false → message_text m ≡ message_text n
 
--- and they go on alike: one more call of both leaves them alike, where its messages have one head and differ in what only trusted peers are sent
+-- and they go on alike: one more call of both leaves them alike, where its messages have one head, are one reliable answer or none, and differ in what only trusted peers are sent
 pub record GoOnAlike (trusts : Peer → Bool) (g h : List Done) : Type 0 where
   pub begins : (n : ℕ) → Alike trusts (DidBegin n ∷ g) (DidBegin n ∷ h)
   pub hears : (p : Peer) (m n : Message Start) (now : ℕ) (taken : Part) → head_of m ≡ head_of n → Alike trusts (DidHear p m now taken ∷ g) (DidHear p n now taken ∷ h)
   pub asks : (p : Peer) (m n : Message Start) (now : ℕ) → head_of m ≡ head_of n → (trusts p ≡ false → message_text m ≡ message_text n) →
       Alike trusts (DidAsk p m now ∷ g) (DidAsk p n now ∷ h)
-  pub replies : (key : ℕ) (m n : Message Start) (now : ℕ) → head_of m ≡ head_of n → SentAlike trusts key h m n → Alike trusts (DidReply key m now ∷ g) (DidReply key n now ∷ h)
+  pub replies : (key : ℕ) (m n : Message Start) (now : ℕ) → head_of m ≡ head_of n → reliable_number m ≡ reliable_number n → SentAlike trusts key h m n →
+      Alike trusts (DidReply key m now ∷ g) (DidReply key n now ∷ h)
   pub acks : (key : ℕ) (m n : Message Start) → SentAlike trusts key h m n → Alike trusts (DidAck key m ∷ g) (DidAck key n ∷ h)
   pub fires : (key : ℕ) → Alike trusts (DidFire key ∷ g) (DidFire key ∷ h)
+  pub settles : (key : ℕ) (own : Option ℕ) → Alike trusts (DidSettle key own ∷ g) (DidSettle key own ∷ h)
 
 -- the texts that are due to trusted peers decide nothing
 abbrev pub TextsDecideNothing : Type 0

@@ -9,10 +9,11 @@ use Rattle.mmtel_types.specs.declared.numbers.Peer.{Peer}
 use Rattle.mmtel_message.specs.Message.{Message}
 use Rattle.mmtel_message.specs.declared.messages.Start.{Start}
 use Rattle.mmtel_transaction.specs.Heads.{head_of, invite, is_invite, is_ack, is_cancel, is_success, is_refusal, is_same_call}
-use Rattle.mmtel_transaction.specs.Deadlines.{resend_at, deadline, ends}
+use Rattle.mmtel_transaction.specs.Deadlines.{answer_due, resend_at, deadline, ends, order_due, step_due}
 use Rattle.mmtel_transaction.specs.Calls.{Done, DidHear, DidFire, opened, live}
 use Rattle.mmtel_transaction.specs.declared.heads.Head.{Head}
 use Rattle.mmtel_transaction.specs.declared.entries.Entry.{Entry}
+use Rattle.mmtel_transaction.specs.declared.entries.ReliableAnswer.{ReliableAnswer}
 use Rattle.mmtel_transaction.specs.declared.parts.Part.{Part}
 use Rattle.mmtel_transaction.specs.declared.parts.Part.TheVariants as part
 use Rattle.mmtel_transaction.specs.declared.words.TKey.{TKey}
@@ -123,7 +124,7 @@ says next es p m part.Stray = Some heard.Stray
 
 -- the order of deadlines: the moment, then the step that armed it, then the offer of its message
 abbrev pub is_before : ℕ → Entry → ℕ → Entry → Bool
-is_before a x b y = nat_lt a b || ((a == b) && (nat_lt x.step y.step || ((x.step == y.step) && nat_lt x.order y.order)))
+is_before a x b y = nat_lt a b || ((a == b) && (nat_lt (step_due x) (step_due y) || ((step_due x == step_due y) && nat_lt (order_due x) (order_due y))))
 
 -- a deadline and its transaction
 pub record Next : Type 0 where
@@ -145,9 +146,17 @@ abbrev pub next_due : ℕ → List Entry → Option Next
 next_due now [] = None
 next_due now (e ∷ es) = sooner (due_one now e (deadline e)) (next_due now es)
 
--- what is sent again: the request of a client transaction, the last response of a server transaction
+-- what is sent again by its plan: the request of a client transaction, the last response of a server transaction
+abbrev pub text_planned : Entry → List ℕ
+text_planned e = if e.is_server then unwrap_or e.last [] else e.request
+
+abbrev pub text_by : Option ReliableAnswer → Entry → List ℕ
+text_by None e = text_planned e
+text_by (Some answer) e = answer.text
+
+-- what is sent again
 abbrev pub text_again : Entry → List ℕ
-text_again e = if e.is_server then unwrap_or e.last [] else e.request
+text_again e = text_by (answer_due e) e
 
 -- what `due` says
 abbrev pub says_due : Option Next → Due
@@ -172,7 +181,7 @@ fires h (Some n) = DidFire n.entry.key ∷ h
 
 -- the moment and the step of a deadline
 abbrev pub upcoming_of : Option Next → Option (ℕ × ℕ)
-upcoming_of o = option_map (λ n. (n.at, n.entry.step)) o
+upcoming_of o = option_map (λ n. (n.at, step_due n.entry)) o
 
 abbrev pub peer_of : ℕ → List Entry → Option Peer
 peer_of key es = option_map (λ e. e.peer) (by_key key es)

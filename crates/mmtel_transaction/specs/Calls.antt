@@ -1,11 +1,11 @@
 -- The calls that were made of the transactions, and which transactions they opened, changed and left live (RFC 3261 §17; RFC 6026).
-use Rattle.std.specs.Prelude.{ℕ, ◌+◌, ◌-◌, ◌^◌, min, Bool, not, nat_lt, if◌then◌else◌, List, [], ◌∷◌, ◌++◌, length, filter, map}
+use Rattle.std.specs.Prelude.{ℕ, ◌+◌, ◌-◌, ◌^◌, min, Bool, not, nat_lt, if◌then◌else◌, List, [], ◌∷◌, ◌++◌, length, filter, map, Option}
 use Rattle.mmtel_types.specs.declared.numbers.Peer.{Peer}
 use Rattle.mmtel_message.specs.Message.{Message}
 use Rattle.mmtel_message.specs.Texts.{message_text}
 use Rattle.mmtel_message.specs.declared.messages.Start.{Start}
 use Rattle.mmtel_transaction.specs.Heads.{head_of}
-use Rattle.mmtel_transaction.specs.Changes.{fired, replied, answered, acked, acked_2xx, kept, hit, heard_first, asked_first}
+use Rattle.mmtel_transaction.specs.Changes.{fired, offered, answered, acked, acked_2xx, kept, settled, hit, heard_first, asked_first}
 use Rattle.mmtel_transaction.specs.declared.entries.Entry.{Entry}
 use Rattle.mmtel_transaction.specs.declared.parts.Part.{Part}
 use Rattle.mmtel_transaction.specs.declared.parts.Part.TheVariants as part
@@ -18,6 +18,7 @@ pub data Done : Type 0 where
   DidReply : (key : ℕ) → (m : Message Start) → (now : ℕ) → Done
   DidAck : (key : ℕ) → (m : Message Start) → Done
   DidFire : (key : ℕ) → Done
+  DidSettle : (key : ℕ) → (own : Option ℕ) → Done
 
 -- the number of the last `begin`
 abbrev pub step_of : List Done → ℕ
@@ -28,6 +29,7 @@ step_of (DidAsk p m now ∷ h) = step_of h
 step_of (DidReply key m now ∷ h) = step_of h
 step_of (DidAck key m ∷ h) = step_of h
 step_of (DidFire key ∷ h) = step_of h
+step_of (DidSettle key own ∷ h) = step_of h
 
 -- how many requests and answers were offered: a count that stays at its greatest number
 abbrev pub offers : List Done → ℕ
@@ -38,6 +40,7 @@ offers (DidAsk p m now ∷ h) = min (offers h + 1) (2 ^ 128 - 1)
 offers (DidReply key m now ∷ h) = min (offers h + 1) (2 ^ 128 - 1)
 offers (DidAck key m ∷ h) = offers h
 offers (DidFire key ∷ h) = offers h
+offers (DidSettle key own ∷ h) = offers h
 
 -- a transaction after what was heard
 abbrev pub heard_change : ℕ → Message Start → ℕ → Part → Entry → Entry
@@ -55,9 +58,10 @@ abbrev pub change : ℕ → ℕ → Done → Entry → Entry
 change step order (DidBegin n) e = e
 change step order (DidHear p m now taken) e = heard_change step m now taken e
 change step order (DidAsk p m now) e = e
-change step order (DidReply key m now) e = hit key (replied step order (head_of m).status (message_text m) (head_of m).to_tag now) e
+change step order (DidReply key m now) e = hit key (offered step order m now) e
 change step order (DidAck key m) e = hit key (kept (message_text m)) e
 change step order (DidFire key) e = hit key (fired step) e
+change step order (DidSettle key own) e = hit key (settled own) e
 
 abbrev pub heard_opens : ℕ → ℕ → Peer → Message Start → ℕ → Part → List Entry
 heard_opens step key p m now part.Fresh = heard_first step key p (head_of m) now ∷ []
@@ -77,6 +81,7 @@ opens step order key (DidAsk p m now) = asked_first step order key p (head_of m)
 opens step order key (DidReply k m now) = []
 opens step order key (DidAck k m) = []
 opens step order key (DidFire k) = []
+opens step order key (DidSettle k own) = []
 
 -- what was opened, once a call is made; a key is how many were opened before
 abbrev pub opened_by : ℕ → ℕ → Done → List Entry → List Entry

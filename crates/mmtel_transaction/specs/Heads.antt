@@ -1,7 +1,9 @@
 -- What the transactions read of a message: what names its transaction (RFC 3261 §17.1.3, §17.2.3), its dialogue's names and number (§12, §13.2.2.4), and its status (§7.2, §21).
-use Rattle.std.specs.Prelude.{ℕ, Bool, ◌&&◌, ◌==◌, List, [], codes, Option, Some, None}
+use Rattle.std.specs.Prelude.{ℕ, Bool, ◌&&◌, ◌==◌, nat_le, nat_lt, if◌then◌else◌, List, [], codes, Option, Some, None}
 use Rattle.std.specs.Str.{bytes_eq}
-use Rattle.mmtel_message.specs.Message.{Message}
+use Rattle.mmtel_scan.specs.Chain.{◌>>=◌}
+use Rattle.mmtel_scan.specs.Numbers.{number_of}
+use Rattle.mmtel_message.specs.Message.{Message, first_value}
 pub use Rattle.mmtel_message.specs.Faults.{is_request}
 pub use Rattle.mmtel_message.specs.Identifiers.{param_text}
 use Rattle.mmtel_message.specs.Identifiers.{Identifiers}
@@ -65,6 +67,10 @@ head_by start ids = record {
 -- what is read of a message
 unfoldable pub head_of : Message Start → Head
 head_of m = head_with m.start (five_at m.lines)
+
+-- the number of a reliable provisional answer, by its first RSeq line (RFC 3262 §7.1)
+unfoldable pub reliable_number : Message Start → Option ℕ
+reliable_number m = if nat_le 101 (code_of m.start) && nat_lt (code_of m.start) 200 then first_value (codes "RSeq") m.lines >>= number_of 2147483647 else None
 
 abbrev pub invite : List ℕ
 invite = codes "INVITE"

@@ -11,7 +11,7 @@ use Rattle.mmtel_timers.specs.Shelves.{comes_before, IsIndex, Rises}
 use Rattle.mmtel_transaction.specs.Heads.{invite}
 use Rattle.mmtel_transaction.specs.Told.{told_of}
 use Rattle.mmtel_transaction.specs.Answers.{is_other}
-use Rattle.mmtel_transaction.specs.Deadlines.{deadline}
+use Rattle.mmtel_transaction.specs.Deadlines.{deadline, order_due, step_due}
 use Rattle.mmtel_transaction.specs.declared.heads.Head.{Head}
 use Rattle.mmtel_transaction.specs.declared.entries.Entry.{Entry}
 use Rattle.mmtel_transaction.specs.declared.names.Name.{Name}
@@ -87,7 +87,7 @@ or_never None = 2 ^ 128 - 1
 or_never (Some at) = at
 
 abbrev pub waits : Entry → Waits
-waits e = record { at = or_never (deadline e); step = e.step; order = e.order; key = e.key }
+waits e = record { at = or_never (deadline e); step = step_due e; order = order_due e; key = e.key }
 
 abbrev pub waiting : Entry → Option Waits
 waiting e = Some (waits e)

@@ -8,8 +8,8 @@ use Rattle.mmtel_message.specs.declared.messages.Start.{Start}
 use Rattle.mmtel_timers.specs.Schedules.{moments_of}
 use Rattle.mmtel_timers.specs.declared.schedules.Schedule.TheVariants as schedule
 use Rattle.mmtel_transaction.specs.Heads.{head_of, is_ack, is_invite}
-use Rattle.mmtel_transaction.specs.Deadlines.{deadline, resend_at}
-use Rattle.mmtel_transaction.specs.Calls.{Done, DidBegin, DidHear, DidAsk, DidReply, DidAck, DidFire, live, opened}
+use Rattle.mmtel_transaction.specs.Deadlines.{deadline, message_due, resend_at}
+use Rattle.mmtel_transaction.specs.Calls.{Done, DidBegin, DidHear, DidAsk, DidReply, DidAck, DidFire, DidSettle, live, opened}
 use Rattle.mmtel_transaction.specs.Answers.{Next, by_key, fires, hear_says, hears, is_before, next_due, part_of, says_due, tkey}
 use Rattle.mmtel_transaction.specs.Runs.{IsRun}
 use Rattle.mmtel_transaction.specs.Stands.{HasRoom}
@@ -52,6 +52,7 @@ heard_in (DidAsk p m now ∷ h) = heard_in h
 heard_in (DidReply key m now ∷ h) = heard_in h
 heard_in (DidAck key m ∷ h) = heard_in h
 heard_in (DidFire key ∷ h) = heard_in h
+heard_in (DidSettle key own ∷ h) = heard_in h
 
 abbrev pub asked_in : List Done → ℕ
 asked_in [] = 0
@@ -61,6 +62,7 @@ asked_in (DidAsk p m now ∷ h) = suc (asked_in h)
 asked_in (DidReply key m now ∷ h) = asked_in h
 asked_in (DidAck key m ∷ h) = asked_in h
 asked_in (DidFire key ∷ h) = asked_in h
+asked_in (DidSettle key own ∷ h) = asked_in h
 
 -- no more transactions are opened than messages are heard and requests asked
 abbrev pub FewAreOpened : Type 0
@@ -148,10 +150,11 @@ unfoldable pub firings : ℕ → ℕ → List Done → List Next
 firings zero now h = []
 firings (suc n) now h = fired_then (next_due now (live h)) (firings n now (fires h (next_due now (live h))))
 
--- a deadline that fires after another does not come before it, by its moment, the step that armed it and the offer of its message; and of one transaction it is of a later moment
+-- a deadline that fires after another does not come before it, by its moment, the step that armed it and the offer of its message; and of one message of a transaction it is of
+-- a later moment
 pub record FiresAfter (x y : Next) : Type 0 where
   pub order : is_before y.at y.entry x.at x.entry ≡ false
-  pub once : y.entry.key ≡ x.entry.key → x.at < y.at
+  pub once : y.entry.key ≡ x.entry.key → message_due y.entry ≡ message_due x.entry → x.at < y.at
 
 abbrev pub AreInOrder : List Next → Type 0
 AreInOrder [] = Unit {0}

@@ -12,6 +12,7 @@ pub mod Belonging
 pub mod Alike
 pub mod OnePeer
 pub mod Waiting
+pub mod Pracks
 pub mod Settling
 pub mod HeadsRead
 pub mod Told

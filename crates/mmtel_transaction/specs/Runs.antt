@@ -1,7 +1,7 @@
 -- The lists of calls that can come about.
 use Rattle.std.specs.Prelude.{◌≡◌, ℕ, List, [], ◌∷◌, Some}
 use Rattle.mmtel_transaction.specs.Heads.{head_of}
-use Rattle.mmtel_transaction.specs.Calls.{Done, DidBegin, DidHear, DidAsk, DidReply, DidAck, DidFire, live}
+use Rattle.mmtel_transaction.specs.Calls.{Done, DidBegin, DidHear, DidAsk, DidReply, DidAck, DidFire, DidSettle, live}
 use Rattle.mmtel_transaction.specs.Answers.{Next, next_due, part_of}
 
 -- of all deadlines one of this transaction came next, at some moment
@@ -20,3 +20,4 @@ IsRun (DidAsk p m now ∷ h) = IsRun h
 IsRun (DidReply key m now ∷ h) = IsRun h
 IsRun (DidAck key m ∷ h) = IsRun h
 IsRun (DidFire key ∷ h) = IsNextOf key h × IsRun h
+IsRun (DidSettle key own ∷ h) = IsRun h

@@ -1,18 +1,22 @@
 -- Deadlines in a row: which comes next, in which step it was armed, and that they come to an end where nothing else is called between them (RFC 3261 §17).
-use Rattle.std.specs.Prelude.{◌≡◌, ◌↔◌, ℕ, zero, suc, ◌+◌, ◌-◌, ◌<◌, ◌≤◌, ◌⊎◌, Bool, false, nat_le, List, ◌∷◌, Option, Some, None, count_by, sum_by}
+use Rattle.std.specs.Prelude.{◌≡◌, ◌↔◌, ℕ, zero, suc, ◌+◌, ◌-◌, ◌<◌, ◌≤◌, ◌⊎◌, Bool, nat_le, if◌then◌else◌, List, ◌∷◌, ◌++◌, Option, Some, None, option_map, slice_get}
+use Rattle.std.specs.Prelude.{count_by, sum_by}
+use Rattle.std.specs.Option.{option_or}
 use Rattle.mmtel_types.specs.declared.numbers.Peer.{Peer}
 use Rattle.mmtel_message.specs.Message.{Message}
 use Rattle.mmtel_message.specs.declared.messages.Start.{Start}
-use Rattle.mmtel_transaction.specs.Deadlines.{deadline, last_at}
-use Rattle.mmtel_transaction.specs.Calls.{Done, DidAck, DidAsk, DidBegin, DidReply, live, step_of}
+use Rattle.mmtel_transaction.specs.Deadlines.{alarm_of, alarms, answers_alarms, deadline, is_idle, last_at, order_due, plan_alarms, planned_at, step_due}
+use Rattle.mmtel_transaction.specs.Calls.{Done, DidAck, DidAsk, DidBegin, DidReply, DidSettle, live, step_of}
 use Rattle.mmtel_transaction.specs.Answers.{Next, by_key, fires, next_due, upcoming_of}
+use Rattle.mmtel_transaction.specs.declared.entries.Alarm.{Alarm}
 use Rattle.mmtel_transaction.specs.declared.entries.Entry.{Entry}
+use Rattle.mmtel_transaction.specs.declared.entries.ReliableAnswer.{ReliableAnswer}
 
 -- of the deadlines of live transactions this moment and this step are the least that is not past now: the moment, and of one moment the step
 pub record IsLeast (now : ℕ) (h : List Done) (at step : ℕ) : Type 0 where
   pub not_past : at ≤ now
-  pub stands : (e : Entry) × (by_key e.key (live h) ≡ Some e) × (deadline e ≡ Some at) × (e.step ≡ step)
-  pub least : (key a : ℕ) (e : Entry) → by_key key (live h) ≡ Some e → deadline e ≡ Some a → (at < a) ⊎ ((at ≡ a) × (step ≤ e.step))
+  pub stands : (e : Entry) × (by_key e.key (live h) ≡ Some e) × (deadline e ≡ Some at) × (step_due e ≡ step)
+  pub least : (key a : ℕ) (e : Entry) → by_key key (live h) ≡ Some e → deadline e ≡ Some a → (at < a) ⊎ ((at ≡ a) × (step ≤ step_due e))
 
 -- what `upcoming` gives is the least one
 abbrev pub UpcomingIsLeast : Type 0
@@ -22,17 +26,16 @@ UpcomingIsLeast = (h : List Done) (now at step : ℕ) → upcoming_of (next_due 
 abbrev pub NoneIsDue : Type 0
 NoneIsDue = (h : List Done) (now key a : ℕ) (e : Entry) → upcoming_of (next_due now (live h)) ≡ None → by_key key (live h) ≡ Some e → deadline e ≡ Some a → now < a
 
--- a transaction's deadline, as one more call leaves it, stood before with the same step and order
+-- a transaction's deadline, as one more call leaves it, stood before with the same step and order among what its answers and its plan had next
 pub record StoodBefore (h : List Done) (key a : ℕ) (x : Entry) : Type 0 where
   pub entry : Entry
   pub live : by_key key (live h) ≡ Some entry
-  pub moment : deadline entry ≡ Some a
-  pub step : x.step ≡ entry.step
-  pub order : x.order ≡ entry.order
+  pub place : ℕ
+  pub stood : slice_get (answers_alarms entry ++ plan_alarms entry) place ≡ Some (record { at = a; step = step_due x; order = order_due x })
 
 -- a deadline is armed in the step in which the call was made that brought it
 abbrev pub ArmedInItsStep : Type 0
-ArmedInItsStep = (c : Done) (h : List Done) (key a : ℕ) (x : Entry) → by_key key (live (c ∷ h)) ≡ Some x → deadline x ≡ Some a → (x.step ≡ step_of h) ⊎ StoodBefore h key a x
+ArmedInItsStep = (c : Done) (h : List Done) (key a : ℕ) (x : Entry) → by_key key (live (c ∷ h)) ≡ Some x → deadline x ≡ Some a → (step_due x ≡ step_of h) ⊎ StoodBefore h key a x
 
 -- how long a transaction's deadlines may go on: from the next one to the last one in milliseconds, and one; nothing where it has none
 abbrev pub left_by : Option ℕ → Option ℕ → ℕ
@@ -40,8 +43,15 @@ left_by None last = 0
 left_by (Some a) None = 1
 left_by (Some a) (Some last) = suc (last - a)
 
+abbrev pub planned_left : Entry → ℕ
+planned_left e = left_by (option_or (planned_at e) (last_at e)) (last_at e)
+
+-- of a reliable answer, which is sent again for the last time after 31,500
+abbrev pub answer_left : ReliableAnswer → ℕ
+answer_left answer = left_by (option_map (λ alarm. alarm.at) (alarm_of answer)) (Some (answer.start + 31500))
+
 abbrev pub time_left : Entry → ℕ
-time_left e = left_by (deadline e) (last_at e)
+time_left e = if is_idle e.plan then sum_by answer_left e.reliable else planned_left e
 
 -- so of all of them together
 abbrev pub all_left : List Entry → ℕ
@@ -65,12 +75,11 @@ abbrev pub MoreChangesNothing : Type 0
 MoreChangesNothing = (h : List Done) (now fuel more : ℕ) → next_due now (live (settled fuel now h)) ≡ None → settled (fuel + more) now h ≡ settled fuel now h
 
 -- where other calls are made between, as those above make them of what a deadline says: how many deadlines are not later than a moment
-abbrev pub is_not_later : ℕ → Option ℕ → Bool
-is_not_later at None = false
-is_not_later at (Some a) = nat_le a at
+abbrev pub is_not_later : ℕ → Alarm → Bool
+is_not_later at alarm = nat_le alarm.at at
 
 abbrev pub due_by : ℕ → List Entry → ℕ
-due_by at es = count_by (λ e. is_not_later at (deadline e)) es
+due_by at es = sum_by (λ e. count_by (is_not_later at) (alarms e)) es
 
 -- nothing is due just where there are none
 abbrev pub DueIsCounted : Type 0
@@ -89,6 +98,7 @@ pub record AddsNone (h : List Done) : Type 0 where
   pub asks : (p : Peer) (m : Message Start) (at : ℕ) → due_by at (live (DidAsk p m at ∷ h)) ≤ due_by at (live h)
   pub replies : (key : ℕ) (m : Message Start) (at : ℕ) → due_by at (live (DidReply key m at ∷ h)) ≤ due_by at (live h)
   pub acks : (key : ℕ) (m : Message Start) (at : ℕ) → due_by at (live (DidAck key m ∷ h)) ≤ due_by at (live h)
+  pub settles : (key : ℕ) (own : Option ℕ) (at : ℕ) → due_by at (live (DidSettle key own ∷ h)) ≤ due_by at (live h)
 
 abbrev pub OffersAddNone : Type 0
 OffersAddNone = (h : List Done) → AddsNone h

@@ -5,7 +5,7 @@ use Rattle.mmtel_types.specs.declared.numbers.Peer.{Peer}
 use Rattle.mmtel_message.specs.Message.{Message}
 use Rattle.mmtel_message.specs.declared.messages.Start.{Start}
 use Rattle.mmtel_transaction.specs.Heads.{head_of}
-use Rattle.mmtel_transaction.specs.Changes.{fired, replied, answered, acked, kept}
+use Rattle.mmtel_transaction.specs.Changes.{fired, replied, answered, acked, kept, settled}
 use Rattle.mmtel_transaction.specs.Calls.{Done, DidHear, opened, live, is_live}
 use Rattle.mmtel_transaction.specs.Answers.{Next, part_of, says}
 use Rattle.mmtel_transaction.specs.Stands.{Stands}
@@ -29,6 +29,7 @@ made (change.Reply step order status text to_tag now) = replied step order statu
 made (change.Answer step status now) = answered step status now
 made (change.Ack step now) = acked step now
 made (change.Keep text) = kept text
+made (change.Settle own) = settled own
 
 -- what a reference points to
 abbrev pub now_of : Bor Entry → Entry

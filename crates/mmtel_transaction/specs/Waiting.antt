@@ -12,7 +12,7 @@ use Rattle.mmtel_timers.specs.declared.schedules.Schedule.TheVariants as schedul
 use Rattle.mmtel_transaction.specs.Heads.{head_of, is_success, is_invite, is_provisional, is_refusal, is_same_call}
 use Rattle.mmtel_transaction.specs.Deadlines.{deadline, resend_at}
 use Rattle.mmtel_transaction.specs.Changes.{is_ack_of}
-use Rattle.mmtel_transaction.specs.Calls.{Done, DidBegin, DidHear, DidAsk, DidReply, DidAck, DidFire, live, opened}
+use Rattle.mmtel_transaction.specs.Calls.{Done, DidBegin, DidHear, DidAsk, DidReply, DidAck, DidFire, DidSettle, live, opened}
 use Rattle.mmtel_transaction.specs.Answers.{Next, by_key, hear_says, hears, next_due, part_of, says_due, tkey}
 use Rattle.mmtel_transaction.specs.Belonging.{belongs}
 use Rattle.mmtel_transaction.specs.Runs.{IsRun}
@@ -42,6 +42,7 @@ times_fired key (DidAsk p m now ∷ g) = times_fired key g
 times_fired key (DidReply k m now ∷ g) = times_fired key g
 times_fired key (DidAck k m ∷ g) = times_fired key g
 times_fired key (DidFire k ∷ g) = if k == key then suc (times_fired key g) else times_fired key g
+times_fired key (DidSettle k own ∷ g) = times_fired key g
 
 -- a transaction that goes by a closed list of moments after a start, once so many of its deadlines fired
 pub record GoesBy (key start : ℕ) (moments : List ℕ) (said : List Due) (fired : ℕ) (h : List Done) : Type 0 where
@@ -70,6 +71,7 @@ is_answer_to key (DidAsk p m now) = false
 is_answer_to key (DidReply k m now) = false
 is_answer_to key (DidAck k m) = false
 is_answer_to key (DidFire k) = false
+is_answer_to key (DidSettle k own) = false
 
 -- and it is a final one
 abbrev pub is_final_to : ℕ → Done → Bool
@@ -79,6 +81,7 @@ is_final_to key (DidAsk p m now) = false
 is_final_to key (DidReply k m now) = false
 is_final_to key (DidAck k m) = false
 is_final_to key (DidFire k) = false
+is_final_to key (DidSettle k own) = false
 
 -- the moments at which a request is sent again that nobody answers
 abbrev pub request_moments : Head → List ℕ
@@ -132,6 +135,7 @@ is_ack_to key asked final (DidAsk p m now) = false
 is_ack_to key asked final (DidReply k m now) = false
 is_ack_to key asked final (DidAck k m) = false
 is_ack_to key asked final (DidFire k) = false
+is_ack_to key asked final (DidSettle k own) = false
 
 -- what `due` says in turn of a final that was offered at t: it is sent again, and at last its transaction ends
 abbrev pub said_of_final : ℕ → Peer → Message Start → ℕ → List Due
@@ -188,6 +192,7 @@ is_ack_in key (DidAsk p m now) = false
 is_ack_in key (DidReply k m now) = false
 is_ack_in key (DidAck k m) = k == key
 is_ack_in key (DidFire k) = false
+is_ack_in key (DidSettle k own) = false
 
 -- each non-2xx final that is heard in a client INVITE transaction after its ACK was offered gives that ACK again, to the peer that was asked, until another is offered (§17.1.1.3)
 abbrev pub KeptAcksAreGiven : Type 0

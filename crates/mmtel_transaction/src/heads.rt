@@ -1,10 +1,10 @@
 //! What the transactions read of a message.
 ghost use Rattle.std.specs.Prelude.{◌≡◌, [], IfOk, None};
 ghost use Rattle.std.specs.Option.{option_copied, unwrap_or};
-ghost use Rattle.mmtel_transaction.specs.Heads.{code_of, head_by, head_of, head_with, is_ack, is_cancel, is_invite, is_same_call, method_of};
+ghost use Rattle.mmtel_transaction.specs.Heads.{code_of, head_by, head_of, head_with, is_ack, is_cancel, is_invite, is_same_call, method_of, reliable_number};
 
 use mmtel_message::{Identifiers, Msg, Start, five_ref, is_request};
-use mmtel_scan::{NoMemory, Text};
+use mmtel_scan::{NoMemory, Text, number_up_to};
 use std::alloc::Global;
 
 /// What the transactions read of a message.
@@ -120,6 +120,27 @@ pub fn status_and_tag(alloc: Global, m: &Msg) -> Result<(u16, Text), NoMemory>
             let tag = or_empty(alloc, five.to().param(b"tag"))?;
             Ok((code_of(m.start()), tag))
         }
+    }
+}
+
+/// The greatest number of a reliable answer (RFC 3262 §7.1).
+const GREATEST_NUMBER: u64 = 2_147_483_647;
+
+/// The number of a reliable provisional answer, by its first RSeq line (RFC 3262 §7.1); None of any other message. It takes no memory.
+#[tactic(auto, unfolding(crate::specs::Heads::reliable_number))]
+pub fn reliable_number(m: &Msg) -> Option<u32>
+    ensures { result ≡ reliable_number m.now }
+{
+    let code = code_of(m.start());
+    if code < 101 || code >= 200 {
+        return None;
+    }
+    match m.first(b"RSeq") {
+        None => None,
+        Some(value) => match number_up_to(GREATEST_NUMBER, value) {
+            None => None,
+            Some(number) => Some(number as u32),
+        },
     }
 }
 

@@ -5,6 +5,7 @@ ghost use Rattle.mmtel_transaction.specs.Alike.{TextsDecideNothing};
 ghost use Rattle.mmtel_transaction.specs.OnePeer.{AskedPeers, KeepsPeers, NewPeers};
 ghost use Rattle.mmtel_transaction.specs.Belonging.{AcksBelong, HearsByOwner, OwnersAreLive};
 ghost use Rattle.mmtel_transaction.specs.Waiting.{AcksOf2xxEndResends, FinalsAwaitTheirAck, KeptAcksAreGiven, RingingIsNotGivenUp, UnansweredAreGivenUp, WhatIsAckedIsSilent};
+ghost use Rattle.mmtel_transaction.specs.Pracks.{AnswersAreSentAgain, AnswersGoOn, FinalsEndAnswers, OfferedAnswersWait, SettledAreGone};
 ghost use Rattle.mmtel_transaction.specs.Settling.{ArmedInItsStep, BeginsChangeNothing, DueIsCounted, FiringsEnd, FiringsLeaveFewer, FiringsUseUp, MoreChangesNothing};
 ghost use Rattle.mmtel_transaction.specs.Settling.{NoneIsDue, OffersAddNone, UpcomingIsLeast};
 ghost use Rattle.mmtel_transaction.specs.HeadsRead.{HeadsRestOnFields, HeadsRestOnFiveNames};
@@ -96,6 +97,16 @@ pub fn finals_wait_for_their_ack()
     ensures success { AcksOf2xxEndResends }
     ensures silent { WhatIsAckedIsSilent }
     ensures kept { KeptAcksAreGiven }
+{}
+
+/// Whatever else is called meanwhile: a reliable provisional answer is sent again at its moments until it is settled, which its PRACK does, or a final is offered; then it is
+/// sent no more (RFC 3262 §3).
+pub fn answers_wait_for_their_prack()
+    ensures offered { OfferedAnswersWait }
+    ensures waits { AnswersGoOn }
+    ensures again { AnswersAreSentAgain }
+    ensures settled { SettledAreGone }
+    ensures ended { FinalsEndAnswers }
 {}
 
 /// The next deadline is the least one by moment and by the step in which it was armed, which is that of the call that brought it; and where nothing else is called, what is

@@ -5,7 +5,7 @@ ghost use Rattle.mmtel_timers.specs.Shelves.{answer, comes_before};
 ghost use Rattle.mmtel_transaction.specs.Indexes.{call_named, client_named, has_name, mark_name, name_cmp, named, said_cmp, server_named, waits, waits_cmp};
 ghost use Rattle.mmtel_transaction.specs.Told.{told_of};
 
-use crate::entries::{Entry, deadline_of};
+use crate::entries::{Entry, armed_by, deadline_of};
 use mmtel_scan::{NoMemory, Text};
 use mmtel_timers::Mark;
 use std::alloc::Global;
@@ -263,10 +263,11 @@ pub fn waits_of(e: &Entry) -> Waits
         None => u128::MAX,
         Some(at) => at,
     };
+    let (step, order) = armed_by(e);
     Waits {
         at,
-        step: e.step,
-        order: e.order,
+        step,
+        order,
         key: e.key,
     }
 }

@@ -1,14 +1,14 @@
 //! The live transactions, and what is looked up in them.
 ghost use Rattle.std.specs.Prelude.{◌≡◌, [], ◌++◌, ◌∷◌, ◌^◌, ◌-◌, ◌*◌, ◌+◌, ◌≤◌, OnOk, OnErr, IfOk, IsTrue, false, map, option_map, Some};
 ghost use Rattle.std.specs.List.{find, list_any};
-ghost use Rattle.mmtel_transaction.specs.Changes.{acked_2xx};
+ghost use Rattle.mmtel_transaction.specs.Changes.{acked_2xx, hit, with_answer};
 ghost use Rattle.mmtel_transaction.specs.Heads.{is_ack, is_cancel};
 ghost use Rattle.mmtel_transaction.specs.Answers.{by_key, clients, gives_again, gives_same, is_client_named, is_client_of, is_full, is_invite_of, is_merged, is_other};
 ghost use Rattle.mmtel_transaction.specs.Answers.{is_server_named, is_server_of, key_of, next_due, part_ack, part_of, part_request, part_response, peer_of};
-ghost use Rattle.mmtel_transaction.specs.Answers.{says_due, servers, text_again, then_gives, upcoming_of};
+ghost use Rattle.mmtel_transaction.specs.Answers.{says_due, servers, text_again, text_planned, then_gives, upcoming_of};
 ghost use Rattle.mmtel_transaction.specs.Table.{found_of, made, now_of, settle};
 
-use crate::entries::{Change, Entry, is_ending, resend_of};
+use crate::entries::{Change, Entry, ReliableAnswer, answer_due, armed_by, is_ending, resend_of};
 use crate::heads::Head;
 use crate::parts::Part;
 use crate::tables::{Found, Tables};
@@ -78,6 +78,30 @@ impl Entries {
         match &mut self.kept {
             Some(kept) => kept.settle(key, change, steps),
             None => {}
+        }
+    }
+
+    /// The server transaction of a key offers a reliable answer, which waits for its PRACK.
+    ///
+    /// # Errors
+    ///
+    /// Want of memory alone; the transactions are then as before.
+    pub fn add_answer<L: Ledger>(
+        &mut self,
+        alloc: Global,
+        key: u64,
+        answer: ReliableAnswer,
+        steps: &mut Steps<L>,
+    ) -> Result<(), NoMemory>
+        ensures ok { OnOk result (self.new ≡ map (hit key (with_answer answer)) self.old) }
+        ensures err { OnErr result (self.new ≡ self.old) }
+    {
+        match &mut self.kept {
+            Some(kept) => kept.add_answer(alloc, key, answer, steps),
+            None => {
+                drop(answer);
+                Ok(())
+            }
         }
     }
 
@@ -173,6 +197,16 @@ impl Entries {
 fn text_of(alloc: Global, e: &Entry) -> Result<Text, NoMemory>
     ensures { IfOk result (λ t. t ≡ text_again e.now) }
 {
+    match answer_due(e) {
+        Some(answer) => Text::of(alloc, answer.text.bytes()),
+        None => planned_text(alloc, e),
+    }
+}
+
+/// What is sent again by the plan of a transaction.
+fn planned_text(alloc: Global, e: &Entry) -> Result<Text, NoMemory>
+    ensures { IfOk result (λ t. t ≡ text_planned e.now) }
+{
     if e.is_server {
         match &e.last {
             None => Ok(Text::new()),
@@ -210,7 +244,7 @@ pub fn next_at<L: Ledger>(entries: &Entries, now: u64, steps: &mut Steps<L>) -> 
 {
     match entries.next_of(now, steps) {
         None => None,
-        Some(found) => Some((found.at, found.of.step)),
+        Some(found) => Some((found.at, armed_by(found.of).0)),
     }
 }
 

@@ -4,12 +4,12 @@ ghost use Rattle.std.specs.Prelude.{OnOk, OnErr, IfOk, IfErr, IsTrue, length, re
 ghost use Rattle.std.specs.List.{find, list_any};
 ghost use Rattle.mmtel_timers.specs.Shelves.{Has, IsIndex, Rises, unboxed};
 ghost use Rattle.mmtel_transaction.specs.declared.entries.Entry.{Entry};
-ghost use Rattle.mmtel_transaction.specs.Changes.{acked_2xx, hit};
+ghost use Rattle.mmtel_transaction.specs.Changes.{acked_2xx, hit, with_answer};
 ghost use Rattle.mmtel_transaction.specs.Answers.{by_key, clients, is_client_named, is_full, is_of, is_other, is_server_named, next_due, servers};
 ghost use Rattle.mmtel_transaction.specs.Table.{found_of, made, now_of, settle};
 ghost use Rattle.mmtel_transaction.specs.Indexes.{ack_mark, call_name, due_first, IsPlaceOf, mark_name, name_cmp, TellsOfTwin, waiting, waits_cmp};
 
-use crate::entries::{Change, Entry, ack_2xx_entry, change_entry};
+use crate::entries::{Change, Entry, ReliableAnswer, ack_2xx_entry, add_answer, change_entry};
 use crate::heads::Head;
 use crate::names::{Name, NameMark, Waits, key_if, waits_of};
 use crate::shelving::{
@@ -316,6 +316,37 @@ impl Tables {
                 take_waits(&mut self.due, &before, steps);
                 take_name(&mut self.clients, &client_mark(entry), steps);
                 let_go(&mut self.entries, place);
+            }
+        }
+    }
+
+    /// The server transaction of a key offers a reliable answer, which waits for its PRACK.
+    ///
+    /// # Errors
+    ///
+    /// Want of memory alone; the transactions are then as before.
+    pub fn add_answer<L: Ledger>(
+        &mut self,
+        alloc: Global,
+        key: u64,
+        answer: ReliableAnswer,
+        steps: &mut Steps<L>,
+    ) -> Result<(), NoMemory>
+        ensures ok { OnOk result (self.new ≡ map (hit key (with_answer answer)) self.old) }
+        ensures err { OnErr result (self.new ≡ self.old) }
+    {
+        match search(&self.entries, key) {
+            Err(_) => {
+                drop(answer);
+                Ok(())
+            }
+            Ok(place) => {
+                let entry = &mut *self.entries[place];
+                let before = waits_of(entry);
+                add_answer(alloc, entry, answer)?;
+                let after = waits_of(entry);
+                rearm(&mut self.due, &before, after, steps);
+                Ok(())
             }
         }
     }

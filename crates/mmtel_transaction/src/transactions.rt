@@ -1,17 +1,18 @@
 //! The transactions.
-ghost use Rattle.std.specs.Prelude.{◌≡◌, [], ◌∷◌, ◌+◌, ◌-◌, ◌*◌, ◌^◌, ◌≤◌, ◌<◌, IfErr, IfOk, List, length, OnErr, OnOk, option_map, Some};
+ghost use Rattle.std.specs.Prelude.{◌≡◌, [], ◌∷◌, ◌+◌, ◌-◌, ◌*◌, ◌^◌, ◌≤◌, ◌<◌, IfErr, IfOk, List, length, map, OnErr, OnOk, option_map, Some};
 ghost use Rattle.std.specs.List.{find};
 ghost use Rattle.mmtel_message.specs.Texts.{message_text};
 ghost use Rattle.mmtel_transaction.specs.Heads.{head_of};
-ghost use Rattle.mmtel_transaction.specs.Calls.{DidAck, DidAsk, DidBegin, DidReply, Done, live, opened};
+ghost use Rattle.mmtel_transaction.specs.Calls.{DidAck, DidAsk, DidBegin, DidReply, DidSettle, Done, live, opened};
 ghost use Rattle.mmtel_transaction.specs.Answers.{clients, fires, hear_says, hears, is_client_named, is_merged, is_server_named, key_of, next_due, part_of, peer_of};
 ghost use Rattle.mmtel_transaction.specs.Answers.{says_due, says_opened, servers, tkey, upcoming_of};
 ghost use Rattle.mmtel_transaction.specs.Stands.{Does, HasRoom, IsRefusal, MayOpen, Stands, Stays};
+ghost use Rattle.mmtel_transaction.specs.Changes.{answer_of, hit, with_answers};
 ghost use Rattle.mmtel_transaction.specs.Table.{HearsAs};
 ghost use Rattle.mmtel_transaction.specs.declared.parts.Part.TheVariants.{Acked, AckOf2xx, Answer, Fresh, Repeat, Same, Stray};
 
-use crate::entries::{Change, asked_entry, heard_entry, reply_change};
-use crate::heads::{Head, status_and_tag};
+use crate::entries::{Change, ReliableAnswer, asked_entry, heard_entry, reply_change};
+use crate::heads::{Head, reliable_number, status_and_tag};
 use crate::parts::Part;
 use crate::table::{
     Entries, cancelled_key, give_key, next_at, peer_at, same_key, say_due, take_part, twin_of,
@@ -103,7 +104,48 @@ impl Transactions {
         Ok(TKey(key))
     }
 
-    /// An answer is offered in a live server transaction without a final answer; in any other nothing changes.
+    /// The reliable answer that an answer is, which waits for its PRACK (RFC 3262 §3); None of any other one.
+    fn reliable_answer(
+        &self,
+        alloc: Global,
+        m: &Msg,
+        text: &Text,
+        now: u64,
+    ) -> Result<Option<ReliableAnswer>, NoMemory>
+        ensures { IfOk result (λ answer. answer ≡ answer_of self.now.step self.now.offers m.now text.now now) }
+    {
+        match reliable_number(m) {
+            None => Ok(None),
+            Some(own) => Ok(Some(ReliableAnswer {
+                own,
+                text: text.copied(alloc)?,
+                start: now,
+                shots: 0,
+                step: self.step,
+                order: self.offers,
+            })),
+        }
+    }
+
+    /// The transaction of a key offers this reliable answer, or none.
+    fn add_answer<L: Ledger>(
+        &mut self,
+        alloc: Global,
+        key: u64,
+        answer: Option<ReliableAnswer>,
+        steps: &mut Steps<L>,
+    ) -> Result<(), NoMemory>
+        ensures ok { OnOk result (self.new ≡ record self.old { entries = map (hit key (with_answers answer)) self.old.entries }) }
+        ensures err { OnErr result (self.new ≡ self.old) }
+    {
+        match answer {
+            None => Ok(()),
+            Some(answer) => self.entries.add_answer(alloc, key, answer, steps),
+        }
+    }
+
+    /// An answer is offered in a live server transaction without a final answer; in any other nothing changes. A reliable provisional answer, which has a number by its RSeq
+    /// line, is sent again until it is settled, or a final answer is offered (RFC 3262 §3).
     ///
     /// # Errors
     ///
@@ -123,6 +165,8 @@ impl Transactions {
         let said = status_and_tag(alloc, m)?;
         let text = m.text(alloc)?;
         let kept = text.copied(alloc)?;
+        let answer = self.reliable_answer(alloc, m, &text, now.ms())?;
+        self.add_answer(alloc, key.0, answer, steps)?;
         let change = reply_change(self.step, self.offers, said, kept, now.ms());
         self.entries.settle(key.0, change, steps);
         self.offers = self.offers.saturating_add(1);
@@ -151,6 +195,14 @@ impl Transactions {
         self.entries.settle(key.0, Change::Keep(kept), steps);
         self.offered = text;
         Ok(())
+    }
+
+    /// The reliable answer of this number to the server transaction of a key, or each of them, is sent no more (RFC 3262 §3). Nothing changes where there is none. It takes no
+    /// memory.
+    pub fn settle<L: Ledger>(&mut self, k: TKey, own: Option<u32>, steps: &mut Steps<L>)
+        ensures done { (h : List Done) → Stands self.old h → Stands self.new (DidSettle k.0 own ∷ h) }
+    {
+        self.entries.settle(k.0, Change::Settle(own), steps);
     }
 
     /// Hears a message: says which transaction it opens or belongs to, and what is sent again because of it.

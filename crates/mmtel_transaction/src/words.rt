@@ -61,6 +61,11 @@ pub enum Emit {
         key: TKey,
         msg: Msg,
     },
+    /// The reliable provisional answer of this number to a server transaction, or each of them, is sent no more (RFC 3262 §3).
+    Settled {
+        key: TKey,
+        own: Option<u32>,
+    },
     /// A deadline of a call is armed, for a moment in milliseconds since 1970-01-01T00:00:00Z.
     Arm {
         call: CallNo,

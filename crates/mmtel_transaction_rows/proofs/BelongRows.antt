@@ -7,6 +7,7 @@ use Rattle.mmtel_transaction.specs.Calls.{DidAsk}
 use Rattle.mmtel_transaction.specs.declared.words.Heard.TheVariants as heard
 use Rattle.mmtel_transaction_rows.specs.CallMessages.{Messages, accepted, asked_invite, heard_invite, peer, refused}
 use Rattle.mmtel_transaction_rows.specs.BelongRows.{RequestsBelong, ResponsesBelong}
+use Rattle.mmtel_transaction_rows.proofs.CallPlain.{plain_busy, plain_success}
 
 requests_cancel : (c : Messages) → belongs (heard_invite c) c.cancel ≡ Some (tkey 0)
 requests_cancel c = rw (c.of_cancel, c.of_invite) refl
@@ -21,22 +22,22 @@ requests_early_ack : (c : Messages) → belongs (heard_invite c) c.ack ≡ None
 requests_early_ack c = rw (c.of_ack, c.of_invite) refl
 
 requests_ack : (c : Messages) → belongs (refused c) c.ack ≡ Some (tkey 0)
-requests_ack c = rw (c.of_ack, c.of_invite, c.of_busy) refl
+requests_ack c = rw (plain_busy c, c.of_ack, c.of_invite, c.of_busy) refl
 
 requests_ack_says : (c : Messages) → hear_says (refused c) (peer 1) c.ack ≡ Some (heard.Acked (tkey 0))
-requests_ack_says c = rw (c.of_ack, c.of_invite, c.of_busy) refl
+requests_ack_says c = rw (plain_busy c, c.of_ack, c.of_invite, c.of_busy) refl
 
 requests_ack_2xx : (c : Messages) → belongs (accepted c) c.ack ≡ None
-requests_ack_2xx c = rw (c.of_ack, c.of_invite, c.of_success) refl
+requests_ack_2xx c = rw (plain_success c, c.of_ack, c.of_invite, c.of_success) refl
 
 requests_ack_2xx_says : (c : Messages) → hear_says (accepted c) (peer 1) c.ack ≡ Some (heard.AckOf2xx c.ack)
-requests_ack_2xx_says c = rw (c.of_ack, c.of_invite, c.of_success) refl
+requests_ack_2xx_says c = rw (plain_success c, c.of_ack, c.of_invite, c.of_success) refl
 
 requests_bye : (c : Messages) → belongs (accepted c) c.bye ≡ None
-requests_bye c = rw (c.of_bye, c.of_invite, c.of_success) refl
+requests_bye c = rw (plain_success c, c.of_bye, c.of_invite, c.of_success) refl
 
 requests_bye_says : (c : Messages) → hear_says (accepted c) (peer 1) c.bye ≡ Some (heard.Fresh (tkey 1) c.bye)
-requests_bye_says c = rw (c.of_bye, c.of_invite, c.of_success, c.of_bye) refl
+requests_bye_says c = rw (plain_success c, c.of_bye, c.of_invite, c.of_success, c.of_bye) refl
 
 pub requests : RequestsBelong
 requests = record { cancel = requests_cancel; cancel_says = requests_cancel_says; lone_cancel = requests_lone_cancel; early_ack = requests_early_ack; ack = requests_ack; ack_says = requests_ack_says; ack_2xx = requests_ack_2xx; ack_2xx_says = requests_ack_2xx_says; bye = requests_bye; bye_says = requests_bye_says }

@@ -10,6 +10,7 @@ use Rattle.mmtel_transaction.specs.declared.words.Due.TheVariants as due
 use Rattle.mmtel_transaction.specs.declared.words.Heard.TheVariants as heard
 use Rattle.mmtel_transaction_rows.specs.CallMessages.{Messages, asked_invite, peer, refused}
 use Rattle.mmtel_transaction.specs.declared.entries.Entry.{Entry}
+use Rattle.mmtel_transaction_rows.proofs.CallPlain.{plain_busy}
 use Rattle.mmtel_transaction_rows.specs.PeerRows.{PeersRow, TextsRow, passed_on, trusts_none, trusts_two}
 
 -- the request of the first transaction
@@ -45,16 +46,16 @@ peers_unopened : (c : Messages) → peer_of 2 (live (passed_on c)) ≡ None
 peers_unopened c = refl
 
 peers_kept : (c : Messages) → peer_of 0 (live (refused c)) ≡ Some (peer 1)
-peers_kept c = rw c.of_busy refl
+peers_kept c = rw (plain_busy c, c.of_busy) refl
 
 peers_again : (c : Messages) → hear_says (refused c) (peer 1) c.invite ≡ Some (heard.Repeat (Some (peer 1, message_text c.busy)))
-peers_again c = rw (c.of_invite, c.of_busy) refl
+peers_again c = rw (plain_busy c, c.of_invite, c.of_busy) refl
 
 peers_stranger : (c : Messages) → hear_says (refused c) (peer 3) c.invite ≡ Some (heard.Repeat None)
-peers_stranger c = rw (c.of_invite, c.of_busy) refl
+peers_stranger c = rw (plain_busy c, c.of_invite, c.of_busy) refl
 
 peers_ended : (c : Messages) → peer_of 0 (live (DidFire 0 ∷ DidHear (peer 1) c.ack 400 (part.Acked 0) ∷ refused c)) ≡ None
-peers_ended c = rw c.of_busy refl
+peers_ended c = rw (plain_busy c, c.of_busy) refl
 
 pub peers : PeersRow
 peers = record { caller = peers_caller; callee = peers_callee; unopened = peers_unopened; kept = peers_kept; again = peers_again; stranger = peers_stranger; ended = peers_ended }

@@ -1,6 +1,6 @@
 -- They compute, once the heads are put in.
-use Rattle.std.proofs.Common.{◌≡◌, ℕ, zero, suc, List, [], ◌∷◌, drop, true, false, append-nil, codes, refl, ap, ◌∙◌}
-use Rattle.std.specs.Prelude.{Some, None}
+use Rattle.std.proofs.Common.{◌≡◌, ℕ, zero, suc, List, [], ◌∷◌, drop, true, false, ◌&&◌, append-nil, codes, refl, ap, ◌∙◌}
+use Rattle.std.specs.Prelude.{Some, None, nat_le, nat_lt}
 use Rattle.mmtel_types.specs.declared.numbers.Peer.{Peer}
 use Rattle.mmtel_message.specs.Message.{Message}
 use Rattle.mmtel_message.specs.Texts.{message_text}
@@ -8,7 +8,7 @@ use Rattle.mmtel_message.specs.declared.messages.Start.{Start}
 use Rattle.mmtel_transaction.specs.Answers.{Next, hear_says, next_due, says_due, tkey}
 use Rattle.mmtel_transaction.specs.Calls.{Done, DidAck, DidAsk, DidFire, DidHear, DidReply, entry_of, live, opened}
 use Rattle.mmtel_transaction.specs.Changes.{acked, asked_first, heard_first, hit, replied}
-use Rattle.mmtel_transaction.specs.Heads.{head_of}
+use Rattle.mmtel_transaction.specs.Heads.{head_of, reliable_number}
 use Rattle.mmtel_transaction.specs.Laws.{said_in_turn, sent_again}
 use Rattle.mmtel_transaction.specs.declared.entries.Entry.{Entry}
 use Rattle.mmtel_transaction.specs.declared.heads.Head.{Head}
@@ -16,7 +16,7 @@ use Rattle.mmtel_transaction.specs.declared.parts.Part.TheVariants as part
 use Rattle.mmtel_transaction.specs.declared.words.Due.TheVariants as due
 use Rattle.mmtel_transaction.specs.declared.words.Heard.TheVariants as heard
 use Rattle.mmtel_transaction_rows.specs.Rows.{EndsAfterTheAck, RepeatedInvite, SecondSilence, Silence, peer}
-use Rattle.mmtel_transaction_rows.proofs.Stages.{again, fires_one, fresh, front, last_turn, next, replies, turn}
+use Rattle.mmtel_transaction_rows.proofs.Stages.{again, fires_one, fresh, front, last_turn, next, not_numbered, replies, turn}
 use Rattle.mmtel_transaction_rows.proofs.WorkedHeads.{Worked, known, worked}
 
 -- ---- silence
@@ -154,14 +154,17 @@ module _ (c : Worked) where
   abbrev with_ack : Entry
   with_ack = hit 0 (acked 0 400) with_busy
 
+  plain : (m : Message Start) (status : ℕ) → head_of m ≡ known false status (codes "a") → (nat_le 101 status && nat_lt status 200) ≡ false → reliable_number m ≡ None
+  plain m status is out = not_numbered m (known false status (codes "a")) is out
+
   is_tried : entry_of rings_2 opening ≡ tried
   is_tried =
       next (DidHear (peer 2) c.peer_rings 100 (part.Answer 1)) asked_2 opening tried tried refl
       (next (DidAsk (peer 2) c.second 0) (DidReply 0 c.trying 0 ∷ heard_1) opening tried tried refl
-      (next (DidReply 0 c.trying 0) heard_1 opening opening tried refl refl (replies 0 c.trying 0 0 0 opening (known false 100 (codes "a")) c.of_trying)) refl) refl
+      (next (DidReply 0 c.trying 0) heard_1 opening opening tried refl refl (replies 0 c.trying 0 0 0 opening (known false 100 (codes "a")) (plain c.trying 100 c.of_trying refl) c.of_trying)) refl) refl
 
   is_rung : entry_of ringing opening ≡ rung
-  is_rung = next (DidReply 0 c.rings 100) rings_2 opening tried rung refl is_tried (replies 0 c.rings 100 0 2 tried (known false 180 (codes "a")) c.of_rings)
+  is_rung = next (DidReply 0 c.rings 100) rings_2 opening tried rung refl is_tried (replies 0 c.rings 100 0 2 tried (known false 180 (codes "a")) c.plain_rings c.of_rings)
 
   is_rung_still : entry_of acked_2 opening ≡ rung
   is_rung_still =
@@ -170,7 +173,7 @@ module _ (c : Worked) where
       (next (DidHear (peer 1) c.first 200 (part.Repeat 0)) ringing opening rung rung refl is_rung refl) refl) refl
 
   is_busy : entry_of refused opening ≡ with_busy
-  is_busy = next (DidReply 0 c.busy 300) acked_2 opening rung with_busy refl is_rung_still (replies 0 c.busy 300 0 3 rung (known false 486 (codes "a")) c.of_busy)
+  is_busy = next (DidReply 0 c.busy 300) acked_2 opening rung with_busy refl is_rung_still (replies 0 c.busy 300 0 3 rung (known false 486 (codes "a")) (plain c.busy 486 c.of_busy refl) c.of_busy)
 
   is_acked : entry_of acknowledged opening ≡ with_ack
   is_acked =
@@ -209,7 +212,7 @@ module _ (c : Worked) where
   is_first_acked : entry_of callers_side opening ≡ first_acked
   is_first_acked =
       next (DidHear (peer 1) c.ack 400 (part.Acked 0)) callers_busy opening first_busy first_acked refl
-      (next (DidReply 0 c.busy 300) heard_1 opening opening first_busy refl refl (replies 0 c.busy 300 0 0 opening (known false 486 (codes "a")) c.of_busy)) refl
+      (next (DidReply 0 c.busy 300) heard_1 opening opening first_busy refl refl (replies 0 c.busy 300 0 0 opening (known false 486 (codes "a")) (plain c.busy 486 c.of_busy refl) c.of_busy)) refl
 
   callers_live : live callers_side ≡ first_acked ∷ []
   callers_live = front callers_side opening first_acked [] (opened_as []) is_first_acked

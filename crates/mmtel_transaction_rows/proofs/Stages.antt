@@ -1,15 +1,19 @@
 -- Transactions from call to call, and what is said of one, each head put in where its message comes.
-use Rattle.std.proofs.Common.{◌≡◌, ◌∙◌, ℕ, suc, Bool, true, cond, List, [], ◌∷◌, length, map, refl, ap}
-use Rattle.std.specs.Prelude.{Option, Some, filter, nat_lt, option_map}
+use Rattle.std.proofs.Common.{◌≡◌, ◌∙◌, ℕ, suc, Bool, true, false, ◌&&◌, cond, List, [], ◌∷◌, length, map, None, refl, sym, ap, codes}
+use Rattle.std.specs.Prelude.{Option, Some, filter, nat_le, nat_lt, option_map}
 use Rattle.std.specs.List.{find}
+use Rattle.mmtel_scan.specs.Chain.{◌>>=◌}
+use Rattle.mmtel_scan.specs.Numbers.{number_of}
 use Rattle.mmtel_types.specs.declared.numbers.Peer.{Peer}
-use Rattle.mmtel_message.specs.Message.{Message}
+use Rattle.mmtel_message.specs.Fields.{five_at}
+use Rattle.mmtel_message.specs.Message.{Message, first_value}
 use Rattle.mmtel_message.specs.Texts.{message_text}
+use Rattle.mmtel_message.specs.declared.fields.Five.{Five}
 use Rattle.mmtel_message.specs.declared.messages.Start.{Start}
 use Rattle.mmtel_transaction.specs.Answers.{Next, by_key, fires, gives_again, hear_says, is_invite_of, key_of, next_due, part_of, says, says_due, says_opened, then_gives}
 use Rattle.mmtel_transaction.specs.Calls.{Done, DidFire, DidHear, DidReply, change, entry_of, is_live, live, offers, opened, step_of}
 use Rattle.mmtel_transaction.specs.Changes.{answered, fired, hit, replied}
-use Rattle.mmtel_transaction.specs.Heads.{head_of, is_cancel}
+use Rattle.mmtel_transaction.specs.Heads.{code_of, head_of, head_with, is_cancel, reliable_number}
 use Rattle.mmtel_transaction.specs.Laws.{said_in_turn}
 use Rattle.mmtel_transaction.specs.declared.entries.Entry.{Entry}
 use Rattle.mmtel_transaction.specs.declared.heads.Head.{Head}
@@ -23,9 +27,21 @@ pub next : (c : Done) (h : List Done) (opening e x : Entry) → nat_lt opening.k
 next c h opening e x later is to =
     ap (λ (b : Bool). cond b (change (step_of h) (offers h) c (entry_of h opening)) opening) later ∙ (ap (change (step_of h) (offers h) c) is ∙ to)
 
-pub replies : (key : ℕ) (m : Message Start) (now step order : ℕ) (e : Entry) (head : Head) → head_of m ≡ head
+-- a message of such a head is no reliable provisional answer
+status_of : (start : Start) (o : Option Five) → (head_with start o).status ≡ code_of start
+status_of start None = refl
+status_of start (Some five) = refl
+
+pub not_numbered : (m : Message Start) (head : Head) → head_of m ≡ head → (nat_le 101 head.status && nat_lt head.status 200) ≡ false → reliable_number m ≡ None
+unfolding head_of reliable_number
+not_numbered m head is out =
+    let code : code_of m.start ≡ head.status = sym (status_of m.start (five_at m.lines)) ∙ ap (λ (x : Head). x.status) is in
+    ap (λ (n : ℕ). cond (nat_le 101 n && nat_lt n 200) (first_value (codes "RSeq") m.lines >>= number_of 2147483647) None) code
+    ∙ ap (λ (b : Bool). cond b (first_value (codes "RSeq") m.lines >>= number_of 2147483647) None) out
+
+pub replies : (key : ℕ) (m : Message Start) (now step order : ℕ) (e : Entry) (head : Head) → reliable_number m ≡ None → head_of m ≡ head
     → change step order (DidReply key m now) e ≡ hit key (replied step order head.status (message_text m) head.to_tag now) e
-replies key m now step order e head is = ap (λ (x : Head). hit key (replied step order x.status (message_text m) x.to_tag now) e) is
+replies key m now step order e head plain is = rw plain (ap (λ (x : Head). hit key (replied step order x.status (message_text m) x.to_tag now) e) is)
 
 pub answers : (p : Peer) (key : ℕ) (m : Message Start) (now step order : ℕ) (e : Entry) (head : Head) → head_of m ≡ head
     → change step order (DidHear p m now (part.Answer key)) e ≡ hit key (answered step head.status now) e

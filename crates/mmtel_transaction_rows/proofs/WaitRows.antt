@@ -1,18 +1,20 @@
 -- They compute, once the heads are put in.
 use Rattle.std.proofs.Common.{◌≡◌, ◌∙◌, ℕ, true, List, [], ◌∷◌, refl, ap, codes}
-use Rattle.std.specs.Prelude.{Some, filter}
+use Rattle.std.specs.Prelude.{None, Some, filter}
 use Rattle.mmtel_message.specs.Texts.{message_text}
 use Rattle.mmtel_transaction.specs.Answers.{hear_says, next_due, says_due, tkey}
-use Rattle.mmtel_transaction.specs.Calls.{Done, DidAck, DidFire, DidHear, DidReply, entry_of, is_live, live, opened}
+use Rattle.mmtel_transaction.specs.Calls.{Done, DidAck, DidFire, DidHear, DidReply, DidSettle, entry_of, is_live, live, opened}
 use Rattle.mmtel_transaction.specs.Changes.{acked, acked_2xx, answered, asked_first, heard_first, hit, replied}
-use Rattle.mmtel_transaction.specs.Heads.{head_of}
+use Rattle.mmtel_transaction.specs.Heads.{head_of, reliable_number}
 use Rattle.mmtel_transaction.specs.declared.entries.Entry.{Entry}
+use Rattle.mmtel_transaction.specs.declared.entries.ReliableAnswer.{ReliableAnswer}
 use Rattle.mmtel_transaction.specs.declared.heads.Head.{Head}
 use Rattle.mmtel_transaction.specs.declared.parts.Part.TheVariants as part
 use Rattle.mmtel_transaction.specs.declared.words.Due.TheVariants as due
 use Rattle.mmtel_transaction.specs.declared.words.Heard.TheVariants as heard
 use Rattle.mmtel_transaction_rows.specs.CallMessages.{Messages, accepted, asked_invite, heard_invite, peer, refused, request, response}
-use Rattle.mmtel_transaction_rows.specs.WaitRows.{AcksHeardAndKept, FinalAwaitsAck, InviteAmongOthers, among, both, busy_again, fired_times, invite_again, said}
+use Rattle.mmtel_transaction_rows.specs.WaitRows.{AcksHeardAndKept, AnswerAwaitsPrack, FinalAwaitsAck, InviteAmongOthers, among, both, busy_again, fired_times, invite_again, ringing_again, rings_reliably, said}
+use Rattle.mmtel_transaction_rows.proofs.CallPlain.{plain_busy, plain_success}
 use Rattle.mmtel_transaction_rows.proofs.Stages.{answers, fires_one, front, next, pair, replies}
 
 said_of : (h : List Done) (es : List Entry) → live h ≡ es → said h ≡ says_due (next_due 40000 es)
@@ -143,7 +145,7 @@ module _ (c : Messages) where
 
   final_0 : entry_of (refused c) opening ≡ final 0
   final_0 = next (DidReply 0 c.busy 300) (heard_invite c) opening opening (final 0) refl refl
-      (replies 0 c.busy 300 0 0 opening (response 486 (codes "INVITE") (codes "i")) c.of_busy)
+      (replies 0 c.busy 300 0 0 opening (response 486 (codes "INVITE") (codes "i")) (plain_busy c) c.of_busy)
 
   final_1 : entry_of (fired_times 1 (refused c)) opening ≡ final 1
   final_1 = fires_one (fired_times 0 (refused c)) opening (final 0) refl final_0
@@ -208,7 +210,7 @@ module _ (c : Messages) where
 
   is_success : entry_of (accepted c) opening ≡ success
   is_success = next (DidReply 0 c.success 300) (heard_invite c) opening opening success refl refl
-      (replies 0 c.success 300 0 0 opening (response 200 (codes "INVITE") (codes "i")) c.of_success)
+      (replies 0 c.success 300 0 0 opening (response 200 (codes "INVITE") (codes "i")) (plain_success c) c.of_success)
 
   acks_success : said (accepted c) ≡ due.Again (peer 1) 800 (message_text c.success)
   acks_success = final_said (accepted c) success heard_opens_it is_success
@@ -223,6 +225,49 @@ module _ (c : Messages) where
   acks_kept : hear_says (DidAck 0 c.ack ∷ DidHear (peer 2) c.busy 300 (part.Answer 0) ∷ asked_invite c) (peer 2) c.busy ≡ Some (heard.Repeat (Some (peer 2, message_text c.ack)))
   acks_kept = rw (c.of_busy, c.of_invite) refl
 
+  -- ---- a reliable answer
+
+  abbrev answer : ℕ → ReliableAnswer
+  answer k = record { own = 1; text = message_text c.ringing; start = 100; shots = k; step = 0; order = 0 }
+
+  abbrev numbered : List ReliableAnswer → Entry
+  numbered answers = record opening { last = Some (message_text c.ringing); reliable = answers }
+
+  module _ (is_first : reliable_number c.ringing ≡ Some 1) where
+    is_numbered : entry_of (rings_reliably c) opening ≡ numbered (answer 0 ∷ [])
+    is_numbered = next (DidReply 0 c.ringing 100) (heard_invite c) opening opening (numbered (answer 0 ∷ [])) refl refl (rw (is_first, c.of_ringing) refl)
+
+    answers_first : said (rings_reliably c) ≡ ringing_again c 600
+    answers_first = final_said (rings_reliably c) (numbered (answer 0 ∷ [])) heard_opens_it is_numbered
+
+    answers_second : said (DidFire 0 ∷ rings_reliably c) ≡ ringing_again c 1600
+    answers_second = final_said (DidFire 0 ∷ rings_reliably c) (numbered (answer 1 ∷ [])) heard_opens_it (fires_one (rings_reliably c) opening (numbered (answer 0 ∷ [])) refl is_numbered)
+
+    answers_settled : said (DidSettle 0 (Some 1) ∷ rings_reliably c) ≡ due.Nothing
+    answers_settled = final_said (DidSettle 0 (Some 1) ∷ rings_reliably c) (numbered []) heard_opens_it
+        (next (DidSettle 0 (Some 1)) (rings_reliably c) opening (numbered (answer 0 ∷ [])) (numbered []) refl is_numbered refl)
+
+    answers_other : said (DidSettle 0 (Some 2) ∷ rings_reliably c) ≡ ringing_again c 600
+    answers_other = final_said (DidSettle 0 (Some 2) ∷ rings_reliably c) (numbered (answer 0 ∷ [])) heard_opens_it
+        (next (DidSettle 0 (Some 2)) (rings_reliably c) opening (numbered (answer 0 ∷ [])) (numbered (answer 0 ∷ [])) refl is_numbered refl)
+
+    answers_all : said (DidSettle 0 None ∷ rings_reliably c) ≡ due.Nothing
+    answers_all = final_said (DidSettle 0 None ∷ rings_reliably c) (numbered []) heard_opens_it
+        (next (DidSettle 0 None) (rings_reliably c) opening (numbered (answer 0 ∷ [])) (numbered []) refl is_numbered refl)
+
+    abbrev busy_after : Entry
+    busy_after = hit 0 (replied 0 1 486 (message_text c.busy) (codes "t") 300) (numbered (answer 0 ∷ []))
+
+    answers_final : said (DidReply 0 c.busy 300 ∷ rings_reliably c) ≡ busy_again c 800
+    answers_final = final_said (DidReply 0 c.busy 300 ∷ rings_reliably c) busy_after heard_opens_it
+        (next (DidReply 0 c.busy 300) (rings_reliably c) opening (numbered (answer 0 ∷ [])) busy_after refl is_numbered
+        (replies 0 c.busy 300 0 1 (numbered (answer 0 ∷ [])) (response 486 (codes "INVITE") (codes "i")) (plain_busy c) c.of_busy))
+
+  answers_plain : reliable_number c.ringing ≡ None → said (rings_reliably c) ≡ due.Nothing
+  answers_plain none = final_said (rings_reliably c) (numbered []) heard_opens_it
+      (next (DidReply 0 c.ringing 100) (heard_invite c) opening opening (numbered []) refl refl
+      (replies 0 c.ringing 100 0 0 opening (response 180 (codes "INVITE") (codes "i")) none c.of_ringing))
+
 pub requests : InviteAmongOthers
 requests = record { first = requests_first; other = requests_other; second = requests_second; third = requests_third; last = requests_last; given_up = requests_given_up; nothing = requests_nothing; rings = requests_rings }
 
@@ -231,3 +276,6 @@ finals = record { first = finals_first; second = finals_second; last = finals_la
 
 pub acks : AcksHeardAndKept
 acks = record { success = acks_success; acked = acks_acked; kept = acks_kept }
+
+pub reliable : AnswerAwaitsPrack
+reliable = record { first = answers_first; second = answers_second; settled = answers_settled; other = answers_other; all = answers_all; final = answers_final; plain = answers_plain }

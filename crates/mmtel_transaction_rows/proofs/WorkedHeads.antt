@@ -16,7 +16,7 @@ use Rattle.mmtel_message.specs.declared.fields.Via.{Via}
 use Rattle.mmtel_message.specs.declared.messages.Start.{Start}
 use Rattle.mmtel_message.specs.declared.messages.Start.TheVariants.{Status}
 use Rattle.mmtel_message.specs.declared.values.Mode.TheVariants.{Plain}
-use Rattle.mmtel_transaction.specs.Heads.{head_of, head_with}
+use Rattle.mmtel_transaction.specs.Heads.{head_of, head_with, reliable_number}
 use Rattle.mmtel_transaction.specs.declared.heads.Head.{Head}
 use Rattle.mmtel_transaction_rows.specs.Rows.{first_invite, request, response, second_invite, worded}
 use Rattle.mmtel_transaction_rows.proofs.HeadRows.{one_part}
@@ -106,6 +106,10 @@ second_known = by_five second_invite (five (codes "b")) five_b
 pub answer_a : (status : ℕ) → head_of (response status (codes "a")) ≡ known false status (codes "a")
 answer_a status = by_five (response status (codes "a")) (five (codes "a")) five_a
 
+pub plain_180 : reliable_number (response 180 (codes "a")) ≡ None
+unfolding reliable_number
+plain_180 = refl
+
 -- messages of these heads, whatever else they say; of some the heads do not matter
 pub record Worked : Type 0 where
   pub first : Message Start
@@ -116,6 +120,7 @@ pub record Worked : Type 0 where
   pub of_trying : head_of trying ≡ known false 100 (codes "a")
   pub rings : Message Start
   pub of_rings : head_of rings ≡ known false 180 (codes "a")
+  pub plain_rings : reliable_number rings ≡ None
   pub busy : Message Start
   pub of_busy : head_of busy ≡ known false 486 (codes "a")
   pub peer_rings : Message Start
@@ -133,6 +138,7 @@ worked = record {
   of_trying = answer_a 100;
   rings = response 180 (codes "a");
   of_rings = answer_a 180;
+  plain_rings = plain_180;
   busy = response 486 (codes "a");
   of_busy = answer_a 486;
   peer_rings = response 180 (codes "b");

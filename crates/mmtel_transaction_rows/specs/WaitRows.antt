@@ -1,13 +1,14 @@
--- Requests and finals that wait, among other calls (RFC 3261 §13.3.1.4, §17.1.1.2, §17.1.1.3, §17.2.1): T1 is 500 ms, T2 is 4,000 ms.
-use Rattle.std.specs.Prelude.{◌≡◌, ℕ, zero, suc, List, ◌∷◌, codes, Some}
+-- Requests and finals that wait, among other calls (RFC 3261 §13.3.1.4, §17.1.1.2, §17.1.1.3, §17.2.1; RFC 3262 §3): T1 is 500 ms, T2 is 4,000 ms.
+use Rattle.std.specs.Prelude.{◌≡◌, ℕ, zero, suc, List, ◌∷◌, codes, Some, None}
 use Rattle.mmtel_message.specs.Texts.{message_text}
 use Rattle.mmtel_transaction.specs.Answers.{hear_says, next_due, says_due, tkey}
-use Rattle.mmtel_transaction.specs.Calls.{Done, DidAck, DidAsk, DidFire, DidHear, live}
+use Rattle.mmtel_transaction.specs.Calls.{Done, DidAck, DidAsk, DidFire, DidHear, DidReply, DidSettle, live}
+use Rattle.mmtel_transaction.specs.Heads.{reliable_number}
 use Rattle.mmtel_transaction.specs.declared.parts.Part.TheVariants as part
 use Rattle.mmtel_transaction.specs.declared.words.Due.{Due}
 use Rattle.mmtel_transaction.specs.declared.words.Due.TheVariants as due
 use Rattle.mmtel_transaction.specs.declared.words.Heard.TheVariants as heard
-use Rattle.mmtel_transaction_rows.specs.CallMessages.{Messages, accepted, asked_invite, peer, refused}
+use Rattle.mmtel_transaction_rows.specs.CallMessages.{Messages, accepted, asked_invite, heard_invite, peer, refused}
 
 -- what the first deadline says that is not past 40,000
 abbrev pub said : List Done → Due
@@ -59,3 +60,24 @@ pub record AcksHeardAndKept : Type 0 where
   pub acked : (c : Messages) → said (DidHear (peer 1) c.ack_2xx 1000 part.AckOf2xx ∷ accepted c) ≡ due.Over (tkey 0) 32300
   pub kept : (c : Messages) → hear_says (DidAck 0 c.ack ∷ DidHear (peer 2) c.busy 300 (part.Answer 0) ∷ asked_invite c) (peer 2) c.busy
       ≡ Some (heard.Repeat (Some (peer 2, message_text c.ack)))
+
+-- the 180 is offered at 100 as the reliable answer 1 (RFC 3262 §3)
+abbrev pub rings_reliably : Messages → List Done
+rings_reliably c = DidReply 0 c.ringing 100 ∷ heard_invite c
+
+abbrev pub IsFirst : Messages → Type 0
+IsFirst c = reliable_number c.ringing ≡ Some 1
+
+abbrev pub ringing_again : Messages → ℕ → Due
+ringing_again c at = due.Again (peer 1) at (message_text c.ringing)
+
+-- it goes by the moments of an INVITE until it is settled, and another one's being settled leaves it alone; after a final the final alone is sent again
+pub record AnswerAwaitsPrack : Type 0 where
+  pub first : (c : Messages) → IsFirst c → said (rings_reliably c) ≡ ringing_again c 600
+  pub second : (c : Messages) → IsFirst c → said (DidFire 0 ∷ rings_reliably c) ≡ ringing_again c 1600
+  pub settled : (c : Messages) → IsFirst c → said (DidSettle 0 (Some 1) ∷ rings_reliably c) ≡ due.Nothing
+  pub other : (c : Messages) → IsFirst c → said (DidSettle 0 (Some 2) ∷ rings_reliably c) ≡ ringing_again c 600
+  pub all : (c : Messages) → IsFirst c → said (DidSettle 0 None ∷ rings_reliably c) ≡ due.Nothing
+  pub final : (c : Messages) → IsFirst c → said (DidReply 0 c.busy 300 ∷ rings_reliably c) ≡ busy_again c 800
+  -- one that is not reliable is not sent again
+  pub plain : (c : Messages) → reliable_number c.ringing ≡ None → said (rings_reliably c) ≡ due.Nothing

@@ -4,7 +4,7 @@ ghost use Rattle.mmtel_transaction_rows.specs.DeadlineRows.{DeadlinesInARow};
 ghost use Rattle.mmtel_transaction_rows.specs.BelongRows.{RequestsBelong, ResponsesBelong};
 ghost use Rattle.mmtel_transaction_rows.specs.HeadRows.{HeadsOfInvites};
 ghost use Rattle.mmtel_transaction_rows.specs.PeerRows.{PeersRow, TextsRow};
-ghost use Rattle.mmtel_transaction_rows.specs.WaitRows.{AcksHeardAndKept, FinalAwaitsAck, InviteAmongOthers};
+ghost use Rattle.mmtel_transaction_rows.specs.WaitRows.{AcksHeardAndKept, AnswerAwaitsPrack, FinalAwaitsAck, InviteAmongOthers};
 
 /// Two worked sequences of calls compute from the definitions: a repeated INVITE and its final, and an INVITE that nobody answers with the one that is sent after it.
 pub fn rows_compute()
@@ -36,9 +36,10 @@ pub fn belonging_computes()
     ensures responses { ResponsesBelong }
 {}
 
-/// An INVITE that nobody answers, beside a request that is answered; a refusal with and without its ACK; the ACK of a 2xx; an ACK that is kept.
+/// An INVITE that nobody answers, beside a request that is answered; a refusal with and without its ACK; the ACK of a 2xx; an ACK that is kept; a reliable provisional answer.
 pub fn waiting_computes()
     ensures requests { InviteAmongOthers }
     ensures finals { FinalAwaitsAck }
     ensures acks { AcksHeardAndKept }
+    ensures answers { AnswerAwaitsPrack }
 {}

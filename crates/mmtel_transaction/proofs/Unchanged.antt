@@ -1,0 +1,38 @@
+-- What is offered or settled where it has no place changes nothing.
+use Rattle.std.proofs.Common.{◌≡◌, ℕ, List, [], ◌∷◌, ◌++◌, refl, true, false, Bool, not, ◌||◌, sym, ap, ◌∙◌, cond}
+use Rattle.std.specs.Prelude.{Option, Some, None, ◌==◌}
+use Rattle.mmtel_message.specs.Message.{Message}
+use Rattle.mmtel_message.specs.Texts.{message_text}
+use Rattle.mmtel_message.specs.declared.messages.Start.{Start}
+use Rattle.mmtel_transaction.specs.declared.entries.Entry.{Entry}
+use Rattle.mmtel_transaction.specs.declared.entries.ReliableAnswer.{ReliableAnswer}
+use Rattle.mmtel_transaction.specs.Heads.{head_of}
+use Rattle.mmtel_transaction.specs.Changes.{answer_of, offered, replied, settled, with_answers, without_own}
+
+first_if : (b : Bool) (x y : Entry) → b ≡ true → cond b x y ≡ x
+first_if b x y q = ap (λ t. cond t x y) q
+
+with_kept : (o : Option ReliableAnswer) (e : Entry) → (not e.is_server || not (e.done == 0)) ≡ true → with_answers o e ≡ e
+with_kept None e q = refl
+with_kept (Some answer) e q = first_if (not e.is_server || not (e.done == 0)) e _ q
+
+-- an answer is offered in a server transaction without a final one
+offered_kept : (s i : ℕ) (m : Message Start) (now : ℕ) (e : Entry) → (not e.is_server || not (e.done == 0)) ≡ true → offered s i m now e ≡ e
+offered_kept s i m now e q =
+    ap (replied s i (head_of m).status (message_text m) (head_of m).to_tag now) (with_kept (answer_of s i m (message_text m) now) e q)
+    ∙ first_if (not e.is_server || not (e.done == 0)) e _ q
+
+of_done : (b d : Bool) → d ≡ false → (not b || not d) ≡ true
+of_done true d q = ap not q
+of_done false d q = refl
+
+pub offered_client : (s i : ℕ) (m : Message Start) (now : ℕ) (e : Entry) → e.is_server ≡ false → offered s i m now e ≡ e
+offered_client s i m now e q = offered_kept s i m now e (ap (λ b. not b || not (e.done == 0)) q)
+
+pub offered_done : (s i : ℕ) (m : Message Start) (now : ℕ) (e : Entry) → (e.done == 0) ≡ false → offered s i m now e ≡ e
+offered_done s i m now e q = offered_kept s i m now e (of_done e.is_server (e.done == 0) q)
+
+-- and nothing is settled where no answer waits
+pub settled_none : (own : Option ℕ) (e : Entry) → e.reliable ≡ [] → settled own e ≡ e
+settled_none None e q = ap (λ xs. (let r : Entry = record e { reliable = xs } in r)) (sym q)
+settled_none (Some own) e q = ap (λ xs. (let r : Entry = record e { reliable = without_own own xs } in r)) q ∙ ap (λ xs. (let r : Entry = record e { reliable = xs } in r)) (sym q)

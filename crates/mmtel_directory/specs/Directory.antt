@@ -201,7 +201,10 @@ country_line s = if is_country s then Some (line.Country s) else None
 
 -- the extensions that may be switched on
 abbrev pub extension_of : List ℕ → Option Extension
-extension_of word = if bytes_eq word (codes "timer") then Some extension.Timer else None
+extension_of word =
+    if bytes_eq word (codes "100rel") then Some extension.Reliable
+    else if bytes_eq word (codes "timer") then Some extension.Timer
+    else None
 
 -- `extension WORD`
 abbrev pub extension_line : List ℕ → Option Line
@@ -303,6 +306,10 @@ abbrev pub country_in : Line → List (List ℕ)
 country_in (line.Country digits) = digits ∷ []
 country_in _ = []
 
+abbrev pub reliable_in : Line → List Extension
+reliable_in (line.Extension extension.Reliable) = extension.Reliable ∷ []
+reliable_in _ = []
+
 abbrev pub timer_in : Line → List Extension
 timer_in (line.Extension extension.Timer) = extension.Timer ∷ []
 timer_in _ = []
@@ -354,6 +361,7 @@ stands said (line.Operator uri) = is_unsaid operator_in said
 stands said (line.Factory uri) = is_unsaid factory_in said
 stands said (line.Bound n) = is_unsaid bound_in said
 stands said (line.Country digits) = is_unsaid country_in said
+stands said (line.Extension extension.Reliable) = is_unsaid reliable_in said
 stands said (line.Extension extension.Timer) = is_unsaid timer_in said
 stands said (line.Mixer mixer) = is_unsaid mixer_in said
 stands said (line.Store name) = is_unsaid store_in said
@@ -398,7 +406,7 @@ directory_with sip home said = record {
   factory = first_said factory_in said;
   bound = unwrap_or (first_said bound_in said) usual_bound;
   country = first_said country_in said;
-  reliable = false;
+  reliable = is_said reliable_in said;
   timer = is_said timer_in said;
   mixer = unwrap_or (first_said mixer_in said) usual_mixer;
   store = unwrap_or (first_said store_in said) usual_store;

@@ -40,6 +40,8 @@ pub enum LineKind {
 /// An extension that a configuration may switch on.
 #[derive(Clone, Copy, Debug, PartialEq, Eq)]
 pub enum Extension {
+    /// Reliable provisional answers and UPDATE (RFC 3262, RFC 3311).
+    Reliable,
     /// Session timers (RFC 4028).
     Timer,
 }
@@ -367,7 +369,9 @@ fn country_line(alloc: Global, rest: &[u8]) -> Result<Option<Line>, NoMemory>
 fn extension_of(word: &[u8]) -> Option<Extension>
     ensures { result ≡ extension_of word.now }
 {
-    if word == b"timer".as_slice() {
+    if word == b"100rel".as_slice() {
+        Some(Extension::Reliable)
+    } else if word == b"timer".as_slice() {
         Some(Extension::Timer)
     } else {
         None

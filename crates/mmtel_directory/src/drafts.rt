@@ -205,6 +205,7 @@ impl Draft {
             Line::Factory(uri) => say_once(&mut self.factory, number, uri),
             Line::Bound(bound) => say_once(&mut self.bound, number, bound),
             Line::Country(digits) => say_once(&mut self.country, number, digits),
+            Line::Extension(Extension::Reliable) => switch_on(&mut self.reliable, number),
             Line::Extension(Extension::Timer) => switch_on(&mut self.timer, number),
             Line::Mixer(mixer) => say_once(&mut self.mixer, number, mixer),
             Line::Store(name) => say_once(&mut self.store, number, name),

@@ -3,6 +3,7 @@ use Rattle.std.specs.Prelude.{ℕ, ◌+◌, ◌==◌, ◌||◌, nat_lt, Bool, tr
 use Rattle.std.specs.Option.{option_or}
 use Rattle.mmtel_leg.specs.declared.dialogues.Dialogue.{Dialogue}
 use Rattle.mmtel_leg.specs.declared.remotes.Remote.{Remote}
+use Rattle.mmtel_scan.specs.Numbers.{next_number}
 use Rattle.mmtel_sip_rules.specs.Invites.{is_cancel_due}
 use Rattle.mmtel_transaction.specs.declared.words.TKey.{TKey}
 use Rattle.mmtel_desk.specs.declared.invitations.Invitation.{Invitation}
@@ -10,7 +11,18 @@ use Rattle.mmtel_desk.specs.declared.invitations.Loose.{Loose}
 
 -- as it was sent in this dialog with this number and this branch
 abbrev pub sent : Dialogue → (number : ℕ) → (branch : List ℕ) → Invitation
-sent d number branch = record { dialogue = d; number = number; branch = branch; key = None; provisional = false; cancelled = false; ack = None; forks = []; early = None }
+sent d number branch = record {
+  dialogue = d;
+  number = number;
+  branch = branch;
+  key = None;
+  provisional = false;
+  cancelled = false;
+  ack = None;
+  forks = [];
+  early = None;
+  asked = number;
+}
 
 -- a response came, by this client transaction
 abbrev pub knows : TKey → Invitation → Invitation
@@ -27,6 +39,10 @@ early_said code remote = if nat_lt code 101 || length remote.tag == 0 then None 
 -- the first early dialog is kept
 abbrev pub with_early : Option Remote → Invitation → Invitation
 with_early said i = record i { early = option_or i.early said }
+
+-- one request more was made in it (§12.2.1.1)
+abbrev pub after_asked : Invitation → Invitation
+after_asked i = record i { asked = next_number i.asked }
 
 -- a CANCEL is due where a provisional response came and none was sent (§9.1)
 abbrev pub is_cancellable : Invitation → Bool

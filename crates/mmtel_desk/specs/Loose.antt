@@ -33,14 +33,15 @@ with_invitation l i = record l { invitation = i }
 
 -- ---- a 2xx
 
--- the dialog of this tag as it stands before: the early one, with what the callee said of itself there, and else what the INVITE began
-abbrev pub begun : (early : Option Remote) → (tag : List ℕ) → Dialogue → Dialogue
-begun None tag d = d
-begun (Some said) tag d = if bytes_eq said.tag tag then met d said else d
+-- the dialog of this tag as it stands before: the early one, with what the callee said of itself there and the number of the last request that was made in it (§12.2.1.1), and
+-- else what the INVITE began
+abbrev pub begun : (early : Option Remote) → (asked : ℕ) → (tag : List ℕ) → Dialogue → Dialogue
+begun None asked tag d = d
+begun (Some said) asked tag d = if bytes_eq said.tag tag then met (record d { own = asked }) said else d
 
 -- the dialog that it makes or confirms (§13.2.2.4); of an INVITE in a dialog that stood that dialog itself
-abbrev pub made_from : (within : Bool) → (early : Option Remote) → Dialogue → Remote → Dialogue
-made_from within early d remote = if within then d else met (begun early remote.tag (called d)) remote
+abbrev pub made_from : (within : Bool) → (early : Option Remote) → (asked : ℕ) → Dialogue → Remote → Dialogue
+made_from within early asked d remote = if within then d else met (begun early asked remote.tag (called d)) remote
 
 -- the dialog of this 2xx, if it had its BYE before; in a dialog that stood there is but one
 abbrev pub is_ended : (within : Bool) → (tag : List ℕ) → Dialogue → Bool
@@ -65,7 +66,7 @@ acked_and_ended sip l d desk = record { left = Some (with_invitation l (with_for
 
 abbrev pub on_success_in : Addr → Loose → Remote → Option Dialogue → Desk → Rest
 on_success_in sip l remote (Some d) desk = acked_again sip l d desk
-on_success_in sip l remote None desk = acked_and_ended sip l (made_from l.within l.invitation.early l.invitation.dialogue remote) desk
+on_success_in sip l remote None desk = acked_and_ended sip l (made_from l.within l.invitation.early l.invitation.asked l.invitation.dialogue remote) desk
 
 -- where the callee says this of itself
 abbrev pub on_success : Addr → Loose → Remote → Desk → Rest

@@ -1,6 +1,6 @@
 //! INVITEs that the server sent.
 ghost use Rattle.std.specs.Prelude.{◌≡◌, ◌<◌, ℕ, Some, length, position};
-ghost use Rattle.mmtel_desk.specs.Invitations.{early_said, is_cancellable, is_key, is_loose_key, once_cancelled, sent, with_early, without};
+ghost use Rattle.mmtel_desk.specs.Invitations.{after_asked, early_said, is_cancellable, is_key, is_loose_key, once_cancelled, sent, with_early, without};
 
 use mmtel_leg::{Dialogue, Remote};
 use mmtel_scan::{List, Text};
@@ -28,6 +28,8 @@ pub struct Invitation {
     pub forks: List<Dialogue>,
     /// What the callee said of itself in the first provisional response but 100 that gave a tag: the early dialog that it made (RFC 3261 §12.1.2).
     pub early: Option<Remote>,
+    /// The number of the last request that the server made in that early dialog; that of the INVITE where it made none.
+    pub asked: u64,
 }
 
 /// An INVITE that was left before it had a final answer.
@@ -54,7 +56,15 @@ impl Invitation {
             ack: None,
             forks: List::new(),
             early: None,
+            asked: number,
         }
+    }
+
+    /// One request more was made in its early dialog (RFC 3261 §12.2.1.1).
+    pub fn note_asked(&mut self)
+        ensures asked { self.new ≡ after_asked self.old }
+    {
+        self.asked = self.asked.saturating_add(1);
     }
 
     /// Whether it went by this client transaction, as far as a response told it.

@@ -72,35 +72,39 @@ fn copied(alloc: Global, remote: &Remote) -> Result<Remote, NoMemory>
     })
 }
 
-/// A dialog once the callee said this of itself, where that was in the dialog of this tag.
+/// A dialog once the callee said this of itself, and this was the number of the last request, where that was in the dialog of this tag.
 fn met_before(
     alloc: Global,
     said: &Remote,
+    asked: u64,
     tag: &[u8],
     dialogue: Dialogue,
 ) -> Result<Dialogue, NoMemory>
-    ensures { IfOk result (λ d. d ≡ begun (Some said.now) tag.now dialogue) }
+    ensures { IfOk result (λ d. d ≡ begun (Some said.now) asked tag.now dialogue) }
 {
     if said.tag.bytes() != tag {
         return Ok(dialogue);
     }
     let said = copied(alloc, said)?;
+    let mut dialogue = dialogue;
+    dialogue.own = asked;
     Ok(dialogue.meet(said))
 }
 
-/// The dialog of a tag as it stands before a 2xx: the early one, or what the INVITE began.
+/// The dialog of a tag as it stands before a 2xx: the early one, in which this was the number of the last request, or what the INVITE began.
 fn begun(
     alloc: Global,
     early: Option<&Remote>,
+    asked: u64,
     tag: &[u8],
     dialogue: &Dialogue,
 ) -> Result<Dialogue, NoMemory>
-    ensures { IfOk result (λ d. d ≡ begun (option_copied early.entry) tag.now (called dialogue.now)) }
+    ensures { IfOk result (λ d. d ≡ begun (option_copied early.entry) asked tag.now (called dialogue.now)) }
 {
     let dialogue = called(dialogue.copied(alloc)?);
     match early {
         None => Ok(dialogue),
-        Some(said) => met_before(alloc, said, tag, dialogue),
+        Some(said) => met_before(alloc, said, asked, tag, dialogue),
     }
 }
 
@@ -109,15 +113,16 @@ fn made_from(
     alloc: Global,
     within: bool,
     early: Option<&Remote>,
+    asked: u64,
     dialogue: &Dialogue,
     remote: Remote,
 ) -> Result<Dialogue, NoMemory>
-    ensures { IfOk result (λ d. d ≡ made_from within (option_copied early.entry) dialogue.now remote) }
+    ensures { IfOk result (λ d. d ≡ made_from within (option_copied early.entry) asked dialogue.now remote) }
 {
     if within {
         return dialogue.copied(alloc);
     }
-    let before = begun(alloc, early, remote.tag.bytes(), dialogue)?;
+    let before = begun(alloc, early, asked, remote.tag.bytes(), dialogue)?;
     Ok(before.meet(remote))
 }
 
@@ -206,9 +211,16 @@ impl Desk {
         match ended_before(loose.within, remote.tag.bytes(), forks) {
             Some(dialogue) => self.acknowledge_in(alloc, sip, dialogue),
             None => {
-                let early = loose.invitation.early.as_ref();
-                let sent = &loose.invitation.dialogue;
-                let dialogue = made_from(alloc, loose.within, early, sent, remote)?;
+                let sent = &loose.invitation;
+                let early = sent.early.as_ref();
+                let dialogue = made_from(
+                    alloc,
+                    loose.within,
+                    early,
+                    sent.asked,
+                    &sent.dialogue,
+                    remote,
+                )?;
                 self.end_fork(alloc, sip, loose, dialogue)
             }
         }

@@ -6,6 +6,7 @@ pub mod Decisions
 pub mod Opening
 pub mod Showing
 pub mod Requests
+pub mod Reliable
 pub mod Rows
 
 -- What private functions alone cite: nothing.

@@ -57,6 +57,15 @@ facing_at site o service side m = record (facing o service side m) { timer = sit
 unfoldable pub shown_to : Site → Opening → Diverted → Option Service → Side → Peer → Said → List Line
 shown_to site o d service side peer m = shown_lines (facing_at site o service side m) (trusts site peer) (list_for d m) m.heard.start m.heard.lines
 
+-- the lines of the INVITE that opened the call which the target of an attempt is shown: its provisional responses may be reliable (RFC 3262 §3), where those of an INVITE within
+-- the call stay here, and would wait for a PRACK in vain
+abbrev pub facing_offered : Site → Opening → Option Service → Facing
+facing_offered site o service = record (facing_at site o service Caller o.invite) { reliable = site.reliable }
+
+unfoldable pub offered_to : Site → Opening → Diverted → Option Service → Peer → List Line
+offered_to site o d service peer =
+    shown_lines (facing_offered site o service) (trusts site peer) (list_for d o.invite) o.invite.heard.start o.invite.heard.lines
+
 -- the lines by which a 181 tells the caller of the last diversion, where the forward says that it is told
 abbrev pub notice_of : Site → Opening → Diverted → DueDiversion → Option (List Line)
 notice_of site o d due = if due.forward.notify_caller then Some (history_lines (masks_all o) (trusts site o.invite.peer) (told_list d)) else None

@@ -1,9 +1,11 @@
 //! What is decided of a request of a side.
 ghost use Rattle.std.specs.Prelude.{◌≡◌};
-ghost use Rattle.mmtel_call_decisions.specs.Requests.{unlisted_status};
+ghost use Rattle.mmtel_call_decisions.specs.Requests.{refusal_of_update, unlisted_status};
 
+use mmtel_leg::DialogueFault;
 use mmtel_message::Start;
-use mmtel_sip_rules::status_out_of_place;
+use mmtel_sip_rules::{is_same_side, status_out_of_place};
+use mmtel_types::Side;
 
 /// The status that a request gets that no row of the step table has: 200 to OPTIONS (RFC 3261 §11.2), 403 to REFER, which only a room takes, and 481 to what is asked at
 /// the wrong time (§12.2.2).
@@ -13,5 +15,18 @@ pub fn unlisted_status(start: &Start) -> u16
     match start {
         Start::Request { method, uri: _ } => status_out_of_place(method.bytes()),
         Start::Status { code: _, phrase: _ } => 481,
+    }
+}
+
+/// Why an UPDATE of a side is not relayed, where that of a side is in flight (RFC 3311 §5.2): the UPDATE of the side itself has no answer yet, or it crosses the one of the other
+/// side. None where it is relayed, since none is in flight.
+pub fn refusal_of_update(updating: Option<Side>, side: Side) -> Option<DialogueFault>
+    ensures exact { result ≡ refusal_of_update updating side }
+{
+    let other = updating?;
+    if is_same_side(other, side) {
+        Some(DialogueFault::Unfinished)
+    } else {
+        Some(DialogueFault::Pending)
     }
 }

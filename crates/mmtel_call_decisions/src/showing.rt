@@ -4,7 +4,7 @@ ghost use Rattle.std.specs.Option.{option_copied};
 ghost use Rattle.mmtel_precedence.specs.Told.{told_due};
 ghost use Rattle.mmtel_trust.specs.Passed.{shown_lines};
 ghost use Rattle.mmtel_call_decisions.specs.Decisions.{its_sheet};
-ghost use Rattle.mmtel_call_decisions.specs.Showing.{facing, masks_all, notice_of, shown_to};
+ghost use Rattle.mmtel_call_decisions.specs.Showing.{facing, list_for, masks_all, notice_of, offered_to, shown_to};
 ghost use Rattle.mmtel_call_decisions.specs.Site.{trusts};
 
 use crate::diversions::Diversions;
@@ -90,6 +90,34 @@ fn shown_with(
     shown(alloc, message, history, facing, setting.peers.trusted(peer))
 }
 
+/// The lines of a side's message that are passed on to a peer by this, where the call was diverted so.
+fn shown_by(
+    alloc: Global,
+    setting: &Setting<'_>,
+    diversions: &Diversions,
+    facing: &Facing,
+    peer: Peer,
+    message: &Hearing,
+) -> Result<List<Line>, NoMemory>
+    ensures { IfOk result (λ ls. ls
+        ≡ shown_lines facing.now (trusts setting.now peer) (list_for diversions.now message.now) message.now.heard.start message.now.heard.lines) }
+{
+    if status_of(message.message.start()) == 181 {
+        let told = diversions.told(alloc)?;
+        let shown = shown_with(alloc, setting, &message.message, &told, facing, peer);
+        drop(told);
+        return shown;
+    }
+    shown_with(
+        alloc,
+        setting,
+        &message.message,
+        diversions.history(),
+        facing,
+        peer,
+    )
+}
+
 impl Opening {
     /// The lines of a side's message that are passed on to a peer (RFC 3325 §5 and §7, RFC 3323 §5.1), where the call was diverted so and this account is served at its target.
     ///
@@ -111,20 +139,30 @@ impl Opening {
     {
         let mut facing = self.facing(service, side, message);
         facing.timer = setting.timer;
-        if status_of(message.message.start()) == 181 {
-            let told = diversions.told(alloc)?;
-            let shown = shown_with(alloc, setting, &message.message, &told, &facing, peer);
-            drop(told);
-            return shown;
-        }
-        shown_with(
-            alloc,
-            setting,
-            &message.message,
-            diversions.history(),
-            &facing,
-            peer,
-        )
+        shown_by(alloc, setting, diversions, &facing, peer, message)
+    }
+
+    /// The lines of the INVITE that opened the call which are passed on to the target of an attempt behind a peer: as those of `shown_to`, but that its provisional responses
+    /// may be reliable (RFC 3262 §3), which those of an INVITE within the call may not.
+    ///
+    /// # Errors
+    ///
+    /// Want of memory alone.
+    #[tactic(auto, unfolding(crate::specs::Showing::offered_to))]
+    pub fn offered_to(
+        &self,
+        alloc: Global,
+        setting: &Setting<'_>,
+        diversions: &Diversions,
+        service: Option<&Service>,
+        peer: Peer,
+    ) -> Result<List<Line>, NoMemory>
+        ensures lines { IfOk result (λ ls. ls ≡ offered_to setting.now self.now diversions.now (option_copied service.entry) peer) }
+    {
+        let mut facing = self.facing(service, Side::Caller, &self.invite);
+        facing.reliable = setting.reliable;
+        facing.timer = setting.timer;
+        shown_by(alloc, setting, diversions, &facing, peer, &self.invite)
     }
 
     /// The lines by which a 181 tells the caller of a diversion that was made, the last one, where the forward says that it is told (TS 24.604 §4.5.2.6); None where it is not.

@@ -1,0 +1,152 @@
+//! Which provisional responses of a target are reliable answers, and the lines that a message has of them (RFC 3262).
+ghost use Rattle.std.specs.Prelude.{◌≡◌, ◌∷◌, ◌++◌, IfOk, OnOk, codes, decimal};
+ghost use Rattle.mmtel_call_decisions.specs.Reliable.{names_reliable, number_in, rack_line, reliable_lines, reliable_number, takes_reliable, wants_prack};
+
+use crate::openings::Opening;
+use crate::settings::Setting;
+use mmtel_answers::{Hearing, said_by_callee, status_of};
+use mmtel_message::{Line, add_bytes, add_decimal, line_texts};
+use mmtel_scan::{List, NoMemory, Text, add_number, number_up_to};
+use std::alloc::Global;
+
+/// The greatest number of a reliable answer (RFC 3262 §7.1).
+const GREATEST_NUMBER: u64 = 2_147_483_647;
+
+/// Whether the option tag stands among these.
+fn names_reliable(values: &[Text]) -> bool
+    ensures { result ≡ names_reliable values.now }
+{
+    values
+        .iter()
+        .any(|value| value.bytes() == b"100rel".as_slice())
+}
+
+/// Whether a response is a 101 to 199 that requires a PRACK, in a dialog (RFC 3262 §3, §4).
+fn wants_prack(alloc: Global, response: &Hearing) -> Result<bool, NoMemory>
+    ensures { IfOk result (λ wants. wants ≡ wants_prack response.now) }
+{
+    let code = status_of(response.message.start());
+    if code < 101 || code >= 200 {
+        return Ok(false);
+    }
+    let required = line_texts(alloc, &response.message.lines(), b"Require")?;
+    let reliable = names_reliable(required.items());
+    drop(required);
+    if !reliable {
+        return Ok(false);
+    }
+    let remote = said_by_callee(alloc, response)?;
+    let tagged = !remote.tag.bytes().is_empty();
+    drop(remote);
+    Ok(tagged)
+}
+
+/// The number that these bytes spell, where it is one from 1 to 2147483647 (RFC 3262 §7.1).
+fn number_in(value: &[u8]) -> Option<u32>
+    ensures { result ≡ number_in value.now }
+{
+    match number_up_to(GREATEST_NUMBER, value) {
+        None | Some(0) => None,
+        Some(number) => Some(number as u32),
+    }
+}
+
+/// The number that the first RSeq line of a response says, where it is such a one. It takes no memory.
+fn number_said(response: &Hearing) -> Option<u32>
+    ensures { result ≡ response.now.heard.rseq }
+{
+    match response.message.first(b"RSeq") {
+        None => None,
+        Some(value) => number_in(value),
+    }
+}
+
+impl Opening {
+    /// Whether the INVITE that opened the call supports or requires reliable answers (RFC 3262 §3).
+    fn takes_reliable(&self, alloc: Global) -> Result<bool, NoMemory>
+        ensures { IfOk result (λ takes. takes ≡ takes_reliable self.now) }
+    {
+        let lines = self.invite.message.lines();
+        let supported = line_texts(alloc, &lines, b"Supported")?;
+        let supports = names_reliable(supported.items());
+        drop(supported);
+        if supports {
+            return Ok(true);
+        }
+        let required = line_texts(alloc, &lines, b"Require")?;
+        let requires_it = names_reliable(required.items());
+        drop(required);
+        Ok(requires_it)
+    }
+
+    /// The number that a response of a target says as a reliable answer: a 101 to 199 of a dialog that requires a PRACK and says one, where the server relays such answers and
+    /// the INVITE that opened the call takes them (RFC 3262 §3, §4). None of any other response, which is relayed without a number.
+    ///
+    /// # Errors
+    ///
+    /// Want of memory alone.
+    pub fn reliable_number(
+        &self,
+        alloc: Global,
+        setting: &Setting<'_>,
+        response: &Hearing,
+    ) -> Result<Option<u32>, NoMemory>
+        ensures exact { IfOk result (λ number. number ≡ reliable_number setting.now self.now response.now) }
+    {
+        if !setting.reliable {
+            return Ok(None);
+        }
+        if !wants_prack(alloc, response)? {
+            return Ok(None);
+        }
+        if !self.takes_reliable(alloc)? {
+            return Ok(None);
+        }
+        Ok(number_said(response))
+    }
+}
+
+/// Adds the lines of an answer that is relayed under this number (RFC 3262 §7.1).
+///
+/// # Errors
+///
+/// Want of memory alone; of the lines nothing is said then.
+#[tactic(auto, unfolding(mmtel_message::specs::Message::line))]
+pub fn add_reliable_lines(alloc: Global, own: u32, lines: &mut List<Line>) -> Result<(), NoMemory>
+    ensures added { OnOk result (lines.new ≡ lines.old ++ reliable_lines own) }
+{
+    add_bytes(alloc, lines, b"Require", b"100rel")?;
+    add_decimal(alloc, lines, b"RSeq", u64::from(own))
+}
+
+/// The value of a RAck line (RFC 3262 §7.2).
+fn rack_value(alloc: Global, answer: u32, cseq: u64) -> Result<Text, NoMemory>
+    ensures { IfOk result (λ text. text ≡ decimal answer ++ 32 ∷ (decimal cseq ++ 32 ∷ codes "INVITE")) }
+{
+    let mut value = Text::new();
+    add_number(alloc, &mut value, u64::from(answer))?;
+    value.push(alloc, b" ")?;
+    add_number(alloc, &mut value, cseq)?;
+    value.push(alloc, b" INVITE")?;
+    Ok(value)
+}
+
+/// Adds the line of a PRACK for the answer of this number to the INVITE of that one (RFC 3262 §7.2).
+///
+/// # Errors
+///
+/// Want of memory alone; the lines are then as before.
+#[tactic(auto, unfolding(mmtel_message::specs::Message::line))]
+pub fn add_rack_line(
+    alloc: Global,
+    answer: u32,
+    cseq: u64,
+    lines: &mut List<Line>,
+) -> Result<(), NoMemory>
+    ensures added { OnOk result (lines.new ≡ lines.old ++ rack_line answer cseq) }
+{
+    let value = rack_value(alloc, answer, cseq)?;
+    let added = add_bytes(alloc, lines, b"RAck", value.bytes());
+    drop(value);
+    added
+}

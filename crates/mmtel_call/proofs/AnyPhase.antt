@@ -9,15 +9,18 @@ use Rattle.mmtel_precedence.specs.Calls.{End, NotReachable, Standing}
 use Rattle.mmtel_precedence.specs.Services.{DueDiversion}
 use Rattle.mmtel_precedence.specs.Turns.{AfterEnd, EndAnswered, EndDivert, EndRefuse, Turn, TurnDivert, TurnOffer, TurnRefuse}
 use Rattle.mmtel_precedence.specs.Verdicts.{too_many}
+use Rattle.mmtel_reliable.specs.Acks.{after_relay}
 use Rattle.mmtel_targets.specs.declared.targets.Target.{Target}
 use Rattle.mmtel_transaction.specs.declared.words.TKey.{TKey}
 use Rattle.mmtel_types.specs.declared.causes.Cause.{Cause}
 use Rattle.mmtel_call_decisions.specs.Decisions.{decided_after, decided_at, handed_on, is_status, its_sheet, peer_for, redirect_of, service_at, target_of, time_of}
+use Rattle.mmtel_call_decisions.specs.Reliable.{reliable_number}
 use Rattle.mmtel_call_decisions.specs.Site.{Site}
 use Rattle.mmtel_call.specs.Calls.{Attempt, Call, Offered, Phase, Service, Trial}
 use Rattle.mmtel_call.specs.Closing.{Step, onward, over, with_past}
 use Rattle.mmtel_call.specs.Diverting.{at_target, divert, diverted, goes_on, is_diverted, made, made_unless, on_end, on_turn, passed_by, refusal_by, refused, told_of}
-use Rattle.mmtel_call.specs.Ringing.{answered, armed_in, callee_after, cancelled_attempt, early_said, failed, having_met, left, noted, on_response, proceeding, ringing, silenced, timed_out, tried}
+use Rattle.mmtel_call.specs.Reliable.{awaiting_prack, own_for, relayed_reliably}
+use Rattle.mmtel_call.specs.Ringing.{answered, armed_in, cancelled_attempt, failed, left, on_response, proceeded, proceeding, proceeding_by, relayed_if, relayed_plainly, silenced, timed_out, tried}
 use Rattle.mmtel_call.specs.Sending.{relayed_to_caller}
 
 -- ---- words
@@ -100,10 +103,23 @@ armed_alike true None at attempt p c desk = refl
 armed_alike true (Some time) at attempt p c desk = refl
 armed_alike false time at attempt p c desk = refl
 
-proceeding_alike : (site : Site) (at : ℕ) (x : Trial) (key : TKey) (m : Said) (code : ℕ) (p : Phase) (c : Call) (desk : Desk) → IsAlike (proceeding site at x key m code) p c desk
-proceeding_alike site at x key m code p c desk =
-    ap (onward (record c { phase = Offered (record x { callee = callee_after x.callee m; attempt = ringing code (having_met (early_said x.callee m) (noted key x.attempt)) }) }))
+plainly_alike : (site : Site) (at : ℕ) (x : Trial) (key : TKey) (m : Said) (code : ℕ) (p : Phase) (c : Call) (desk : Desk) → IsAlike (relayed_plainly site at x key m code) p c desk
+plainly_alike site at x key m code p c desk =
+    ap (onward (record c { phase = Offered (proceeded x key m code) }))
     (armed_alike (rings code && not x.attempt.rang) (time_of (its_sheet x.attempt.service)) at x.attempt p c (relayed_to_caller site c x.attempt.service m desk))
+
+numbered_alike : (own : Option ℕ) (rseq : ℕ) (site : Site) (at : ℕ) (x : Trial) (key : TKey) (m : Said) (code : ℕ) (p : Phase) (c : Call) (desk : Desk) → IsAlike (relayed_if own rseq site at x key m code) p c desk
+numbered_alike None rseq site at x key m code p c desk = refl
+numbered_alike (Some own) rseq site at x key m code p c desk =
+    ap (λ (d : Desk). onward (record c { acks = after_relay rseq c.acks; phase = Offered (proceeded x key m code) }) (awaiting_prack own at c d))
+    (armed_alike (rings code && not x.attempt.rang) (time_of (its_sheet x.attempt.service)) at x.attempt p c (relayed_reliably site c x.attempt.service own m desk))
+
+by_number_alike : (number : Option ℕ) (site : Site) (at : ℕ) (x : Trial) (key : TKey) (m : Said) (code : ℕ) (p : Phase) (c : Call) (desk : Desk) → IsAlike (proceeding_by number site at x key m code) p c desk
+by_number_alike None site at x key m code p c desk = plainly_alike site at x key m code p c desk
+by_number_alike (Some rseq) site at x key m code p c desk = numbered_alike (own_for rseq x m c) rseq site at x key m code p c desk
+
+proceeding_alike : (site : Site) (at : ℕ) (x : Trial) (key : TKey) (m : Said) (code : ℕ) (p : Phase) (c : Call) (desk : Desk) → IsAlike (proceeding site at x key m code) p c desk
+proceeding_alike site at x key m code p c desk = by_number_alike (reliable_number site c.opening m) site at x key m code p c desk
 
 responses_alike : (trying provisional success : Bool) (site : Site) (now : Standing) (x : Trial) (key : TKey) (m : Said) (code : ℕ) (p : Phase) (c : Call) (desk : Desk) → IsAlike (on_response_if trying provisional success site now x key m code) p c desk
 responses_alike true provisional success site now x key m code p c desk = refl

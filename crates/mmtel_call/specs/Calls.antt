@@ -3,6 +3,9 @@ pub use Rattle.mmtel_call_decisions.specs.Diverted.{Diverted}
 pub use Rattle.mmtel_call.specs.Tried.{TriedView}
 pub use Rattle.mmtel_call.specs.declared.calls.Attempt.{Attempt}
 pub use Rattle.mmtel_call.specs.declared.calls.Call.{Call}
+pub use Rattle.mmtel_call.specs.declared.calls.Flight.{Flight}
+pub use Rattle.mmtel_call.specs.declared.calls.FlightKind.{FlightKind}
+pub use Rattle.mmtel_call.specs.declared.calls.FlightKind.TheVariants.{Prack, Update}
 pub use Rattle.mmtel_call.specs.declared.calls.Loan.{Loan}
 pub use Rattle.mmtel_call_decisions.specs.declared.openings.Opening.{Opening}
 pub use Rattle.mmtel_call.specs.declared.calls.Pair.{Pair}

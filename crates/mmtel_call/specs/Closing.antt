@@ -55,7 +55,7 @@ filed_all rows desk = record desk { rows = desk.rows ++ rows }
 -- the call is over by this cause, and its legs, which had these meters, have left
 abbrev pub over : (at : ℕ) → Cause → (first last : Option Noted) → Call → Desk → Step
 over at cause first last c desk = record {
-  call = record c { past = []; phase = Over (cause_by c.answered cause) };
+  call = record c { past = []; flights = []; phase = Over (cause_by c.answered cause) };
   desk = filed_all (rows_by (ending_of c at cause) c.past first last) desk;
 }
 

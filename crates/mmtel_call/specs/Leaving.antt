@@ -1,6 +1,6 @@
--- INVITEs of a call that are not the one it waits on, whatever its phase: those that were left before they had a final answer, and those that had a 2xx (RFC 3261 §9.1,
--- §13.2.2.4, §17.1.1.3).
-use Rattle.std.specs.Prelude.{ℕ, ◌&&◌, not, Bool, true, false, if◌then◌else◌, Option, Some, None, List, ◌++◌, option_to_list, position, slice_get}
+-- Requests of a call that are not the INVITE it waits on, whatever its phase: INVITEs that were left before they had a final answer, and those that had a 2xx (RFC 3261 §9.1,
+-- §13.2.2.4, §17.1.1.3); and what is in flight beside them.
+use Rattle.std.specs.Prelude.{ℕ, not, Bool, true, false, if◌then◌else◌, Option, Some, None, List, ◌++◌, option_to_list, position, slice_get}
 use Rattle.std.specs.Str.{bytes_eq}
 use Rattle.mmtel_answers.specs.Said.{Said, status_of}
 use Rattle.mmtel_desk.specs.Desks.{emitted}
@@ -15,6 +15,7 @@ use Rattle.mmtel_call_decisions.specs.Requests.{is_of_dialog}
 use Rattle.mmtel_call_decisions.specs.Site.{Site}
 use Rattle.mmtel_call.specs.Calls.{Answered, Asking, Call, Lent, Offered, Over, Parting, Phase, Stage, Stood, Taken, Talking}
 use Rattle.mmtel_call.specs.Closing.{Step, onward}
+use Rattle.mmtel_call.specs.Flights.{answered_in_flight, is_in_flight, silent_in_flight}
 use Rattle.mmtel_call.specs.Ringing.{tag_given}
 
 -- ---- one that was left
@@ -80,22 +81,30 @@ answered_taken site key m at (Some t) c desk =
     else if is_fork t m then forked site key m at t c desk
     else repeated t c desk
 
--- ---- by the branch of the INVITE
+-- ---- by the branch of the request
 
-abbrev pub answered_taken_at : Site → TKey → Said → Option ℕ → Call → Desk → Step
-answered_taken_at site key m None c desk = onward c desk
-answered_taken_at site key m (Some at) c desk = answered_taken site key m at (slice_get c.taken at) c desk
+abbrev pub answered_taken_at : Site → (at : ℕ) → TKey → Said → (branch : List ℕ) → Option ℕ → Call → Desk → Step
+answered_taken_at site at key m branch None c desk = answered_in_flight site at m (position (is_in_flight branch) c.flights) c desk
+answered_taken_at site at key m branch (Some place) c desk = answered_taken site key m place (slice_get c.taken place) c desk
 
-abbrev pub answered_at : Site → TKey → Said → (branch : List ℕ) → Option ℕ → Call → Desk → Step
-answered_at site key m branch None c desk = answered_taken_at site key m (position (is_taken branch) c.taken) c desk
-answered_at site key m branch (Some at) c desk = answered_loose site key m at (slice_get c.loose at) c desk
+abbrev pub answered_at : Site → (at : ℕ) → TKey → Said → (branch : List ℕ) → Option ℕ → Call → Desk → Step
+answered_at site at key m branch None c desk = answered_taken_at site at key m branch (position (is_taken branch) c.taken) c desk
+answered_at site at key m branch (Some place) c desk = answered_loose site key m place (slice_get c.loose place) c desk
 
-unfoldable pub answered_other : Site → TKey → Said → (branch : List ℕ) → Call → Desk → Step
-answered_other site key m branch c desk = answered_at site key m branch (position (is_of branch) c.loose) c desk
+unfoldable pub answered_other : Site → (at : ℕ) → TKey → Said → (branch : List ℕ) → Call → Desk → Step
+answered_other site at key m branch c desk = answered_at site at key m branch (position (is_of branch) c.loose) c desk
 
--- silence ends one that was left
+-- silence ends an INVITE that was left
 abbrev pub without_silent : (branch : List ℕ) → Call → Call
 without_silent branch c = record c { loose = without (position (is_of branch) c.loose) c.loose }
+
+-- and comes back as the answer to what is in flight
+abbrev pub silent_other_at : Site → (branch : List ℕ) → Option ℕ → Call → Desk → Step
+silent_other_at site branch None c desk = silent_in_flight site (position (is_in_flight branch) c.flights) c desk
+silent_other_at site branch (Some at) c desk = onward (without_silent branch c) desk
+
+abbrev pub silent_other : Site → (branch : List ℕ) → Call → Desk → Step
+silent_other site branch c desk = silent_other_at site branch (position (is_of branch) c.loose) c desk
 
 -- ---- by its client transaction
 

@@ -14,6 +14,7 @@ use Rattle.mmtel_call_decisions.specs.Site.{Site}
 use Rattle.mmtel_call.specs.Answered.{at_stage, leg_of}
 use Rattle.mmtel_call.specs.Calls.{Answered, Asking, Call, Lent, Loan, Offered, Over, Pair, Parting, Phase, Stage, Stood, Talking}
 use Rattle.mmtel_call.specs.Closing.{Step, onward, over}
+use Rattle.mmtel_call.specs.Flights.{dismissed, dismissing}
 
 -- ---- a leg is taken out
 
@@ -93,7 +94,7 @@ abbrev pub last_of : Released → Option Noted → Option Noted
 last_of (released.Caller leg) meter = meter
 last_of (released.Callee leg) meter = leg.meter
 
--- BYE to the leg that is left, and the rows
+-- what is in flight has its answer first (RFC 3262 §3, RFC 3311 §5.2); then BYE to the leg that is left, and the rows
 abbrev pub finished_by : Site → (at : ℕ) → Loan → Call → Desk → Step
 finished_by site at loan c desk = over at Ended (first_of loan.left loan.meter) (last_of loan.left loan.meter) c (bye site.sip (released_leg loan.left).dialogue desk)
 
@@ -106,7 +107,7 @@ is_lent (Over cause) = false
 abbrev pub finished_in : Phase → Site → (at : ℕ) → Call → Desk → Step
 finished_in (Offered x) site at c desk = onward c desk
 finished_in (Stood x stage) site at c desk = onward c desk
-finished_in (Lent loan) site at c desk = finished_by site at loan c desk
+finished_in (Lent loan) site at c desk = finished_by site at loan (dismissed c) (dismissing site c desk)
 finished_in (Over cause) site at c desk = onward c desk
 
 unfoldable pub finished : Site → (at : ℕ) → Call → Desk → Step

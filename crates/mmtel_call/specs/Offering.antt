@@ -9,11 +9,11 @@ use Rattle.mmtel_desk.specs.Sending.{attempt_dialog, offered}
 use Rattle.mmtel_desk.specs.declared.desks.Desk.{Desk}
 use Rattle.mmtel_leg.specs.Legs.{Leg}
 use Rattle.mmtel_leg.specs.declared.dialogues.Dialogue.{Dialogue}
+use Rattle.mmtel_reliable.specs.Acks as Acks
 use Rattle.mmtel_scan.specs.Numbers.{next_number}
 use Rattle.mmtel_transaction.specs.declared.words.DueWord.TheVariants as due
 use Rattle.mmtel_transaction.specs.declared.words.Emit.TheVariants as emit
-use Rattle.mmtel_types.specs.declared.sides.Side.TheVariants.{Caller}
-use Rattle.mmtel_call_decisions.specs.Showing.{shown_to}
+use Rattle.mmtel_call_decisions.specs.Showing.{offered_to}
 use Rattle.mmtel_call_decisions.specs.Site.{Site}
 use Rattle.mmtel_call.specs.Calls.{Attempt, Call, Offered, Opening, Service, TriedView}
 use Rattle.mmtel_call.specs.Closing.{Step, meter_for}
@@ -34,7 +34,7 @@ dialog_of o aim desk = attempt_dialog aim o.invite.heard o.restricted desk
 abbrev pub sent_to : Site → (at : ℕ) → Option Service → (waiting : Bool) → Aim → Call → Desk → Desk
 sent_to site at service waiting aim c desk =
     emitted (emit.Arm c.opening.number (due.Cap (next_attempt c)) (at + longest_time))
-    (offered site.sip aim c.opening.invite.heard c.opening.restricted (shown_to site c.opening c.diversions service Caller aim.peer c.opening.invite) waiting desk)
+    (offered site.sip aim c.opening.invite.heard c.opening.restricted (offered_to site c.opening c.diversions service aim.peer) waiting desk)
 
 -- the target's leg, with the meter of the account that is served there
 abbrev pub callee_of : (at : ℕ) → Option Service → Aim → Call → Desk → TriedView
@@ -54,6 +54,6 @@ attempt_of service aim c desk = record {
 -- the call is offered, as waiting or not
 abbrev pub offer : Site → (at : ℕ) → Leg → Option Service → (waiting : Bool) → Aim → Call → Desk → Step
 offer site at caller service waiting aim c desk = record {
-  call = record c { attempts = next_attempt c; phase = Offered (record { caller = caller; callee = callee_of at service aim c desk; attempt = attempt_of service aim c desk }) };
+  call = record c { attempts = next_attempt c; acks = Acks.next_attempt c.acks; phase = Offered (record { caller = caller; callee = callee_of at service aim c desk; attempt = attempt_of service aim c desk }) };
   desk = sent_to site at service waiting aim c desk;
 }

@@ -1,11 +1,14 @@
 -- How a call opens: its caller has a 100, and it comes to its first target or is refused (RFC 3261 §12.1.1, RFC 3323 §4.2, RFC 5502 §4, TS 24.611 §4.5.2).
 use Rattle.std.specs.Prelude.{ℕ, Option, Some, None, []}
+use Rattle.std.specs.Option.{unwrap_or}
+use Rattle.mmtel_answers.specs.Said.{number_of}
 use Rattle.mmtel_charging.specs.declared.rows.Kind.TheVariants.{Origin}
 use Rattle.mmtel_desk.specs.Desks.{drew, token}
 use Rattle.mmtel_desk.specs.declared.desks.Desk.{Desk}
 use Rattle.mmtel_leg.specs.Dialogues.{opened as opened_dialog}
 use Rattle.mmtel_leg.specs.Legs.{Leg}
 use Rattle.mmtel_precedence.specs.Calls.{Standing}
+use Rattle.mmtel_reliable.specs.Acks.{no_answers}
 use Rattle.mmtel_types.specs.declared.causes.Cause.{Cause}
 use Rattle.mmtel_types.specs.declared.causes.Cause.TheVariants.{Ended}
 use Rattle.mmtel_waiting.specs.Hold.{at_first}
@@ -27,6 +30,8 @@ new_call site o = record {
   answered = None;
   attempts = 0;
   successes = 0;
+  acks = no_answers (unwrap_or (number_of o.invite) 0);
+  flights = [];
   past = [];
   loose = [];
   taken = [];

@@ -1,41 +1,29 @@
 -- An INVITE within an answered call: it goes to the other side, whose answer comes back (RFC 3261 §14, TS 24.610 §4.5.2.1).
-use Rattle.std.specs.Prelude.{ℕ, ◌==◌, ◌||◌, not, nat_lt, Bool, true, false, if◌then◌else◌, Option, Some, None, List, [], ◌∷◌, ◌++◌, codes}
+use Rattle.std.specs.Prelude.{ℕ, ◌==◌, ◌||◌, not, nat_lt, Bool, true, false, if◌then◌else◌, List, [], ◌∷◌, ◌++◌, codes}
 use Rattle.mmtel_answers.specs.Said.{Said}
-use Rattle.mmtel_desk.specs.Desks.{token}
-use Rattle.mmtel_desk.specs.Invitations.{has_said, once_cancelled, sent}
+use Rattle.mmtel_desk.specs.Invitations.{has_said, once_cancelled}
 use Rattle.mmtel_desk.specs.Sending.{asked_for, cancelled, final_acked, relayed}
 use Rattle.mmtel_desk.specs.declared.desks.Desk.{Desk}
-use Rattle.mmtel_desk.specs.declared.invitations.Invitation.{Invitation}
 use Rattle.mmtel_desk.specs.declared.invitations.Loose.{Loose}
 use Rattle.mmtel_leg.specs.Dialogues.{after_request}
-use Rattle.mmtel_leg.specs.Legs.{Leg}
 pub use Rattle.mmtel_leg.specs.Legs.{having_invited}
 use Rattle.mmtel_leg.specs.declared.dialogues.Dialogue.{Dialogue}
 use Rattle.mmtel_sdp.specs.Offers.{direction_told}
-use Rattle.mmtel_sdp.specs.declared.values.Direction.{Direction}
 use Rattle.mmtel_transaction.specs.declared.words.TKey.{TKey}
 use Rattle.mmtel_types.specs.Sides.{other_of}
 use Rattle.mmtel_types.specs.declared.sides.Side.{Side}
 use Rattle.mmtel_types.specs.declared.sides.Side.TheVariants.{Caller, Callee}
-use Rattle.mmtel_waiting.specs.Hold.{noted}
-use Rattle.mmtel_waiting.specs.declared.hold.HoldState.{HoldState}
 use Rattle.mmtel_call_decisions.specs.Requests.{is_same_side}
 use Rattle.mmtel_call_decisions.specs.Showing.{shown_to}
 use Rattle.mmtel_call_decisions.specs.Site.{Site}
 use Rattle.mmtel_call.specs.Answered.{at_stage, bye_to, leg_of, shown_across, with_leg}
 use Rattle.mmtel_call.specs.Calls.{Answered, Asking, Call, Pair, Reinvite, Stood, Talking}
 use Rattle.mmtel_call.specs.Closing.{Step, onward, over_stood}
+pub use Rattle.mmtel_call.specs.Flights.{held_by, reinvite_of, sent_in}
 use Rattle.mmtel_call.specs.Ringing.{awaiting_ack, awaiting_expiry, next_success, success_of, taken_by, with_loose}
 use Rattle.mmtel_call.specs.Sending.{replied_to}
 
 -- ---- it goes to the other side
-
--- the INVITE as it was sent in this dialog
-abbrev pub sent_in : Dialogue → (branch : List ℕ) → Invitation
-sent_in d branch = sent d d.own branch
-
-abbrev pub reinvite_of : TKey → Said → Leg → Desk → Reinvite
-reinvite_of key m leg desk = record { key = key; request = m; invitation = sent_in leg.dialogue (token desk); cancel_due = false }
 
 -- 100 to the side that asks; the INVITE to the other one, with the call's History-Info
 abbrev pub asked_across : Site → Pair → Side → TKey → Said → Call → Desk → Step
@@ -62,11 +50,6 @@ cancelled_if_due site key q desk = if q.cancel_due then cancelled site.sip (has_
 
 abbrev pub proceeding_across : Site → Pair → Side → Reinvite → TKey → Call → Desk → Step
 proceeding_across site x side q key c desk = onward (at_stage x (Asking side (proceeding key q)) c) (cancelled_if_due site key q desk)
-
--- the hold that an offer of a side asks for
-abbrev pub held_by : Side → Option Direction → HoldState → HoldState
-held_by side None hold = hold
-held_by side (Some direction) hold = noted hold side direction
 
 -- 2xx: it comes back, and the ACK of the side that asked is due; the hold is that of its offer
 abbrev pub agreed : Site → (at : ℕ) → Pair → Side → Reinvite → TKey → Said → Call → Desk → Step

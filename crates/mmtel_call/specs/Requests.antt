@@ -20,6 +20,12 @@ use Rattle.mmtel_call.specs.Sending.{replied_to}
 abbrev pub is_bye : Said → Bool
 is_bye m = is_method (codes "BYE") m.heard.start
 
+abbrev pub is_prack : Said → Bool
+is_prack m = is_method (codes "PRACK") m.heard.start
+
+abbrev pub is_update : Said → Bool
+is_update m = is_method (codes "UPDATE") m.heard.start
+
 abbrev pub is_invite : Said → Bool
 is_invite m = is_method (codes "INVITE") m.heard.start
 

@@ -1,5 +1,5 @@
 -- A call that is offered to a target and not answered: what it does on each signal (RFC 3261 §9, §13.2.2, §13.3.1, TS 24.604 §4.5.2.6).
-use Rattle.std.specs.Prelude.{ℕ, ◌+◌, ◌==◌, ◌&&◌, ◌||◌, not, nat_lt, Bool, true, false, if◌then◌else◌, Option, Some, None, List, [], ◌∷◌, ◌++◌, length, Result, Ok, Err}
+use Rattle.std.specs.Prelude.{ℕ, ◌+◌, ◌==◌, ◌&&◌, ◌||◌, not, nat_lt, Bool, true, false, if◌then◌else◌, Option, Some, None, [], ◌∷◌, ◌++◌, length, Result, Ok, Err}
 pub use Rattle.mmtel_answers.specs.Said.{tag_given}
 use Rattle.mmtel_answers.specs.Said.{Said}
 use Rattle.mmtel_desk.specs.Desks.{emitted}
@@ -16,26 +16,28 @@ use Rattle.mmtel_leg.specs.declared.dialogues.InFlight.TheVariants as in_flight
 use Rattle.mmtel_leg.specs.declared.remotes.Remote.{Remote}
 use Rattle.mmtel_precedence.specs.Attempts.{end_by_final, end_by_time, rings}
 use Rattle.mmtel_precedence.specs.Calls.{End, NoReply, NotReachable, Standing}
-use Rattle.mmtel_scan.specs.Numbers.{next_number}
-use Rattle.mmtel_session.specs.Intervals.{expiry_after}
-pub use Rattle.mmtel_sip_rules.specs.Requests.{ack_time}
+use Rattle.mmtel_reliable.specs.Acks.{after_relay, has_own}
 use Rattle.mmtel_transaction.specs.declared.words.DueWord.{DueWord}
 use Rattle.mmtel_transaction.specs.declared.words.DueWord.TheVariants as due
-use Rattle.mmtel_transaction.specs.declared.words.Emit.{Emit}
 use Rattle.mmtel_transaction.specs.declared.words.Emit.TheVariants as emit
 use Rattle.mmtel_transaction.specs.declared.words.TKey.{TKey}
+use Rattle.mmtel_types.specs.Causes.{status_of}
+use Rattle.mmtel_types.specs.declared.causes.Cause.{Cause}
 use Rattle.mmtel_types.specs.declared.causes.Cause.TheVariants as causes
-use Rattle.mmtel_types.specs.declared.numbers.CallNo.{CallNo}
 use Rattle.mmtel_types.specs.declared.sides.Side.{Side}
 use Rattle.mmtel_types.specs.declared.sides.Side.TheVariants.{Caller, Callee}
 use Rattle.mmtel_call_decisions.specs.Decisions.{its_sheet, redirect_of, time_of}
+use Rattle.mmtel_call_decisions.specs.Reliable.{reliable_number}
 use Rattle.mmtel_call_decisions.specs.Requests.{number_of}
 use Rattle.mmtel_call_decisions.specs.Site.{Site}
+pub use Rattle.mmtel_call.specs.Awaiting.{ack_time, awaiting_ack, awaiting_expiry, expiries, expiry_in, next_success, session_deadline}
 use Rattle.mmtel_call.specs.Calls.{Answered, Attempt, Call, Offered, Pair, Stood, Success, Taken, Trial, TriedView}
 use Rattle.mmtel_call.specs.Closing.{Step, onward, over_offered}
 use Rattle.mmtel_call.specs.Diverting.{goes_on}
-use Rattle.mmtel_call.specs.Requests.{having_heard, is_bye, says, unheard, unlisted}
+use Rattle.mmtel_call.specs.Reliable.{awaiting_prack, on_prack, own_for, prack_refused, relayed_reliably}
+use Rattle.mmtel_call.specs.Requests.{having_heard, is_bye, is_prack, is_update, says, unheard, unlisted}
 use Rattle.mmtel_call.specs.Sending.{relayed_to_caller, replied_to, told_caller}
+use Rattle.mmtel_call.specs.Updates.{on_update}
 
 -- ---- an attempt that is left
 
@@ -87,34 +89,33 @@ armed_in (Some time) at attempt c desk = emitted (emit.Arm c.opening.number (due
 abbrev pub armed : ℕ → (at : ℕ) → Attempt → Call → Desk → Desk
 armed code at attempt c desk = if rings code && not attempt.rang then armed_in (time_of (its_sheet attempt.service)) at attempt c desk else desk
 
+abbrev pub proceeded : Trial → TKey → Said → ℕ → Trial
+proceeded x key m code =
+    record x { callee = callee_after x.callee m; attempt = ringing code (having_met (early_said x.callee m) (noted key x.attempt)) }
+
 -- 101 to 199: it, to the caller
-abbrev pub proceeding : Site → (at : ℕ) → Trial → TKey → Said → ℕ → Call → Desk → Step
-proceeding site at x key m code c desk = record {
-  call = record c { phase = Offered (record x { callee = callee_after x.callee m; attempt = ringing code (having_met (early_said x.callee m) (noted key x.attempt)) }) };
+abbrev pub relayed_plainly : Site → (at : ℕ) → Trial → TKey → Said → ℕ → Call → Desk → Step
+relayed_plainly site at x key m code c desk = record {
+  call = record c { phase = Offered (proceeded x key m code) };
   desk = armed code at x.attempt c (relayed_to_caller site c x.attempt.service m desk);
 }
 
+-- a reliable answer: the same under an own number, and it waits for its PRACK. One that gets no number is not relayed, and is as a 100 (RFC 3262 §4)
+abbrev pub relayed_if : Option ℕ → (rseq : ℕ) → Site → (at : ℕ) → Trial → TKey → Said → ℕ → Call → Desk → Step
+relayed_if None rseq site at x key m code c desk = tried key x c desk
+relayed_if (Some own) rseq site at x key m code c desk = record {
+  call = record c { acks = after_relay rseq c.acks; phase = Offered (proceeded x key m code) };
+  desk = awaiting_prack own at c (armed code at x.attempt c (relayed_reliably site c x.attempt.service own m desk));
+}
+
+abbrev pub proceeding_by : Option ℕ → Site → (at : ℕ) → Trial → TKey → Said → ℕ → Call → Desk → Step
+proceeding_by None site at x key m code c desk = relayed_plainly site at x key m code c desk
+proceeding_by (Some rseq) site at x key m code c desk = relayed_if (own_for rseq x m c) rseq site at x key m code c desk
+
+abbrev pub proceeding : Site → (at : ℕ) → Trial → TKey → Said → ℕ → Call → Desk → Step
+proceeding site at x key m code c desk = proceeding_by (reliable_number site c.opening m) site at x key m code c desk
+
 -- ---- 2xx
-
-abbrev pub next_success : Call → ℕ
-next_success c = next_number c.successes
-
-abbrev pub awaiting_ack : (at : ℕ) → Call → Desk → Desk
-awaiting_ack at c desk = emitted (emit.Arm c.opening.number (due.NoAck (next_success c)) (at + ack_time)) desk
-
--- its session expires, where sessions have timers and it says when (RFC 4028 §10)
-abbrev pub session_deadline : Option ℕ → (at : ℕ) → CallNo → (number : ℕ) → List Emit
-session_deadline None at call number = []
-session_deadline (Some time) at call number = emit.Arm call (due.Expired number) (at + time) ∷ []
-
-abbrev pub expiry_in : Option ℕ → (at : ℕ) → Call → List Emit
-expiry_in time at c = session_deadline time at c.opening.number (next_success c)
-
-abbrev pub expiries : (timer : Bool) → (at : ℕ) → Said → Call → List Emit
-expiries timer at m c = if timer then expiry_in (expiry_after m.heard.session) at c else []
-
-abbrev pub awaiting_expiry : Site → (at : ℕ) → Said → Call → Desk → Desk
-awaiting_expiry site at m c desk = record desk { out = desk.out ++ expiries site.timer at m c }
 
 -- the INVITE had this 2xx
 abbrev pub taken_by : TKey → Said → (within : Bool) → Invitation → Taken
@@ -162,10 +163,16 @@ silenced site now x c desk = if x.attempt.rang then onward c desk else goes_on s
 abbrev pub timed_out : Site → Standing → Trial → End → Call → Desk → Step
 timed_out site now x how c desk = goes_on site now x how None (left x c) (cancelled_attempt site x desk)
 
--- of this attempt alone
+-- ---- the call ends before it was answered
+
+-- the final of this cause to the caller, and CANCEL to the target
+abbrev pub given_up_by : Cause → Site → (at : ℕ) → Trial → Call → Desk → Step
+given_up_by cause site at x c desk = over_offered at cause x (left x c) (cancelled_attempt site x (told_caller site c (status_of cause) desk))
+
+-- of this attempt, and of an answer that waits for its PRACK, alone
 abbrev pub on_due : Site → Standing → Trial → DueWord → Call → Desk → Step
 on_due site now x (due.NoReply number) c desk = if number == x.attempt.number then timed_out site now x NoReply c desk else onward c desk
-on_due site now x (due.NoPrack number) c desk = onward c desk
+on_due site now x (due.NoPrack own) c desk = if has_own own c.acks.waiting then given_up_by causes.Unacknowledged site now.at x c desk else onward c desk
 on_due site now x (due.Cap number) c desk = if number == x.attempt.number then timed_out site now x (end_by_time x.attempt.rang) c desk else onward c desk
 on_due site now x (due.NoAck number) c desk = onward c desk
 on_due site now x (due.Expired number) c desk = onward c desk
@@ -174,17 +181,28 @@ on_due site now x (due.Expired number) c desk = onward c desk
 
 -- 487 to its INVITE, and CANCEL to the target
 abbrev pub given_up : Site → (at : ℕ) → Trial → Call → Desk → Step
-given_up site at x c desk = over_offered at causes.Cancelled x (left x c) (cancelled_attempt site x (told_caller site c 487 desk))
+given_up site at x c desk = given_up_by causes.Cancelled site at x c desk
 
 -- CANCEL of the INVITE that opened the call; one of another INVITE, which has its final, has its 200 alone
 abbrev pub on_cancel : Site → (at : ℕ) → Trial → TKey → Said → (invite : TKey) → Call → Desk → Step
 on_cancel site at x key m invite c desk =
     if invite.0 == c.opening.key.0 then given_up site at x c (replied_to site c key m 200 desk) else onward c (replied_to site c key m 200 desk)
 
+-- PRACK and UPDATE of a side, and what has no row
+abbrev pub on_prack_of : Side → Site → Trial → TKey → Said → Call → Desk → Step
+on_prack_of Caller site x key m c desk = on_prack site x key m c desk
+on_prack_of Callee site x key m c desk = prack_refused site key m c desk
+
+abbrev pub on_other : Site → Trial → Side → TKey → Said → Call → Desk → Step
+on_other site x side key m c desk =
+    if is_prack m then on_prack_of side site x key m c desk
+    else if is_update m then on_update site x side key m c desk
+    else onward c (unlisted site c key m desk)
+
 -- BYE of the caller is as its CANCEL; one of the target, which has no dialog to end, is refused
 abbrev pub on_heard : Site → (at : ℕ) → Trial → Side → TKey → Said → Call → Desk → Step
-on_heard site at x Caller key m c desk = if is_bye m then given_up site at x c (replied_to site c key m 200 desk) else onward c (unlisted site c key m desk)
-on_heard site at x Callee key m c desk = onward c (unlisted site c key m desk)
+on_heard site at x Caller key m c desk = if is_bye m then given_up site at x c (replied_to site c key m 200 desk) else on_other site x Caller key m c desk
+on_heard site at x Callee key m c desk = on_other site x Callee key m c desk
 
 -- ---- requests
 

@@ -15,8 +15,10 @@ use Rattle.mmtel_call.specs.Calls.{Answered, Asking, Call, Pair, Parting, Stage,
 use Rattle.mmtel_call.specs.Closing.{Step, onward, over_stood}
 use Rattle.mmtel_call.specs.Expiring.{expired, expired_asking, is_expiry}
 use Rattle.mmtel_call.specs.Reinvites.{bye_while_asking, cancelled_across, invited, on_response_across, silenced_across}
-use Rattle.mmtel_call.specs.Requests.{having_heard, is_bye, is_invite, says, unheard, unlisted}
+use Rattle.mmtel_call.specs.Reliable.{prack_refused}
+use Rattle.mmtel_call.specs.Requests.{having_heard, is_bye, is_invite, is_prack, is_update, says, unheard, unlisted}
 use Rattle.mmtel_call.specs.Sending.{replied_to}
+use Rattle.mmtel_call.specs.Updates.{on_update_at}
 
 -- ---- requests
 
@@ -52,11 +54,16 @@ abbrev pub on_bye : Stage → Site → (at : ℕ) → Pair → Side → TKey →
 on_bye stage site at x side key m c desk =
     if has_left stage side then onward c (replied_to site c key m 481 desk) else left_by stage site at x side m c (replied_to site c key m 200 desk)
 
+-- a PRACK, which acknowledges nothing here, and what has no row
+abbrev pub on_other_at : Site → TKey → Said → Call → Desk → Step
+on_other_at site key m c desk = if is_prack m then prack_refused site key m c desk else onward c (unlisted site c key m desk)
+
 abbrev pub on_heard_at : Stage → Site → (at : ℕ) → Pair → Side → TKey → Said → Call → Desk → Step
 on_heard_at stage site at x side key m c desk =
     if is_invite m then on_invite stage site x side key m c desk
     else if is_bye m then on_bye stage site at x side key m c desk
-    else onward c (unlisted site c key m desk)
+    else if is_update m then on_update_at stage site x side key m c desk
+    else on_other_at site key m c desk
 
 abbrev pub on_request_at_if : Result (Unit {0}) DialogueFault → Stage → Site → (at : ℕ) → Pair → Side → TKey → Said → Call → Desk → Step
 on_request_at_if (Ok heard) stage site at x side key m c desk =

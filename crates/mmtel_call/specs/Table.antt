@@ -1,5 +1,5 @@
 -- The step table of a call: what it does on each signal, by its phase (RFC 3261 §12 to §15, TS 24.604 §4.5.2.6). How it opens is said by Opening.
-use Rattle.std.specs.Prelude.{ℕ, Bool, false, if◌then◌else◌, Option, Some, None, List}
+use Rattle.std.specs.Prelude.{ℕ, ◌&&◌, Bool, false, if◌then◌else◌, Option, Some, None, List}
 use Rattle.std.specs.Str.{bytes_eq}
 use Rattle.mmtel_answers.specs.Said.{Said, status_of}
 use Rattle.mmtel_desk.specs.declared.desks.Desk.{Desk}
@@ -12,7 +12,9 @@ use Rattle.mmtel_desk.specs.Invites.{invite_answered, invite_silent}
 use Rattle.mmtel_call_decisions.specs.Site.{Site}
 use Rattle.mmtel_call.specs.Calls.{Answered, Asking, Call, Lent, Offered, Over, Parting, Phase, Stage, Stood, Talking}
 use Rattle.mmtel_call.specs.Closing.{Step, onward}
-use Rattle.mmtel_call.specs.Leaving.{answered_other, without_key, without_silent}
+use Rattle.mmtel_call.specs.Dismissal.{leaves_on_ack, leaves_on_cancel, leaves_on_due, leaves_on_request, leaves_on_silence, leaves_on_status}
+use Rattle.mmtel_call.specs.Flights.{dismissed, dismissing}
+use Rattle.mmtel_call.specs.Leaving.{answered_other, silent_other, without_key}
 use Rattle.mmtel_call.specs.Ringing.{on_cancel, on_due, on_request, on_response, silenced}
 use Rattle.mmtel_call.specs.Sending.{replied_to}
 use Rattle.mmtel_call.specs.Stages.{on_ack_at, on_cancel_at, on_due_at, on_request_at, on_response_at, on_silence_at}
@@ -83,17 +85,39 @@ due_in (Over cause) site now what c desk = onward c desk
 -- a response: of the INVITE that the call waits on, or of another one
 abbrev pub answer_to : Option (List ℕ) → Site → Standing → TKey → Said → Call → Desk → Step
 answer_to None site now key m c desk = onward c desk
-answer_to (Some branch) site now key m c desk = if is_current branch c then response_in c.phase site now key m c desk else answered_other site key m branch c desk
+answer_to (Some branch) site now key m c desk = if is_current branch c then response_in c.phase site now key m c desk else answered_other site now.at key m branch c desk
 
 abbrev pub silence_of : Option (List ℕ) → Site → Standing → Call → Desk → Step
 silence_of None site now c desk = onward c desk
-silence_of (Some branch) site now c desk = if is_current branch c then silence_in c.phase site now c desk else onward (without_silent branch c) desk
+silence_of (Some branch) site now c desk = if is_current branch c then silence_in c.phase site now c desk else silent_other site branch c desk
+
+unfoldable pub row : Site → Standing → Signal → Call → Desk → Step
+row site now (signal.Request side key request) c desk = request_in c.phase site now.at side key request c desk
+row site now (signal.Ack side ack) c desk = ack_in c.phase site now.at side ack c desk
+row site now (signal.Cancel key cancel invite) c desk = cancel_in c.phase site now.at key cancel invite c desk
+row site now (signal.Answer key response) c desk = answer_to (invite_answered response) site now key response c desk
+row site now (signal.Silent branch method) c desk = silence_of (invite_silent branch method) site now c desk
+row site now (signal.Due what) c desk = due_in c.phase site now what c desk
+row site now (signal.Ended key) c desk = onward (without_key key c) desk
+
+-- ---- a step that leaves the attempt or ends the call answers first what is in flight
+
+abbrev pub leaves_on_response : Option (List ℕ) → Said → Call → Bool
+leaves_on_response None m c = false
+leaves_on_response (Some branch) m c = is_current branch c && leaves_on_status (status_of m.heard.start) c.phase
+
+abbrev pub leaves_on_no_response : Option (List ℕ) → Call → Bool
+leaves_on_no_response None c = false
+leaves_on_no_response (Some branch) c = is_current branch c && leaves_on_silence c.phase
+
+abbrev pub leaves : Signal → Call → Bool
+leaves (signal.Request side key request) c = leaves_on_request c.phase side request
+leaves (signal.Ack side ack) c = leaves_on_ack c.phase side ack
+leaves (signal.Cancel key cancel invite) c = leaves_on_cancel c.phase invite c
+leaves (signal.Answer key response) c = leaves_on_response (invite_answered response) response c
+leaves (signal.Silent branch method) c = leaves_on_no_response (invite_silent branch method) c
+leaves (signal.Due what) c = leaves_on_due c.phase what c
+leaves (signal.Ended key) c = false
 
 unfoldable pub step : Site → Standing → Signal → Call → Desk → Step
-step site now (signal.Request side key request) c desk = request_in c.phase site now.at side key request c desk
-step site now (signal.Ack side ack) c desk = ack_in c.phase site now.at side ack c desk
-step site now (signal.Cancel key cancel invite) c desk = cancel_in c.phase site now.at key cancel invite c desk
-step site now (signal.Answer key response) c desk = answer_to (invite_answered response) site now key response c desk
-step site now (signal.Silent branch method) c desk = silence_of (invite_silent branch method) site now c desk
-step site now (signal.Due what) c desk = due_in c.phase site now what c desk
-step site now (signal.Ended key) c desk = onward (without_key key c) desk
+step site now s c desk = if leaves s c then row site now s (dismissed c) (dismissing site c desk) else row site now s c desk

@@ -21,7 +21,7 @@ use mmtel_waiting::HoldState;
 use std::alloc::Global;
 
 /// The hold that an offer of a side asks for.
-fn held_by(side: Side, direction: Option<Direction>, hold: HoldState) -> HoldState
+pub fn held_by(side: Side, direction: Option<Direction>, hold: HoldState) -> HoldState
     ensures { result ≡ held_by side direction hold }
 {
     let mut hold = hold;

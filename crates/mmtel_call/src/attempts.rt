@@ -1,5 +1,5 @@
 //! What an attempt is once it proceeds, is answered or left: its INVITE, its times and its end.
-ghost use Rattle.std.specs.Prelude.{◌≡◌, ◌∷◌, ◌++◌, [], false, Some, IfOk, OnErr, OnOk};
+ghost use Rattle.std.specs.Prelude.{◌≡◌, ◌∷◌, ◌++◌, [], false, true, None, Some, IfOk, OnErr, OnOk};
 ghost use Rattle.mmtel_desk.specs.Invitations.{has_said, once_cancelled};
 ghost use Rattle.mmtel_leg.specs.Dialogues.{met};
 ghost use Rattle.mmtel_leg.specs.Legs.{with_dialogue};
@@ -9,7 +9,8 @@ ghost use Rattle.mmtel_types.specs.declared.causes.Cause.TheVariants.{Ended as H
 ghost use Rattle.mmtel_types.specs.declared.sides.Side.TheVariants.{Callee as TheCallee, Caller};
 ghost use Rattle.mmtel_leg.specs.Remotes.{remote_of};
 ghost use Rattle.mmtel_call.specs.Calls.{Answered, Offered, Over, Stood};
-ghost use Rattle.mmtel_call.specs.Ringing.{answered, armed, awaiting_ack, awaiting_expiry, early_said, having_met, loose, next_success, noted, proceeding, ringing, success_of, tag_given};
+ghost use Rattle.mmtel_call.specs.Ringing.{answered, armed, awaiting_ack, awaiting_expiry, early_said, having_met, loose, met_by, next_success, noted, proceeded, proceeding, proceeding_by, relayed_plainly, ringing, success_of, tag_given};
+ghost use Rattle.mmtel_call.specs.Reliable.{awaiting_prack, relayed_reliably};
 ghost use Rattle.mmtel_call.specs.Ringing.{with_loose};
 
 use crate::calls::{Attempt, Call, Pair, Phase, Stage, Success, Taken, Trial};
@@ -83,6 +84,27 @@ impl Attempt {
             service,
             rang,
             invitation: has_said(key, invitation),
+        }
+    }
+}
+
+impl Trial {
+    /// What a provisional response says of the target, where it makes the early dialog: for its leg, and for its INVITE.
+    fn early_said(
+        &self,
+        alloc: Global,
+        m: &Hearing,
+    ) -> Result<(Option<Remote>, Option<Remote>), NoMemory>
+        ensures said { IfOk result (λ r. r.0 ≡ early_said self.now.callee m.now) }
+        ensures kept { IfOk result (λ r. r.1 ≡ early_said self.now.callee m.now) }
+    {
+        let said = self.callee.early_said(alloc, m)?;
+        match self.callee.early_said(alloc, m) {
+            Err(error) => {
+                drop(said);
+                Err(error)
+            }
+            Ok(kept) => Ok((said, kept)),
         }
     }
 }
@@ -211,7 +233,7 @@ impl Call {
         }));
     }
 
-    /// What goes out on a provisional response but 100, and what it says of the target: for its leg, and for its INVITE.
+    /// What goes out on a provisional response but 100 that is no reliable answer, and what it says of the target: for its leg, and for its INVITE.
     fn pass_proceeding(
         &self,
         step: &Step<'_>,
@@ -229,13 +251,150 @@ impl Call {
         let service = x.attempt.service.as_ref();
         self.relay_to_caller(step, service, m, desk)?;
         self.arm(step, code, &x.attempt, desk)?;
-        let said = x.callee.early_said(step.alloc, m)?;
-        match x.callee.early_said(step.alloc, m) {
+        x.early_said(step.alloc, m)
+    }
+
+    /// The same of a reliable answer, which is relayed under this number.
+    fn pass_reliably(
+        &self,
+        step: &Step<'_>,
+        x: &Trial,
+        own: u32,
+        m: &Hearing,
+        code: u16,
+        desk: &mut Desk,
+    ) -> Result<(Option<Remote>, Option<Remote>), NoMemory>
+        ensures desk { OnOk result (desk.new
+            ≡ awaiting_prack own step.now.present.at self.now (armed code step.now.present.at x.now.attempt self.now
+            (relayed_reliably step.now.setting.now self.now x.now.attempt.service own m.now desk.old))) }
+        ensures said { IfOk result (λ r. r.0 ≡ early_said x.now.callee m.now) }
+        ensures kept { IfOk result (λ r. r.1 ≡ early_said x.now.callee m.now) }
+    {
+        let service = x.attempt.service.as_ref();
+        self.relay_reliably(step, service, own, m, desk)?;
+        self.arm(step, code, &x.attempt, desk)?;
+        self.await_prack(step, own, desk)?;
+        x.early_said(step.alloc, m)
+    }
+
+    /// The call is offered as before, once a provisional response of this status came that said this of the target.
+    fn proceed(
+        &mut self,
+        x: Trial,
+        key: TKey,
+        code: u16,
+        said: Option<Remote>,
+        kept: Option<Remote>,
+    )
+        requires phase { self.old.phase ≡ Over HasEnded }
+        requires early { x.callee.is_early ≡ true → said ≡ None }
+        ensures { self.new
+            ≡ record self.old {
+              phase = Offered (record x {
+                callee = met_by said x.callee;
+                attempt = ringing code (having_met kept (noted key x.attempt));
+              });
+            } }
+    {
+        let Trial {
+            caller,
+            callee,
+            attempt,
+        } = x;
+        self.put_phase(Phase::Offered(Trial {
+            caller,
+            callee: callee.meet(said),
+            attempt: attempt.proceed(key, code, kept),
+        }));
+    }
+
+    /// A provisional response of the target but 100 that is no reliable answer.
+    fn hear_plainly(
+        &mut self,
+        step: &Step<'_>,
+        x: Trial,
+        key: TKey,
+        m: &Hearing,
+        code: u16,
+        desk: &mut Desk,
+    ) -> Result<(), NoMemory>
+        requires { self.old.phase ≡ Over HasEnded }
+        ensures call { OnOk result (self.new
+            ≡ (relayed_plainly step.now.setting.now step.now.present.at x key m.now code self.old desk.old).call) }
+        ensures desk { OnOk result (desk.new
+            ≡ (relayed_plainly step.now.setting.now step.now.present.at x key m.now code self.old desk.old).desk) }
+    {
+        match self.pass_proceeding(step, &x, m, code, desk) {
             Err(error) => {
-                drop(said);
+                x.give_up(step.present.at);
                 Err(error)
             }
-            Ok(kept) => Ok((said, kept)),
+            Ok((said, kept)) => {
+                self.proceed(x, key, code, said, kept);
+                Ok(())
+            }
+        }
+    }
+
+    /// A reliable answer of the target that is relayed under this number.
+    fn hear_numbered(
+        &mut self,
+        step: &Step<'_>,
+        x: Trial,
+        key: TKey,
+        own: u32,
+        m: &Hearing,
+        code: u16,
+        desk: &mut Desk,
+    ) -> Result<(), NoMemory>
+        requires { self.old.phase ≡ Over HasEnded }
+        ensures call { OnOk result (self.new
+            ≡ record self.old { phase = Offered (proceeded x key m.now code) }) }
+        ensures desk { OnOk result (desk.new
+            ≡ awaiting_prack own step.now.present.at self.old (armed code step.now.present.at x.attempt self.old
+            (relayed_reliably step.now.setting.now self.old x.attempt.service own m.now desk.old))) }
+    {
+        match self.pass_reliably(step, &x, own, m, code, desk) {
+            Err(error) => {
+                x.give_up(step.present.at);
+                Err(error)
+            }
+            Ok((said, kept)) => {
+                self.proceed(x, key, code, said, kept);
+                Ok(())
+            }
+        }
+    }
+
+    /// A reliable answer of the target, which has this number. One that is not relayed is as a 100.
+    fn hear_reliably(
+        &mut self,
+        step: &Step<'_>,
+        x: Trial,
+        key: TKey,
+        rseq: u32,
+        m: &Hearing,
+        code: u16,
+        desk: &mut Desk,
+    ) -> Result<(), NoMemory>
+        requires { self.old.phase ≡ Over HasEnded }
+        ensures call { OnOk result (self.new
+            ≡ (proceeding_by (Some rseq) step.now.setting.now step.now.present.at x key m.now code self.old
+            desk.old).call) }
+        ensures desk { OnOk result (desk.new
+            ≡ (proceeding_by (Some rseq) step.now.setting.now step.now.present.at x key m.now code self.old
+            desk.old).desk) }
+    {
+        match self.own_for(step.alloc, &x, m, rseq) {
+            Err(error) => {
+                x.give_up(step.present.at);
+                Err(error)
+            }
+            Ok(None) => {
+                self.hear_trying(x, key);
+                Ok(())
+            }
+            Ok(Some(own)) => self.hear_numbered(step, x, key, own, m, code, desk),
         }
     }
 
@@ -255,25 +414,14 @@ impl Call {
         ensures desk { OnOk result (desk.new
             ≡ (proceeding step.now.setting.now step.now.present.at x key m.now code self.old desk.old).desk) }
     {
-        let passed = self.pass_proceeding(step, &x, m, code, desk);
-        match passed {
+        let opening = &self.opening;
+        match opening.reliable_number(step.alloc, step.setting, m) {
             Err(error) => {
                 x.give_up(step.present.at);
                 Err(error)
             }
-            Ok((said, kept)) => {
-                let Trial {
-                    caller,
-                    callee,
-                    attempt,
-                } = x;
-                self.put_phase(Phase::Offered(Trial {
-                    caller,
-                    callee: callee.meet(said),
-                    attempt: attempt.proceed(key, code, kept),
-                }));
-                Ok(())
-            }
+            Ok(None) => self.hear_plainly(step, x, key, m, code, desk),
+            Ok(Some(rseq)) => self.hear_reliably(step, x, key, rseq, m, code, desk),
         }
     }
 

@@ -6,6 +6,7 @@ use mmtel_call_decisions::{Diversions, Opening, Service};
 use mmtel_charging::Meter;
 use mmtel_desk::{Invitation, Loose};
 use mmtel_leg::{Asked, CalleeLeg, CallerLeg, Early, Released, Standing};
+use mmtel_reliable::Acks;
 use mmtel_scan::{List, Text};
 use mmtel_transaction::TKey;
 use mmtel_types::{Cause, Moment, Side};
@@ -91,6 +92,26 @@ pub struct Reinvite {
     pub cancel_due: bool,
 }
 
+/// What was asked beside the INVITEs of a call.
+#[derive(Clone, Copy, Debug, PartialEq, Eq)]
+pub enum FlightKind {
+    /// A PRACK of the caller (RFC 3262).
+    Prack,
+    /// An UPDATE (RFC 3311).
+    Update,
+}
+
+/// A request of a side that is in flight: it was relayed to the other one, and has no final answer.
+#[derive(Drop)]
+pub struct Flight {
+    /// What it asks.
+    pub kind: FlightKind,
+    /// The side that asked.
+    pub side: Side,
+    /// The request, and as what it was relayed.
+    pub asked: Reinvite,
+}
+
 /// How far an answered call came.
 #[derive(Drop)]
 pub enum Stage {
@@ -151,6 +172,10 @@ pub struct Call {
     pub attempts: u64,
     /// How many 2xx it relayed to a side.
     pub successes: u64,
+    /// The reliable answers that were relayed to the caller.
+    pub acks: Acks,
+    /// The requests that are in flight, in the order in which they were relayed.
+    pub flights: List<Flight>,
     /// The meters of what is past, in the order begun; the others run in the legs.
     pub past: List<Meter>,
     /// The INVITEs that were left before they had a final answer.

@@ -102,6 +102,7 @@ impl Call {
             cause: cause_by(self.answered, cause),
         };
         let past = mem::replace(&mut self.past, List::new());
+        drop(mem::replace(&mut self.flights, List::new()));
         self.put_phase(Phase::Over(end.cause));
         file_rows(alloc, &mut desk.rows, past, first, last, &end)
     }

@@ -4,7 +4,8 @@ ghost use Rattle.mmtel_desk.specs.Sending.{cancelled};
 ghost use Rattle.mmtel_call.specs.Sending.{replied_to, told_caller};
 ghost use Rattle.mmtel_types.specs.declared.causes.Cause.TheVariants.{Ended as HasEnded};
 ghost use Rattle.mmtel_call.specs.Calls.{Offered, Over};
-ghost use Rattle.mmtel_call.specs.Ringing.{given_up, heard_by, on_cancel, on_heard, on_request, says_offered};
+ghost use Rattle.mmtel_call.specs.Ringing.{given_up, given_up_by, heard_by, on_cancel, on_heard, on_other, on_prack_of, on_request, says_offered};
+ghost use Rattle.mmtel_types.specs.Causes.{status_of};
 
 use crate::calls::{Attempt, Call, Phase, Trial};
 use crate::context::Step;
@@ -19,35 +20,37 @@ use mmtel_transaction::TKey;
 use mmtel_types::{Cause, Side};
 
 impl Call {
-    /// What goes out where the caller gives up: its 487, and the CANCEL where that is due.
+    /// What goes out where the call ends before it was answered: the final of this cause to the caller, and the CANCEL where that is due.
     fn pass_giving_up(
         &self,
         step: &Step<'_>,
         attempt: &Attempt,
+        cause: Cause,
         desk: &mut Desk,
     ) -> Result<(), NoMemory>
         ensures { OnOk result (desk.new
             ≡ cancelled step.now.setting.now.sip attempt.now.invitation
-            (told_caller step.now.setting.now self.now 487 desk.old)) }
+            (told_caller step.now.setting.now self.now (status_of cause) desk.old)) }
     {
-        self.tell_caller(step, 487, desk)?;
+        self.tell_caller(step, cause.status(), desk)?;
         desk.cancel(step.alloc, step.sip(), &attempt.invitation)
     }
 
-    /// The caller gives up, and the call is over.
-    fn give_up_offered(
+    /// The call ends by this cause before it was answered.
+    pub fn give_up_offered(
         &mut self,
         step: &Step<'_>,
         x: Trial,
+        cause: Cause,
         desk: &mut Desk,
     ) -> Result<(), NoMemory>
         requires { self.old.phase ≡ Over HasEnded }
         ensures call { OnOk result (self.new
-            ≡ (given_up step.now.setting.now step.now.present.at x self.old desk.old).call) }
+            ≡ (given_up_by cause step.now.setting.now step.now.present.at x self.old desk.old).call) }
         ensures desk { OnOk result (desk.new
-            ≡ (given_up step.now.setting.now step.now.present.at x self.old desk.old).desk) }
+            ≡ (given_up_by cause step.now.setting.now step.now.present.at x self.old desk.old).desk) }
     {
-        let passed = self.pass_giving_up(step, &x.attempt, desk);
+        let passed = self.pass_giving_up(step, &x.attempt, cause, desk);
         let Trial {
             caller,
             callee,
@@ -63,14 +66,7 @@ impl Call {
         let left = self.leave_attempt(step.alloc, invitation);
         let Ended { meter: first } = caller.leave();
         let last = callee.leave();
-        let closed = self.close(
-            step.alloc,
-            step.present.at,
-            Cause::Cancelled,
-            first,
-            last,
-            desk,
-        );
+        let closed = self.close(step.alloc, step.present.at, cause, first, last, desk);
         passed?;
         left?;
         closed
@@ -96,7 +92,7 @@ impl Call {
     {
         let replied = self.reply_to(step, key, m, 200, desk);
         if invite.0 == self.opening.key.0 {
-            let given_up = self.give_up_offered(step, x, desk);
+            let given_up = self.give_up_offered(step, x, Cause::Cancelled, desk);
             replied?;
             return given_up;
         }
@@ -121,9 +117,59 @@ impl Call {
             (replied_to step.now.setting.now self.old request.now.key request.now.hearing 200 desk.old)).desk) }
     {
         let replied = self.reply_to(step, request.key, &request.hearing, 200, desk);
-        let given_up = self.give_up_offered(step, x, desk);
+        let given_up = self.give_up_offered(step, x, Cause::Cancelled, desk);
         replied?;
         given_up
+    }
+
+    /// A PRACK of a side.
+    fn take_prack(
+        &mut self,
+        step: &Step<'_>,
+        x: Trial,
+        request: SideRequest,
+        desk: &mut Desk,
+    ) -> Result<(), NoMemory>
+        requires { self.old.phase ≡ Over HasEnded }
+        ensures call { OnOk result (self.new
+            ≡ (on_prack_of request.side step.now.setting.now x request.key request.hearing
+            (record self.old { phase = Offered x }) desk.old).call) }
+        ensures desk { OnOk result (desk.new
+            ≡ (on_prack_of request.side step.now.setting.now x request.key request.hearing
+            (record self.old { phase = Offered x }) desk.old).desk) }
+    {
+        match request.side {
+            Side::Caller => self.hear_prack(step, x, request, desk),
+            Side::Callee => self.pass_over_prack(step, x, request, desk),
+        }
+    }
+
+    /// A request that a leg heard, other than the BYE of the caller.
+    fn take_other_offered(
+        &mut self,
+        step: &Step<'_>,
+        x: Trial,
+        request: SideRequest,
+        desk: &mut Desk,
+    ) -> Result<(), NoMemory>
+        requires { self.old.phase ≡ Over HasEnded }
+        ensures call { OnOk result (self.new
+            ≡ (on_other step.now.setting.now x request.side request.key request.hearing
+            (record self.old { phase = Offered x }) desk.old).call) }
+        ensures desk { OnOk result (desk.new
+            ≡ (on_other step.now.setting.now x request.side request.key request.hearing
+            (record self.old { phase = Offered x }) desk.old).desk) }
+    {
+        if is_method(b"PRACK", request.hearing.message.start()) {
+            return self.take_prack(step, x, request, desk);
+        }
+        if is_method(b"UPDATE", request.hearing.message.start()) {
+            return self.hear_update(step, x, request, desk);
+        }
+        let answered = self.answer_unlisted(step, request.key, &request.hearing, desk);
+        drop(request);
+        self.put_phase(Phase::Offered(x));
+        answered
     }
 
     /// A request that a leg heard.
@@ -131,24 +177,23 @@ impl Call {
         &mut self,
         step: &Step<'_>,
         x: Trial,
-        request: &SideRequest,
+        request: SideRequest,
         desk: &mut Desk,
     ) -> Result<(), NoMemory>
         requires { self.old.phase ≡ Over HasEnded }
         ensures call { OnOk result (self.new
-            ≡ (on_heard step.now.setting.now step.now.present.at x request.now.side request.now.key
-            request.now.hearing (record self.old { phase = Offered x }) desk.old).call) }
+            ≡ (on_heard step.now.setting.now step.now.present.at x request.side request.key
+            request.hearing (record self.old { phase = Offered x }) desk.old).call) }
         ensures desk { OnOk result (desk.new
-            ≡ (on_heard step.now.setting.now step.now.present.at x request.now.side request.now.key
-            request.now.hearing (record self.old { phase = Offered x }) desk.old).desk) }
+            ≡ (on_heard step.now.setting.now step.now.present.at x request.side request.key
+            request.hearing (record self.old { phase = Offered x }) desk.old).desk) }
     {
-        let hearing = &request.hearing;
-        if request.side == Side::Caller && is_method(b"BYE", hearing.message.start()) {
-            return self.hear_bye_offered(step, x, request, desk);
+        if request.side == Side::Caller && is_method(b"BYE", request.hearing.message.start()) {
+            let heard = self.hear_bye_offered(step, x, &request, desk);
+            drop(request);
+            return heard;
         }
-        let answered = self.answer_unlisted(step, request.key, hearing, desk);
-        self.put_phase(Phase::Offered(x));
-        answered
+        self.take_other_offered(step, x, request, desk)
     }
 
     /// A request of a side in its dialog.
@@ -156,22 +201,23 @@ impl Call {
         &mut self,
         step: &Step<'_>,
         x: Trial,
-        request: &SideRequest,
+        request: SideRequest,
         desk: &mut Desk,
     ) -> Result<(), NoMemory>
         requires { self.old.phase ≡ Over HasEnded }
         ensures call { OnOk result (self.new
-            ≡ (on_request step.now.setting.now step.now.present.at x request.now.side request.now.key
-            request.now.hearing (record self.old { phase = Offered x }) desk.old).call) }
+            ≡ (on_request step.now.setting.now step.now.present.at x request.side request.key
+            request.hearing (record self.old { phase = Offered x }) desk.old).call) }
         ensures desk { OnOk result (desk.new
-            ≡ (on_request step.now.setting.now step.now.present.at x request.now.side request.now.key
-            request.now.hearing (record self.old { phase = Offered x }) desk.old).desk) }
+            ≡ (on_request step.now.setting.now step.now.present.at x request.side request.key
+            request.hearing (record self.old { phase = Offered x }) desk.old).desk) }
     {
         let mut x = x;
         match x.hear(request.side, &request.hearing) {
             Ok(()) => self.take_request_offered(step, x, request, desk),
             Err(fault) => {
                 let refused = self.refuse_unheard(step, request.key, &request.hearing, fault, desk);
+                drop(request);
                 self.put_phase(Phase::Offered(x));
                 refused
             }

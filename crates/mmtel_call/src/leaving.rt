@@ -1,12 +1,13 @@
-//! INVITEs of a call that are not the one it waits on.
+//! Requests of a call that are not the INVITE it waits on.
 ghost use Rattle.std.specs.Prelude.{◌≡◌, ◌<◌, ℕ, length, IfOk, OnOk, position, Some, slice_get};
 ghost use Rattle.mmtel_answers.specs.Said.{Said};
 ghost use Rattle.mmtel_call.specs.Leaving.{answered_loose, answered_other, answered_taken, forked, is_fork, is_taken, is_taken_key};
-ghost use Rattle.mmtel_call.specs.Leaving.{is_talking, repeated, without_key, without_silent};
+ghost use Rattle.mmtel_call.specs.Leaving.{is_talking, repeated, silent_other, without_key};
 ghost use Rattle.mmtel_call.specs.Ringing.{tag_given};
 
 use crate::calls::{Call, Phase, Stage, Taken};
 use crate::context::Step;
+use crate::flights::flight_at;
 use mmtel_answers::{Hearing, said_by_callee, status_of};
 use mmtel_call_decisions::is_of_dialog;
 use mmtel_desk::{Desk, Loose, drop_at, file, loose_at, loose_of};
@@ -73,12 +74,29 @@ impl Phase {
 }
 
 impl Call {
-    /// Silence ends an INVITE of this branch that was left.
-    pub fn drop_silent(&mut self, branch: &[u8])
-        ensures { self.new ≡ without_silent branch.now self.old }
+    /// Silence of the request of this branch that is not the INVITE the call waits on: it ends an INVITE that was left, and is the answer to what is in flight.
+    #[tactic(auto, unfolding(crate::specs::Leaving::silent_other))]
+    pub fn hear_silence_other(
+        &mut self,
+        step: &Step<'_>,
+        branch: &[u8],
+        desk: &mut Desk,
+    ) -> Result<(), NoMemory>
+        ensures call { OnOk result (self.new
+            ≡ (silent_other step.now.setting.now branch.now self.old desk.old).call) }
+        ensures desk { OnOk result (desk.new
+            ≡ (silent_other step.now.setting.now branch.now self.old desk.old).desk) }
     {
-        let at = loose_at(self.loose.items(), branch);
-        drop_at(&mut self.loose, at);
+        match loose_at(self.loose.items(), branch) {
+            Some(at) => {
+                drop(self.loose.remove(at));
+                Ok(())
+            }
+            None => match flight_at(self.flights.items(), branch) {
+                None => Ok(()),
+                Some(at) => self.silence_in_flight(step, at, desk),
+            },
+        }
     }
 
     /// No more is heard of the INVITE of this client transaction, which has ended.
@@ -200,7 +218,7 @@ impl Call {
         self.repeat_ack(step.alloc, taken, desk)
     }
 
-    /// A response to an INVITE of this branch that is not the one the call waits on.
+    /// A response to the request of this branch that is not the INVITE the call waits on.
     #[tactic(auto, unfolding(crate::specs::Leaving::answered_other))]
     pub fn hear_other(
         &mut self,
@@ -211,15 +229,18 @@ impl Call {
         desk: &mut Desk,
     ) -> Result<(), NoMemory>
         ensures call { OnOk result (self.new
-            ≡ (answered_other step.now.setting.now key m.now branch.now self.old desk.old).call) }
+            ≡ (answered_other step.now.setting.now step.now.present.at key m.now branch.now self.old desk.old).call) }
         ensures desk { OnOk result (desk.new
-            ≡ (answered_other step.now.setting.now key m.now branch.now self.old desk.old).desk) }
+            ≡ (answered_other step.now.setting.now step.now.present.at key m.now branch.now self.old desk.old).desk) }
     {
         match loose_at(self.loose.items(), branch) {
             Some(at) => self.hear_loose_at(step, key, m, at, desk),
             None => match taken_at(self.taken.items(), branch) {
-                None => Ok(()),
                 Some(at) => self.hear_taken_at(step, key, m, at, desk),
+                None => match flight_at(self.flights.items(), branch) {
+                    None => Ok(()),
+                    Some(at) => self.hear_in_flight(step, m, at, desk),
+                },
             },
         }
     }

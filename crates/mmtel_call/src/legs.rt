@@ -1,19 +1,29 @@
 //! The legs of a call: that of an attempt, and those of both sides once it was answered.
 ghost use Rattle.std.specs.Prelude.{◌≡◌, ◌||◌, ◌==◌, true, None, Some, length, if◌then◌else◌, IfOk, OnErr, OnOk};
+ghost use Rattle.std.specs.Option.{option_copied};
+ghost use Rattle.mmtel_desk.specs.Desks.{token};
+ghost use Rattle.mmtel_desk.specs.Sending.{asked_for};
 ghost use Rattle.mmtel_leg.specs.Dialogues.{met};
 ghost use Rattle.mmtel_leg.specs.Legs.{with_dialogue};
 ghost use Rattle.mmtel_leg.specs.Remotes.{remote_of, tag_in};
 ghost use Rattle.mmtel_types.specs.declared.sides.Side.TheVariants.{Callee};
+ghost use Rattle.mmtel_call.specs.Flights.{having_asked, sent_in};
 ghost use Rattle.mmtel_call.specs.Requests.{having_heard, says};
 ghost use Rattle.mmtel_call.specs.Ringing.{early_said, met_by, tag_given};
 
 use crate::calls::{Pair, Trial, Tried, TriedLeg};
 use crate::closing::give_up_meter;
+use crate::context::Step;
+use crate::flights::ask_leg;
 use mmtel_answers::{Hearing, said_by_callee};
 use mmtel_charging::Meter;
-use mmtel_leg::{CalleeLeg, CallerLeg, DialogueFault, Ended, InFlight, LegOf, Remote, Standing};
-use mmtel_scan::{NoMemory, Text};
-use mmtel_types::{Moment, Side};
+use mmtel_desk::{Desk, Invitation};
+use mmtel_leg::{
+    CalleeLeg, CallerLeg, Dialogue, DialogueFault, Ended, InFlight, LegOf, Remote, Standing,
+};
+use mmtel_message::Line;
+use mmtel_scan::{List, NoMemory, Text};
+use mmtel_types::{Moment, Peer, Side};
 use std::alloc::Global;
 
 /// Takes note of a request of a side, or refuses it.
@@ -61,12 +71,62 @@ pub fn said_with_tag(alloc: Global, response: &Hearing) -> Result<(Remote, Text)
 
 impl Tried {
     /// Whether a response made an early dialog.
-    fn is_early(&self) -> bool
+    pub fn is_early(&self) -> bool
         ensures { result ≡ self.now.is_early }
     {
         match &self.leg {
             TriedLeg::Asked(_) => false,
             TriedLeg::Early(_) => true,
+        }
+    }
+
+    /// The leg's dialog.
+    fn dialogue(&self) -> &Dialogue
+        ensures { result.now ≡ self.now.leg.dialogue }
+    {
+        match &self.leg {
+            TriedLeg::Asked(leg) => leg.dialogue(),
+            TriedLeg::Early(leg) => leg.dialogue(),
+        }
+    }
+
+    /// The peer with which the leg was made.
+    pub fn peer(&self) -> Peer
+        ensures { result ≡ self.now.leg.dialogue.peer }
+    {
+        self.dialogue().peer
+    }
+
+    /// The callee's tag in the early dialog, where there is one.
+    pub fn early_tag(&self) -> Option<&[u8]>
+        ensures { option_copied result ≡ (if self.now.is_early then Some self.now.leg.dialogue.remote_tag else None) }
+    {
+        if !self.is_early() {
+            return None;
+        }
+        Some(self.dialogue().remote_tag.bytes())
+    }
+
+    /// Sends the callee a request of the caller within the early dialog, with these lines of it. Gives it as it was sent.
+    pub fn ask_early(
+        &mut self,
+        step: &Step<'_>,
+        method: &[u8],
+        lines: &List<Line>,
+        m: &Hearing,
+        desk: &mut Desk,
+    ) -> Result<Invitation, NoMemory>
+        requires { self.old.is_early ≡ true }
+        ensures done { OnOk result (desk.new
+            ≡ asked_for step.now.setting.now.sip method.now self.old.leg.dialogue lines.now m.now.heard desk.old) }
+        ensures sent { IfOk result (λ i. i
+            ≡ sent_in (having_asked method.now self.old.leg).dialogue (token desk.old)) }
+        ensures asked { OnOk result (self.new ≡ record self.old { leg = having_asked method.now self.old.leg }) }
+        ensures meter { self.new.leg.meter ≡ self.old.leg.meter }
+    {
+        match &mut self.leg {
+            TriedLeg::Early(leg) => ask_leg(step, method, leg, lines, m, desk),
+            TriedLeg::Asked(_) => unreachable!(),
         }
     }
 

@@ -224,7 +224,7 @@ impl Call {
         }
     }
 
-    /// Ends a call whose leg is away: BYE to the leg that is left, and its rows are closed.
+    /// Ends a call whose leg is away: what is in flight has its answer (RFC 3262 §3, RFC 3311 §5.2), BYE goes to the leg that is left, and its rows are closed.
     ///
     /// # Errors
     ///
@@ -241,6 +241,7 @@ impl Call {
         ensures call { OnOk result (self.new ≡ (finished setting.now at self.old desk.old).call) }
         ensures desk { OnOk result (desk.new ≡ (finished setting.now at self.old desk.old).desk) }
     {
+        self.dismiss(alloc, setting, desk)?;
         match mem::replace(&mut self.phase, Phase::Over(Cause::Ended)) {
             Phase::Lent(loan) => self.end_lent(alloc, setting, at, loan, desk),
             _ => unreachable!(),

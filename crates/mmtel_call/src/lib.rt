@@ -7,8 +7,10 @@ mod attempts;
 mod calls;
 mod closing;
 mod context;
+mod dismissal;
 mod diverting;
 mod expiring;
+mod flights;
 mod giving_up;
 mod leaving;
 mod legs;
@@ -17,15 +19,18 @@ mod offering;
 mod openings;
 mod reinvite_ends;
 mod reinvites;
+mod reliable;
 mod ringing;
 mod sending;
 mod settled;
 mod signals;
 mod stages;
 mod steps;
+mod updates;
 
 pub use calls::{
-    Attempt, Call, Loan, Pair, Phase, Reinvite, Stage, Success, Taken, Trial, Tried, TriedLeg,
+    Attempt, Call, Flight, FlightKind, Loan, Pair, Phase, Reinvite, Stage, Success, Taken, Trial,
+    Tried, TriedLeg,
 };
 pub use lending::NotTalking;
 pub use signals::Signal;

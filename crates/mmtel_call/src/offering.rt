@@ -8,9 +8,9 @@ ghost use Rattle.mmtel_desk.specs.Sending.{offered};
 ghost use Rattle.mmtel_transaction.specs.declared.words.DueWord.TheVariants.{Cap};
 ghost use Rattle.mmtel_transaction.specs.declared.words.Emit.TheVariants.{Arm};
 ghost use Rattle.mmtel_types.specs.declared.causes.Cause.TheVariants.{Ended as HasEnded};
-ghost use Rattle.mmtel_types.specs.declared.sides.Side.TheVariants.{Caller as TheCaller};
 ghost use Rattle.mmtel_charging.specs.declared.rows.Kind.TheVariants.{Terminating};
-ghost use Rattle.mmtel_call_decisions.specs.Showing.{shown_to};
+ghost use Rattle.mmtel_call_decisions.specs.Showing.{offered_to};
+ghost use Rattle.mmtel_reliable.specs.Acks as Acks;
 ghost use Rattle.mmtel_call.specs.Calls.{Offered, Over};
 ghost use Rattle.mmtel_call.specs.Closing.{meter_for};
 ghost use Rattle.mmtel_call.specs.Offering.{dialog_of, longest_time, next_attempt, offer, sent_to};
@@ -27,7 +27,7 @@ use mmtel_leg::{CalleeLeg, CallerLeg, Dialogue, Standing};
 use mmtel_message::Line;
 use mmtel_scan::{List, NoMemory};
 use mmtel_transaction::{DueWord, Emit};
-use mmtel_types::{Moment, Peer, Side};
+use mmtel_types::{Moment, Peer};
 use std::alloc::Global;
 
 /// The longest time that an attempt may take, in milliseconds.
@@ -80,19 +80,11 @@ impl Call {
         peer: Peer,
     ) -> Result<List<Line>, NoMemory>
         ensures { IfOk result (λ ls. ls
-            ≡ shown_to step.now.setting.now self.now.opening self.now.diversions (option_copied service.entry)
-            TheCaller peer self.now.opening.invite) }
+            ≡ offered_to step.now.setting.now self.now.opening self.now.diversions (option_copied service.entry)
+            peer) }
     {
         let opening = &self.opening;
-        opening.shown_to(
-            step.alloc,
-            step.setting,
-            &self.diversions,
-            service,
-            Side::Caller,
-            peer,
-            &opening.invite,
-        )
+        opening.offered_to(step.alloc, step.setting, &self.diversions, service, peer)
     }
 
     /// Arms the longest time that the next attempt may take.
@@ -178,6 +170,7 @@ impl Call {
         requires { self.old.phase ≡ Over HasEnded }
         ensures { self.new ≡ record self.old {
           attempts = next_attempt self.old;
+          acks = Acks.next_attempt self.old.acks;
           phase = Offered (record {
             caller = caller;
             callee = record {
@@ -193,6 +186,7 @@ impl Call {
         let meter = meter_for(Kind::Terminating, self, at, service.as_ref());
         let leg = CalleeLeg::begun(called(dialogue), meter);
         self.attempts = number;
+        self.acks.next_attempt();
         self.put_phase(Phase::Offered(Trial {
             caller,
             callee: Tried {

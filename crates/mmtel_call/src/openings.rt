@@ -1,5 +1,8 @@
 //! How a call opens.
 ghost use Rattle.std.specs.Prelude.{◌≡◌, IfOk, OnOk};
+ghost use Rattle.std.specs.Option.{unwrap_or};
+ghost use Rattle.mmtel_answers.specs.Said.{number_of};
+ghost use Rattle.mmtel_reliable.specs.Acks.{no_answers};
 ghost use Rattle.mmtel_types.specs.declared.causes.Cause.TheVariants.{Ended as HasEnded};
 ghost use Rattle.mmtel_call_decisions.specs.Opening.{first_of, refusal_of};
 ghost use Rattle.mmtel_call_decisions.specs.Site.{standing};
@@ -10,15 +13,24 @@ ghost use Rattle.mmtel_call.specs.Opening.{begins, caller_of, new_call, opened, 
 use crate::calls::{Call, Phase};
 use crate::closing::{give_up_meter, give_up_meters, meter_of};
 use crate::context::Step;
+use mmtel_answers::number_of;
 use mmtel_call_decisions::{Arrival, Diversions, Opening, Present, Setting, opening_of};
 use mmtel_charging::Kind;
 use mmtel_desk::Desk;
 use mmtel_leg::{CallerLeg, Standing};
+use mmtel_reliable::Acks;
 use mmtel_scan::{List, NoMemory};
 use mmtel_targets::Target;
 use mmtel_types::{Cause, Moment};
 use mmtel_waiting::HoldState;
 use std::alloc::Global;
+
+/// No reliable answer was relayed to the INVITE that opens a call.
+fn no_acks(alloc: Global, opening: &Opening) -> Result<Acks, NoMemory>
+    ensures { IfOk result (λ acks. acks ≡ no_answers (unwrap_or (number_of opening.now.invite) 0)) }
+{
+    Acks::new(alloc, number_of(&opening.invite).unwrap_or(0))
+}
 
 /// The first target of a call, and its diversions as it opens.
 fn first_way(step: &Step<'_>, opening: &Opening) -> Result<(Target, Diversions), NoMemory>
@@ -52,8 +64,9 @@ impl Phase {
 
 impl Call {
     /// A call as it opens.
-    fn new(setting: &Setting<'_>, opening: Opening, diversions: Diversions) -> Call
-        requires { diversions ≡ (new_call setting.now opening).diversions }
+    fn new(setting: &Setting<'_>, opening: Opening, diversions: Diversions, acks: Acks) -> Call
+        requires diversions { diversions ≡ (new_call setting.now opening).diversions }
+        requires acks { acks ≡ (new_call setting.now opening).acks }
         ensures { result ≡ new_call setting.now opening }
     {
         Call {
@@ -67,6 +80,8 @@ impl Call {
             answered: None,
             attempts: 0,
             successes: 0,
+            acks,
+            flights: List::new(),
             past: List::new(),
             loose: List::new(),
             taken: List::new(),
@@ -166,6 +181,8 @@ impl Call {
             answered: _,
             attempts: _,
             successes: _,
+            acks,
+            flights,
             past,
             loose,
             taken,
@@ -173,10 +190,46 @@ impl Call {
         } = self;
         drop(opening);
         drop(diversions);
+        drop(acks);
+        drop(flights);
         drop(loose);
         drop(taken);
         phase.give_up(at);
         give_up_meters(past, at);
+    }
+
+    /// The call of this opening begins, to whose INVITE no reliable answer was relayed.
+    fn open_with(
+        step: &Step<'_>,
+        opening: Opening,
+        acks: Acks,
+        desk: &mut Desk,
+    ) -> Result<Call, NoMemory>
+        requires { acks ≡ (new_call step.now.setting.now opening).acks }
+        ensures call { IfOk result (λ c. c
+            ≡ (begins step.now.setting.now (standing step.now.present) (new_call step.now.setting.now opening)
+            desk.old).call) }
+        ensures desk { OnOk result (desk.new
+            ≡ (begins step.now.setting.now (standing step.now.present) (new_call step.now.setting.now opening)
+            desk.old).desk) }
+    {
+        match first_way(step, &opening) {
+            Err(error) => {
+                drop(acks);
+                drop(opening);
+                Err(error)
+            }
+            Ok((target, diversions)) => {
+                let mut call = Call::new(step.setting, opening, diversions, acks);
+                match call.begin(step, target, desk) {
+                    Ok(()) => Ok(call),
+                    Err(error) => {
+                        call.give_up(step.present.at);
+                        Err(error)
+                    }
+                }
+            }
+        }
     }
 
     /// The call of this opening begins.
@@ -188,21 +241,12 @@ impl Call {
             ≡ (begins step.now.setting.now (standing step.now.present) (new_call step.now.setting.now opening)
             desk.old).desk) }
     {
-        match first_way(step, &opening) {
+        match no_acks(step.alloc, &opening) {
             Err(error) => {
                 drop(opening);
                 Err(error)
             }
-            Ok((target, diversions)) => {
-                let mut call = Call::new(step.setting, opening, diversions);
-                match call.begin(step, target, desk) {
-                    Ok(()) => Ok(call),
-                    Err(error) => {
-                        call.give_up(step.present.at);
-                        Err(error)
-                    }
-                }
-            }
+            Ok(acks) => Call::open_with(step, opening, acks, desk),
         }
     }
 

@@ -24,7 +24,7 @@ use std::alloc::Global;
 use std::mem;
 
 /// Whether the status ends the dialog (RFC 5057 §5.1).
-fn ends_dialog(code: u16) -> bool
+pub fn ends_dialog(code: u16) -> bool
     ensures { result ≡ ends_dialog code }
 {
     code == 408 || code == 481

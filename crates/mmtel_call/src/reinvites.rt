@@ -1,5 +1,5 @@
 //! An INVITE of a side of an answered call, which goes to the other side, and may be cancelled.
-ghost use Rattle.std.specs.Prelude.{◌≡◌, if◌then◌else◌, IfOk, OnOk, codes};
+ghost use Rattle.std.specs.Prelude.{◌≡◌, if◌then◌else◌, IfOk, OnOk};
 ghost use Rattle.mmtel_desk.specs.Desks.{token};
 ghost use Rattle.mmtel_desk.specs.Invitations.{has_said, once_cancelled};
 ghost use Rattle.mmtel_desk.specs.Sending.{asked_for};
@@ -8,6 +8,7 @@ ghost use Rattle.mmtel_types.specs.Sides.{other_of};
 ghost use Rattle.mmtel_types.specs.declared.causes.Cause.TheVariants.{Ended as HasEnded};
 ghost use Rattle.mmtel_call.specs.Answered.{leg_of, with_leg};
 ghost use Rattle.mmtel_call.specs.Calls.{Over};
+ghost use Rattle.mmtel_call.specs.Flights.{having_asked};
 ghost use Rattle.mmtel_call.specs.Reinvites.{asked_across, cancelled_across, cancelled_if_due, cancelling};
 ghost use Rattle.mmtel_call.specs.Reinvites.{having_invited, invited, on_response_across, proceeding, proceeding_across, sent_in};
 ghost use Rattle.mmtel_call.specs.Sending.{replied_to};
@@ -15,6 +16,7 @@ ghost use Rattle.mmtel_call.specs.Sending.{replied_to};
 use crate::attempts::has_said;
 use crate::calls::{Call, Pair, Phase, Reinvite, Stage};
 use crate::context::Step;
+use crate::flights::ask_leg;
 use crate::signals::SideRequest;
 use mmtel_answers::{Hearing, status_of};
 use mmtel_desk::{Desk, Invitation, once_cancelled};
@@ -34,8 +36,8 @@ pub struct RelayedInvite {
     pub invite: Reinvite,
 }
 
-/// The INVITE as it was sent in this dialog.
-fn sent_in(alloc: Global, dialogue: &Dialogue, branch: Text) -> Result<Invitation, NoMemory>
+/// A request as it was sent in this dialog.
+pub fn sent_in(alloc: Global, dialogue: &Dialogue, branch: Text) -> Result<Invitation, NoMemory>
     ensures { IfOk result (λ i. i ≡ sent_in dialogue.now branch) }
 {
     match dialogue.copied(alloc) {
@@ -131,43 +133,30 @@ impl Pair {
         }
     }
 
-    /// Sends a side the INVITE of the other one, with these lines of it. Gives the INVITE as it was sent.
-    fn invite(
+    /// Sends a side the request of the other one, with these lines of it. Gives it as it was sent.
+    pub fn ask(
         &mut self,
         step: &Step<'_>,
+        method: &[u8],
         side: Side,
         lines: &List<Line>,
         m: &Hearing,
         desk: &mut Desk,
     ) -> Result<Invitation, NoMemory>
         ensures done { OnOk result (desk.new
-            ≡ asked_for step.now.setting.now.sip (codes "INVITE") (leg_of side self.old).dialogue lines.now
-            m.now.heard desk.old) }
-        ensures invitation { IfOk result (λ i. i
-            ≡ sent_in (having_invited (leg_of side self.old)).dialogue (token desk.old)) }
-        ensures leg { OnOk result (self.new ≡ with_leg side (having_invited (leg_of side self.old)) self.old) }
+            ≡ asked_for step.now.setting.now.sip method.now (leg_of side self.old).dialogue lines.now m.now.heard
+            desk.old) }
+        ensures sent { IfOk result (λ i. i
+            ≡ sent_in (having_asked method.now (leg_of side self.old)).dialogue (token desk.old)) }
+        ensures leg { OnOk result (self.new
+            ≡ with_leg side (having_asked method.now (leg_of side self.old)) self.old) }
         ensures caller { self.new.caller.meter ≡ self.old.caller.meter }
         ensures callee { self.new.callee.meter ≡ self.old.callee.meter }
     {
-        let branch = match side {
-            Side::Caller => desk.ask_for(
-                step.alloc,
-                step.sip(),
-                b"INVITE",
-                &mut self.caller,
-                lines,
-                m,
-            )?,
-            Side::Callee => desk.ask_for(
-                step.alloc,
-                step.sip(),
-                b"INVITE",
-                &mut self.callee,
-                lines,
-                m,
-            )?,
-        };
-        sent_in(step.alloc, self.dialogue_of(side), branch)
+        match side {
+            Side::Caller => ask_leg(step, method, &mut self.caller, lines, m, desk),
+            Side::Callee => ask_leg(step, method, &mut self.callee, lines, m, desk),
+        }
     }
 }
 
@@ -192,7 +181,7 @@ impl Call {
         let hearing = &request.hearing;
         self.reply_to(step, request.key, hearing, 100, desk)?;
         let lines = self.shown_across(step, x, side, hearing)?;
-        let invited = x.invite(step, side.other(), &lines, hearing, desk);
+        let invited = x.ask(step, b"INVITE", side.other(), &lines, hearing, desk);
         drop(lines);
         invited
     }

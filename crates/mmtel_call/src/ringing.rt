@@ -25,6 +25,7 @@ use mmtel_lex::Uri;
 use mmtel_precedence::{AttemptEnd, AttemptTimeout, end_by_final, end_by_timeout};
 use mmtel_scan::NoMemory;
 use mmtel_transaction::{DueWord, TKey};
+use mmtel_types::Cause;
 
 impl Call {
     /// An attempt of this account ended so, its leg with it; a final that was heard may be handed on.
@@ -353,6 +354,9 @@ impl Call {
             DueWord::Cap(number) if number == x.attempt.number => {
                 let how = end_by_timeout(AttemptTimeout::LongestTime, x.attempt.rang);
                 self.time_out_offered(step, x, &how, desk)
+            }
+            DueWord::NoPrack(own) if self.acks.is_waiting(own) => {
+                self.give_up_offered(step, x, Cause::Unacknowledged, desk)
             }
             DueWord::NoReply(_)
             | DueWord::NoPrack(_)

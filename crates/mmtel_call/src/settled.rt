@@ -1,8 +1,9 @@
-//! Whether a call lives, whether anything may still be heard of it, and which INVITEs are its.
+//! Whether a call lives, whether anything may still be heard of it, and which requests are its.
 ghost use Rattle.std.specs.Prelude.{◌≡◌};
 ghost use Rattle.mmtel_call.specs.Settled.{has_heard, has_sent, is_over_in, is_settled};
 
 use crate::calls::{Call, Phase};
+use crate::flights::flight_at;
 use crate::leaving::{taken_at, taken_of};
 use mmtel_desk::{loose_at, loose_of};
 use mmtel_transaction::TKey;
@@ -28,7 +29,8 @@ impl Call {
         self.is_over() && self.loose.items().len() == 0 && self.taken.items().len() == 0
     }
 
-    /// Whether an INVITE of the call has this branch, behind its cookie: the one that it waits on, one that was left, or one that had a 2xx.
+    /// Whether a request of the call that may be answered has this branch, behind its cookie: the INVITE that it waits on, one that was left, one that had a 2xx, or what is in
+    /// flight.
     #[tactic(auto, unfolding(crate::specs::Settled::has_sent))]
     pub fn has_sent(&self, branch: &[u8]) -> bool
         ensures { result ≡ has_sent branch.now self.now }
@@ -36,6 +38,7 @@ impl Call {
         self.phase.waits_on(branch)
             || loose_at(self.loose.items(), branch).is_some()
             || taken_at(self.taken.items(), branch).is_some()
+            || flight_at(self.flights.items(), branch).is_some()
     }
 
     /// Whether an INVITE of the call that had an answer had it by this client transaction.

@@ -1,13 +1,12 @@
 //! What an answered call does on each signal, by its stage.
-ghost use Rattle.std.specs.Prelude.{◌≡◌, if◌then◌else◌, OnErr, OnOk};
+ghost use Rattle.std.specs.Prelude.{◌≡◌, OnErr, OnOk};
 ghost use Rattle.mmtel_types.specs.declared.causes.Cause.TheVariants.{Ended as HasEnded};
 ghost use Rattle.mmtel_call.specs.Calls.{Over, Stood};
 ghost use Rattle.mmtel_call.specs.Stages.{acked_at, busy_in, has_left, is_ack_at, is_due_at, left_by, on_ack_at, on_bye, on_cancel_at, on_due_at, on_heard_at, on_invite, on_request_at};
-ghost use Rattle.mmtel_call.specs.Stages.{on_response_at, on_silence_at, rung_out};
+ghost use Rattle.mmtel_call.specs.Stages.{on_other_at, on_response_at, on_silence_at, rung_out};
 ghost use Rattle.mmtel_call.specs.Answered.{leg_of, with_leg};
-ghost use Rattle.mmtel_call.specs.Closing.{onward};
 ghost use Rattle.mmtel_call.specs.Reinvites.{silenced_across};
-ghost use Rattle.mmtel_call.specs.Requests.{having_heard, is_bye, says, unlisted};
+ghost use Rattle.mmtel_call.specs.Requests.{having_heard, says};
 
 use crate::answered::acknowledges;
 use crate::calls::{Call, Pair, Phase, Reinvite, Stage};
@@ -59,7 +58,7 @@ impl Pair {
 
 impl Stage {
     /// Whether a deadline is that of the 2xx which waits for its ACK, or else the expiry of the session, where so many 2xx went to a side.
-    fn is_due(&self, successes: u64, what: DueWord) -> bool
+    pub fn is_due(&self, successes: u64, what: DueWord) -> bool
         ensures { result ≡ is_due_at self.now successes what }
     {
         match self {
@@ -214,33 +213,30 @@ impl Call {
         left
     }
 
-    /// A request of a side that its leg heard, other than INVITE.
+    /// A request of a side that its leg heard, other than INVITE, BYE and UPDATE: a PRACK, which acknowledges nothing here, or what has no row.
     fn take_other_request(
         &mut self,
         step: &Step<'_>,
-        x: Pair,
-        stage: Stage,
-        request: &SideRequest,
+        phase: Phase,
+        request: SideRequest,
         desk: &mut Desk,
     ) -> Result<(), NoMemory>
         requires { self.old.phase ≡ Over HasEnded }
         ensures call { OnOk result (self.new
-            ≡ (if is_bye request.now.hearing then on_bye stage step.now.setting.now step.now.present.at x
-            request.now.side request.now.key request.now.hearing (record self.old { phase = Stood x stage }) desk.old
-            else onward (record self.old { phase = Stood x stage })
-            (unlisted step.now.setting.now self.old request.now.key request.now.hearing desk.old)).call) }
+            ≡ (on_other_at step.now.setting.now request.key request.hearing (record self.old { phase = phase })
+            desk.old).call) }
         ensures desk { OnOk result (desk.new
-            ≡ (if is_bye request.now.hearing then on_bye stage step.now.setting.now step.now.present.at x
-            request.now.side request.now.key request.now.hearing (record self.old { phase = Stood x stage }) desk.old
-            else onward (record self.old { phase = Stood x stage })
-            (unlisted step.now.setting.now self.old request.now.key request.now.hearing desk.old)).desk) }
+            ≡ (on_other_at step.now.setting.now request.key request.hearing (record self.old { phase = phase })
+            desk.old).desk) }
     {
         let hearing = &request.hearing;
-        if is_method(b"BYE", hearing.message.start()) {
-            return self.take_bye(step, x, stage, request, desk);
+        if is_method(b"PRACK", hearing.message.start()) {
+            let refused = self.refuse_prack(step, request.key, hearing, desk);
+            self.pass_over(phase, request);
+            return refused;
         }
         let answered = self.answer_unlisted(step, request.key, hearing, desk);
-        self.put_phase(Phase::Stood(x, stage));
+        self.pass_over(phase, request);
         answered
     }
 
@@ -264,9 +260,15 @@ impl Call {
         if is_method(b"INVITE", request.hearing.message.start()) {
             return self.take_invite(step, x, stage, request, desk);
         }
-        let taken = self.take_other_request(step, x, stage, &request, desk);
-        drop(request);
-        taken
+        if is_method(b"BYE", request.hearing.message.start()) {
+            let taken = self.take_bye(step, x, stage, &request, desk);
+            drop(request);
+            return taken;
+        }
+        if is_method(b"UPDATE", request.hearing.message.start()) {
+            return self.hear_update_at(step, x, stage, request, desk);
+        }
+        self.take_other_request(step, Phase::Stood(x, stage), request, desk)
     }
 
     /// A request of a side of an answered call.

@@ -1,13 +1,14 @@
 //! The step table of a call: which INVITE a response answers, and what a call does on each signal, by its phase.
-ghost use Rattle.std.specs.Prelude.{◌≡◌, OnOk};
+ghost use Rattle.std.specs.Prelude.{◌≡◌, if◌then◌else◌, OnOk};
 ghost use Rattle.std.specs.Option.{option_copied};
 ghost use Rattle.mmtel_answers.specs.Said.{status_of};
 ghost use Rattle.mmtel_types.specs.declared.causes.Cause.TheVariants.{Ended as HasEnded};
 ghost use Rattle.mmtel_desk.specs.Invites.{invite_answered, invite_silent};
 ghost use Rattle.mmtel_call_decisions.specs.Site.{standing};
 ghost use Rattle.mmtel_call.specs.Calls.{Offered, Over};
+ghost use Rattle.mmtel_call.specs.Flights.{dismissed, dismissing};
 ghost use Rattle.mmtel_call.specs.Ringing.{on_response};
-ghost use Rattle.mmtel_call.specs.Table.{ack_in, answer_to, cancel_in, current, due_in, is_branch, request_in, response_in, silence_in, silence_of, step, step as step_of};
+ghost use Rattle.mmtel_call.specs.Table.{ack_in, answer_to, cancel_in, current, due_in, is_branch, leaves, request_in, response_in, row, silence_in, silence_of, step};
 
 use crate::calls::{Call, Phase, Stage, Trial};
 use crate::context::Step;
@@ -56,11 +57,7 @@ impl Call {
             request.hearing self.old desk.old).desk) }
     {
         match mem::replace(&mut self.phase, Phase::Over(Cause::Ended)) {
-            Phase::Offered(x) => {
-                let heard = self.hear_request_offered(step, x, &request, desk);
-                drop(request);
-                heard
-            }
+            Phase::Offered(x) => { self.hear_request_offered(step, x, request, desk) }
             Phase::Stood(x, stage) => { self.hear_request_at(step, x, stage, request, desk) }
             Phase::Lent(loan) => {
                 drop(request);
@@ -241,8 +238,7 @@ impl Call {
         if self.phase.waits_on(branch) {
             return self.hear_silence_of(step, desk);
         }
-        self.drop_silent(branch);
-        Ok(())
+        self.hear_silence_other(step, branch, desk)
     }
 
     /// A response.
@@ -290,11 +286,36 @@ impl Call {
         ensures desk { OnOk result (desk.new
             ≡ (step setting.now (standing present.now) signal self.old desk.old).desk) }
     {
-        self.hear_signal(&Step::new(alloc, setting, present), signal, desk)
+        match self.dismiss_before(alloc, setting, &signal, desk) {
+            Err(error) => {
+                drop(signal);
+                Err(error)
+            }
+            Ok(()) => self.hear_signal(&Step::new(alloc, setting, present), signal, desk),
+        }
     }
 
-    /// The same, of what the step is given as one value.
-    #[tactic(auto, unfolding(crate::specs::Table::step))]
+    /// What is in flight has its answer, where the step leaves the attempt or ends the call.
+    fn dismiss_before(
+        &mut self,
+        alloc: Global,
+        setting: &Setting<'_>,
+        signal: &Signal,
+        desk: &mut Desk,
+    ) -> Result<(), NoMemory>
+        ensures call { OnOk result (self.new
+            ≡ (if leaves signal.now self.old then dismissed self.old else self.old)) }
+        ensures desk { OnOk result (desk.new
+            ≡ (if leaves signal.now self.old then dismissing setting.now self.old desk.old else desk.old)) }
+    {
+        if self.leaves(alloc, signal)? {
+            return self.dismiss(alloc, setting, desk);
+        }
+        Ok(())
+    }
+
+    /// What the step table has for a signal.
+    #[tactic(auto, unfolding(crate::specs::Table::row))]
     fn hear_signal(
         &mut self,
         step: &Step<'_>,
@@ -302,9 +323,9 @@ impl Call {
         desk: &mut Desk,
     ) -> Result<(), NoMemory>
         ensures call { OnOk result (self.new
-            ≡ (step_of step.now.setting.now (standing step.now.present) signal self.old desk.old).call) }
+            ≡ (row step.now.setting.now (standing step.now.present) signal self.old desk.old).call) }
         ensures desk { OnOk result (desk.new
-            ≡ (step_of step.now.setting.now (standing step.now.present) signal self.old desk.old).desk) }
+            ≡ (row step.now.setting.now (standing step.now.present) signal self.old desk.old).desk) }
     {
         match signal {
             Signal::Request { side, key, request } => {

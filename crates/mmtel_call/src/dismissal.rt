@@ -1,0 +1,243 @@
+//! Which signals leave the attempt of an offered call, or end a call that was answered: before all else of such a step what is in flight has its answer (RFC 3262 §3, RFC 3311
+//! §5.2).
+ghost use Rattle.std.specs.Prelude.{◌≡◌, IfOk};
+ghost use Rattle.std.specs.Option.{option_copied};
+ghost use Rattle.mmtel_call.specs.Dismissal.{ends_by_bye, is_bye_in, is_in_order, leaves_by_bye, leaves_by_bye_at, leaves_on_ack, leaves_on_ack_at, leaves_on_cancel, leaves_on_due, leaves_on_request};
+ghost use Rattle.mmtel_call.specs.Dismissal.{leaves_on_silence, leaves_on_silence_at, leaves_on_status, leaves_on_status_at, leaves_on_time};
+ghost use Rattle.mmtel_call.specs.Table.{leaves, leaves_on_no_response, leaves_on_response};
+
+use crate::answered::acknowledges;
+use crate::calls::{Call, Pair, Phase, Stage, Trial};
+use crate::reinvite_ends::ends_dialog;
+use crate::signals::Signal;
+use mmtel_answers::{Hearing, number_of, status_of};
+use mmtel_call_decisions::is_same_side;
+use mmtel_desk::{invite_answered, invite_silent};
+use mmtel_leg::Dialogue;
+use mmtel_message::is_method;
+use mmtel_scan::NoMemory;
+use mmtel_transaction::{DueWord, TKey};
+use mmtel_types::Side;
+use std::alloc::Global;
+
+/// Whether a request is not older than the last one of its dialog that was heard (RFC 3261 §12.2.2).
+fn is_in_order(dialogue: &Dialogue, m: &Hearing) -> bool
+    ensures { result ≡ is_in_order dialogue.now m.now }
+{
+    match number_of(m) {
+        None => true,
+        Some(number) => match dialogue.last {
+            None => true,
+            Some(last) => number >= last,
+        },
+    }
+}
+
+/// Whether a request is a BYE that is heard in this dialog.
+fn is_bye_in(dialogue: &Dialogue, m: &Hearing) -> bool
+    ensures { result ≡ is_bye_in dialogue.now m.now }
+{
+    is_method(b"BYE", m.message.start()) && is_in_order(dialogue, m)
+}
+
+impl Stage {
+    fn leaves_on_status(&self, code: u16) -> bool
+        ensures { result ≡ leaves_on_status_at self.now code }
+    {
+        match self {
+            Stage::Asking(_, _) => ends_dialog(code),
+            Stage::Answered(_, _) | Stage::Parting(_, _) | Stage::Talking => false,
+        }
+    }
+
+    fn leaves_on_silence(&self) -> bool
+        ensures { result ≡ leaves_on_silence_at self.now }
+    {
+        match self {
+            Stage::Asking(_, _) => true,
+            Stage::Answered(_, _) | Stage::Parting(_, _) | Stage::Talking => false,
+        }
+    }
+
+    /// Whether a BYE of this side ends the call: no side is left to which an ACK, or the BYE, is owed.
+    fn ends_by_bye(&self, side: Side) -> bool
+        ensures { result ≡ ends_by_bye self.now side }
+    {
+        match self {
+            Stage::Answered(waiting, _) => is_same_side(*waiting, side),
+            Stage::Parting(waiting, _) => is_same_side(*waiting, side),
+            Stage::Talking | Stage::Asking(_, _) => true,
+        }
+    }
+
+    fn leaves_on_ack(&self, side: Side, m: &Hearing) -> bool
+        ensures { result ≡ leaves_on_ack_at self.now side m.now }
+    {
+        match self {
+            Stage::Parting(waiting, success) => acknowledges(*waiting, success, side, m),
+            Stage::Answered(_, _) | Stage::Talking | Stage::Asking(_, _) => false,
+        }
+    }
+}
+
+impl Trial {
+    /// Whether a request of a side is the BYE by which the caller gives up.
+    fn leaves_by_bye(&self, side: Side, m: &Hearing) -> bool
+        ensures { result ≡ leaves_by_bye self.now side m.now }
+    {
+        match side {
+            Side::Caller => is_bye_in(self.caller.dialogue(), m),
+            Side::Callee => false,
+        }
+    }
+}
+
+impl Pair {
+    /// Whether a request of a side is the BYE that ends the call.
+    fn leaves_by_bye(&self, stage: &Stage, side: Side, m: &Hearing) -> bool
+        ensures { result ≡ leaves_by_bye_at stage.now self.now side m.now }
+    {
+        is_bye_in(self.dialogue_of(side), m) && stage.ends_by_bye(side)
+    }
+}
+
+impl Phase {
+    /// Whether a response with this status, to the INVITE that the call waits on, leaves the attempt or ends the call.
+    fn leaves_on_status(&self, code: u16) -> bool
+        ensures { result ≡ leaves_on_status code self.now }
+    {
+        match self {
+            Phase::Offered(_) => code >= 300,
+            Phase::Stood(_, stage) => stage.leaves_on_status(code),
+            Phase::Lent(_) | Phase::Over(_) => false,
+        }
+    }
+
+    /// Whether its silence does.
+    fn leaves_on_silence(&self) -> bool
+        ensures { result ≡ leaves_on_silence self.now }
+    {
+        match self {
+            Phase::Offered(x) => !x.attempt.rang,
+            Phase::Stood(_, stage) => stage.leaves_on_silence(),
+            Phase::Lent(_) | Phase::Over(_) => false,
+        }
+    }
+
+    /// Whether this request of a side does.
+    fn leaves_on_request(&self, side: Side, m: &Hearing) -> bool
+        ensures { result ≡ leaves_on_request self.now side m.now }
+    {
+        match self {
+            Phase::Offered(x) => x.leaves_by_bye(side, m),
+            Phase::Stood(x, stage) => x.leaves_by_bye(stage, side, m),
+            Phase::Lent(_) | Phase::Over(_) => false,
+        }
+    }
+
+    /// Whether this ACK of a side does.
+    fn leaves_on_ack(&self, side: Side, m: &Hearing) -> bool
+        ensures { result ≡ leaves_on_ack self.now side m.now }
+    {
+        match self {
+            Phase::Stood(_, stage) => stage.leaves_on_ack(side, m),
+            Phase::Offered(_) | Phase::Lent(_) | Phase::Over(_) => false,
+        }
+    }
+}
+
+impl Call {
+    /// Whether a CANCEL of this INVITE leaves the attempt.
+    fn leaves_on_cancel(&self, invite: TKey) -> bool
+        ensures { result ≡ leaves_on_cancel self.now.phase invite self.now }
+    {
+        match &self.phase {
+            Phase::Offered(_) => invite.0 == self.opening.key.0,
+            Phase::Stood(_, _) | Phase::Lent(_) | Phase::Over(_) => false,
+        }
+    }
+
+    /// Whether a deadline leaves this attempt.
+    fn leaves_on_time(&self, x: &Trial, what: DueWord) -> bool
+        ensures { result ≡ leaves_on_time x.now what self.now }
+    {
+        match what {
+            DueWord::NoReply(number) | DueWord::Cap(number) => number == x.attempt.number,
+            DueWord::NoPrack(own) => self.acks.is_waiting(own),
+            DueWord::NoAck(_) | DueWord::Expired(_) => false,
+        }
+    }
+
+    /// Whether a deadline leaves the attempt or ends the call.
+    fn leaves_on_due(&self, what: DueWord) -> bool
+        ensures { result ≡ leaves_on_due self.now.phase what self.now }
+    {
+        match &self.phase {
+            Phase::Offered(x) => self.leaves_on_time(x, what),
+            Phase::Stood(_, stage) => stage.is_due(self.successes, what),
+            Phase::Lent(_) | Phase::Over(_) => false,
+        }
+    }
+
+    /// Whether a response to the request of this branch does.
+    fn leaves_on_response(&self, branch: Option<&[u8]>, m: &Hearing) -> bool
+        ensures { result ≡ leaves_on_response (option_copied branch.entry) m.now self.now }
+    {
+        match branch {
+            None => false,
+            Some(branch) => {
+                self.phase.waits_on(branch)
+                    && self.phase.leaves_on_status(status_of(m.message.start()))
+            }
+        }
+    }
+
+    /// Whether silence of the request of this branch does.
+    fn leaves_on_no_response(&self, branch: Option<&[u8]>) -> bool
+        ensures { result ≡ leaves_on_no_response (option_copied branch.entry) self.now }
+    {
+        match branch {
+            None => false,
+            Some(branch) => self.phase.waits_on(branch) && self.phase.leaves_on_silence(),
+        }
+    }
+
+    /// Whether what is heard leaves the attempt of an offered call, or ends a call that was answered.
+    ///
+    /// # Errors
+    ///
+    /// Want of memory alone.
+    pub fn leaves(&self, alloc: Global, signal: &Signal) -> Result<bool, NoMemory>
+        ensures { IfOk result (λ yes. yes ≡ leaves signal.now self.now) }
+    {
+        match signal {
+            Signal::Request {
+                side,
+                key: _,
+                request,
+            } => Ok(self.phase.leaves_on_request(*side, request)),
+            Signal::Ack { side, ack } => Ok(self.phase.leaves_on_ack(*side, ack)),
+            Signal::Cancel {
+                key: _,
+                cancel: _,
+                invite,
+            } => Ok(self.leaves_on_cancel(*invite)),
+            Signal::Answer { key: _, response } => {
+                let answered = invite_answered(alloc, response)?;
+                let branch = match &answered {
+                    None => None,
+                    Some(branch) => Some(branch.bytes()),
+                };
+                let leaves = self.leaves_on_response(branch, response);
+                drop(answered);
+                Ok(leaves)
+            }
+            Signal::Silent { branch, method } => {
+                let silent = invite_silent(branch.bytes(), method.bytes());
+                Ok(self.leaves_on_no_response(silent))
+            }
+            Signal::Due { what } => Ok(self.leaves_on_due(*what)),
+            Signal::Ended { key: _ } => Ok(false),
+        }
+    }
+}

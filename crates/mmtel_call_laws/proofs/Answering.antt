@@ -1,6 +1,6 @@
 -- What an answered call does on each signal: it stands, or both sides leave; and a call that is over does nothing.
-use Rattle.std.proofs.Common.{◌≡◌, ℕ, ◌==◌, Bool, true, false, List, refl, ◌∙◌}
-use Rattle.std.specs.Prelude.{Option, Some, None, if◌then◌else◌, nat_lt, not, Result, Ok, Err}
+use Rattle.std.proofs.Common.{◌≡◌, ℕ, ◌==◌, Bool, true, false, List, refl, subst, sym, ◌∙◌}
+use Rattle.std.specs.Prelude.{Option, Some, None, codes, if◌then◌else◌, nat_lt, not, Result, Ok, Err}
 use Rattle.mmtel_answers.specs.Said.{Said, status_of}
 use Rattle.mmtel_charging.specs.declared.rows.Row.{Row}
 use Rattle.mmtel_desk.specs.Invitations.{has_said}
@@ -17,12 +17,15 @@ use Rattle.mmtel_call_decisions.specs.Requests.{is_same_side}
 use Rattle.mmtel_call_decisions.specs.Site.{Site}
 use Rattle.mmtel_call.specs.Answered.{acknowledges, at_stage, leg_of, with_leg}
 use Rattle.mmtel_call.specs.Closing.{Step, onward, over_stood}
+use Rattle.mmtel_call.specs.Flights.{dismissed, dismissing, having_asked, updating}
 use Rattle.mmtel_call.specs.Reinvites.{ends_dialog, loose_across, on_response_across, refused_back}
-use Rattle.mmtel_call.specs.Requests.{having_heard, is_bye, is_invite, says, unheard, unlisted}
+use Rattle.mmtel_call.specs.Reliable.{prack_refused}
+use Rattle.mmtel_call.specs.Requests.{having_heard, is_bye, is_invite, is_prack, is_update, says, unheard, unlisted}
 use Rattle.mmtel_call.specs.Ringing.{with_loose}
 use Rattle.mmtel_call.specs.Sending.{replied_to}
 use Rattle.mmtel_call.specs.Stages.{busy_in, is_due_at, on_ack_at, on_bye, on_cancel_at, on_heard_at, on_invite, on_request_at_if, on_response_at, on_silence_at, rung_out}
-use Rattle.mmtel_call.specs.Table.{answer_to, current_at, is_branch, silence_of, step}
+use Rattle.mmtel_call.specs.Table.{answer_to, current_at, is_branch, leaves as leaves_by, leaves_on_no_response, leaves_on_response, row, silence_of, step}
+use Rattle.mmtel_call.specs.Updates.{crossing, later, on_update_at, unless_updating, updated_across}
 use Rattle.mmtel_call.specs.declared.calls.Call.{Call}
 use Rattle.mmtel_call.specs.declared.calls.Pair.{Pair}
 use Rattle.mmtel_call.specs.declared.calls.Phase.TheVariants.{Over, Stood}
@@ -31,7 +34,7 @@ use Rattle.mmtel_call.specs.declared.calls.Stage.{Stage}
 use Rattle.mmtel_call.specs.declared.calls.Stage.TheVariants.{Answered, Asking, Parting, Talking}
 use Rattle.mmtel_call.specs.declared.signals.Signal.{Signal}
 use Rattle.mmtel_call.specs.declared.signals.Signal.TheVariants as signal
-use Rattle.mmtel_call_laws.proofs.Untouched.{Alike, Untouched, cancelled-rows, if-rows, key-untouched, other-untouched, silent-untouched, unheard-rows, unlisted-rows, untouched}
+use Rattle.mmtel_call_laws.proofs.Untouched.{Alike, Untouched, cancelled-rows, dismissing-rows, if-rows, key-untouched, other-untouched, silent-untouched, unheard-rows, unlisted-rows, untouched}
 
 -- it stands
 pub record StillStands (x : Pair) (c : Call) (rows : List Row) (s : Step) (y : Pair) (stage : Stage) : Type 0 where
@@ -94,12 +97,36 @@ bye-goes Talking site at x y side key m c desk e f =
 bye-goes (Asking asking q) site at x y side key m c desk e f =
     Leaves y (with_loose (loose_across y asking side q) (at_stage y (Asking asking q) c)) _ (record { is = refl; same = record { opening = refl; diversions = refl; answered = refl; past = refl }; caller = e; callee = f; none = refl })
 
+unless-goes : (flying : Option Side) (f : Call → Desk → Step) (site : Site) (at : ℕ) (x y : Pair) (stage : Stage) (side : Side) (key : TKey) (m : Said) (c : Call) (desk : Desk) → y.caller.meter ≡ x.caller.meter →
+    y.callee.meter ≡ x.callee.meter →
+    GoesOn at x c desk.rows (f (at_stage y stage c) desk) → GoesOn at x c desk.rows (unless_updating flying f site side key m (at_stage y stage c) desk)
+unless-goes None f site at x y stage side key m c desk e f2 goes = goes
+unless-goes (Some other) f site at x y stage side key m c desk e f2 goes =
+    goes-if at x c desk.rows (is_same_side other side) (later site key m (at_stage y stage c) desk) (crossing site key m (at_stage y stage c) desk) (stands at x c desk.rows y stage _ e f2 refl) (stands at x c desk.rows y stage _ e f2 refl)
+
+update-goes : (stage : Stage) (site : Site) (at : ℕ) (x y : Pair) (side : Side) (key : TKey) (m : Said) (c : Call) (desk : Desk) → y.caller.meter ≡ x.caller.meter → y.callee.meter ≡ x.callee.meter →
+    GoesOn at x c desk.rows (on_update_at stage site y side key m (at_stage y stage c) desk)
+update-goes (Answered waiting success) site at x y side key m c desk e f = stands at x c desk.rows y (Answered waiting success) _ e f refl
+update-goes (Parting waiting success) site at x y side key m c desk e f = stands at x c desk.rows y (Parting waiting success) _ e f refl
+update-goes Talking site at x y Caller key m c desk e f =
+    unless-goes (updating c.flights) (updated_across site y Caller key m) site at x y Talking Caller key m c desk e f
+    (Stands (with_leg Callee (having_asked (codes "UPDATE") y.callee) y) Talking (record { phase = refl; same = record { opening = refl; diversions = refl; answered = refl; past = refl }; caller = e; callee = f; none = refl }))
+update-goes Talking site at x y Callee key m c desk e f =
+    unless-goes (updating c.flights) (updated_across site y Callee key m) site at x y Talking Callee key m c desk e f
+    (Stands (with_leg Caller (having_asked (codes "UPDATE") y.caller) y) Talking (record { phase = refl; same = record { opening = refl; diversions = refl; answered = refl; past = refl }; caller = e; callee = f; none = refl }))
+update-goes (Asking asking q) site at x y side key m c desk e f = stands at x c desk.rows y (Asking asking q) _ e f refl
+
 heard-goes : (stage : Stage) (site : Site) (at : ℕ) (x y : Pair) (side : Side) (key : TKey) (m : Said) (c : Call) (desk : Desk) → y.caller.meter ≡ x.caller.meter → y.callee.meter ≡ x.callee.meter →
     GoesOn at x c desk.rows (on_heard_at stage site at y side key m (at_stage y stage c) desk)
 heard-goes stage site at x y side key m c desk e f =
-    goes-if at x c desk.rows (is_invite m) _ _ (invite-goes stage site at x y side key m c desk e f)
-    (goes-if at x c desk.rows (is_bye m) _ _ (bye-goes stage site at x y side key m c desk e f)
-    (stands at x c desk.rows y stage (unlisted site (at_stage y stage c) key m desk) e f (unlisted-rows site (at_stage y stage c) key m desk)))
+    let none : Step = onward (at_stage y stage c) (unlisted site (at_stage y stage c) key m desk) in
+    let acks : Step = if is_prack m then prack_refused site key m (at_stage y stage c) desk else none in
+    let updates : Step = if is_update m then on_update_at stage site y side key m (at_stage y stage c) desk else acks in
+    goes-if at x c desk.rows (is_invite m) _ (if is_bye m then on_bye stage site at y side key m (at_stage y stage c) desk else updates) (invite-goes stage site at x y side key m c desk e f)
+    (goes-if at x c desk.rows (is_bye m) _ updates (bye-goes stage site at x y side key m c desk e f)
+    (goes-if at x c desk.rows (is_update m) _ acks (update-goes stage site at x y side key m c desk e f)
+    (goes-if at x c desk.rows (is_prack m) _ none (stands at x c desk.rows y stage _ e f refl)
+    (stands at x c desk.rows y stage (unlisted site (at_stage y stage c) key m desk) e f (unlisted-rows site (at_stage y stage c) key m desk)))))
 
 said-goes : (said : Result (Unit {0}) DialogueFault) (stage : Stage) (site : Site) (at : ℕ) (x : Pair) (side : Side) (key : TKey) (m : Said) (c : Call) (desk : Desk) →
     GoesOn at x c desk.rows (on_request_at_if said stage site at x side key m (at_stage x stage c) desk)
@@ -151,7 +178,7 @@ silence-goes : (branch : Option (List ℕ)) (stage : Stage) (site : Site) (now :
 silence-goes None stage site now x c desk = stands now.at x c desk.rows x stage desk refl refl refl
 silence-goes (Some branch) stage site now x c desk =
     goes-if now.at x c desk.rows (is_branch branch (current_at stage)) _ _ (quiet-goes stage site now.at x c desk)
-    (untouched-stands now.at x stage c desk.rows _ (silent-untouched branch (at_stage x stage c) desk))
+    (untouched-stands now.at x stage c desk.rows _ (silent-untouched site branch (at_stage x stage c) desk))
 
 -- ---- responses
 
@@ -182,20 +209,36 @@ answer-goes : (branch : Option (List ℕ)) (stage : Stage) (site : Site) (now : 
 answer-goes None stage site now x key m c desk = stands now.at x c desk.rows x stage desk refl refl refl
 answer-goes (Some branch) stage site now x key m c desk =
     goes-if now.at x c desk.rows (is_branch branch (current_at stage)) _ _ (response-goes stage site now.at x key m c desk)
-    (untouched-stands now.at x stage c desk.rows _ (other-untouched site key m branch (at_stage x stage c) desk))
+    (untouched-stands now.at x stage c desk.rows _ (other-untouched site now.at key m branch (at_stage x stage c) desk))
 
 -- ---- any signal
 
+row-goes : (site : Site) (now : Standing) (x : Pair) (stage : Stage) (heard : Signal) (c : Call) (desk : Desk) → GoesOn now.at x c desk.rows (row site now heard (at_stage x stage c) desk)
+unfolding row
+row-goes site now x stage (signal.Request side key request) c desk = said-goes (says (leg_of side x) request (busy_in stage side)) stage site now.at x side key request c desk
+row-goes site now x stage (signal.Ack side ack) c desk = ack-goes stage site now.at x side ack c desk
+row-goes site now x stage (signal.Cancel key cancel invite) c desk = cancel-goes stage site now.at x invite c desk.rows (replied_to site (at_stage x stage c) key cancel 200 desk) refl
+row-goes site now x stage (signal.Answer key response) c desk = answer-goes (invite_answered response) stage site now x key response c desk
+row-goes site now x stage (signal.Silent branch method) c desk = silence-goes (invite_silent branch method) stage site now x c desk
+row-goes site now x stage (signal.Due what) c desk =
+    goes-if now.at x c desk.rows (is_due_at stage c.successes what) _ _ (rung-goes stage site now.at x c desk) (stands now.at x c desk.rows x stage desk refl refl refl)
+row-goes site now x stage (signal.Ended key) c desk = untouched-stands now.at x stage c desk.rows _ (key-untouched key (at_stage x stage c) desk)
+
+-- where nothing is in flight any more, and what went out before filed no row
+goes-from : (at : ℕ) (x : Pair) (c : Call) (rows before : List Row) (s : Step) → rows ≡ before → GoesOn at x (dismissed c) rows s → GoesOn at x c before s
+goes-from at x c rows before s e (Stands y stage r) =
+    Stands y stage (record { phase = r.phase; same = record { opening = r.same.opening; diversions = r.same.diversions; answered = r.same.answered; past = r.same.past }; caller = r.caller; callee = r.callee; none = r.none ∙ e })
+goes-from at x c rows before s e (Leaves y d desk r) =
+    Leaves y d desk (record { is = r.is; same = record { opening = r.same.opening; diversions = r.same.diversions; answered = r.same.answered; past = r.same.past }; caller = r.caller; callee = r.callee; none = r.none ∙ e })
+
 pub goes : (site : Site) (now : Standing) (x : Pair) (stage : Stage) (heard : Signal) (c : Call) (desk : Desk) → GoesOn now.at x c desk.rows (step site now heard (at_stage x stage c) desk)
 unfolding step
-goes site now x stage (signal.Request side key request) c desk = said-goes (says (leg_of side x) request (busy_in stage side)) stage site now.at x side key request c desk
-goes site now x stage (signal.Ack side ack) c desk = ack-goes stage site now.at x side ack c desk
-goes site now x stage (signal.Cancel key cancel invite) c desk = cancel-goes stage site now.at x invite c desk.rows (replied_to site (at_stage x stage c) key cancel 200 desk) refl
-goes site now x stage (signal.Answer key response) c desk = answer-goes (invite_answered response) stage site now x key response c desk
-goes site now x stage (signal.Silent branch method) c desk = silence-goes (invite_silent branch method) stage site now x c desk
-goes site now x stage (signal.Due what) c desk =
-    goes-if now.at x c desk.rows (is_due_at stage c.successes what) _ _ (rung-goes stage site now.at x c desk) (stands now.at x c desk.rows x stage desk refl refl refl)
-goes site now x stage (signal.Ended key) c desk = untouched-stands now.at x stage c desk.rows _ (key-untouched key (at_stage x stage c) desk)
+goes site now x stage heard c desk =
+    let d : Call = at_stage x stage c in
+    let left : Desk = dismissing site d desk in
+    goes-if now.at x c desk.rows (leaves_by heard d) (row site now heard (dismissed d) left) (row site now heard d desk)
+    (goes-from now.at x c left.rows desk.rows (row site now heard (dismissed d) left) (dismissing-rows site d desk) (row-goes site now x stage heard (dismissed c) left))
+    (row-goes site now x stage heard c desk)
 
 -- ---- a call that is over
 
@@ -204,18 +247,42 @@ ended cause c = record c { phase = Over cause }
 
 over-silent : (branch : Option (List ℕ)) (site : Site) (now : Standing) (cause : Cause) (c : Call) (desk : Desk) → Untouched (ended cause c) desk.rows (silence_of branch site now (ended cause c) desk)
 over-silent None site now cause c desk = untouched (ended cause c) desk
-over-silent (Some branch) site now cause c desk = silent-untouched branch (ended cause c) desk
+over-silent (Some branch) site now cause c desk = silent-untouched site branch (ended cause c) desk
 
 over-answered : (branch : Option (List ℕ)) (site : Site) (now : Standing) (cause : Cause) (key : TKey) (m : Said) (c : Call) (desk : Desk) → Untouched (ended cause c) desk.rows (answer_to branch site now key m (ended cause c) desk)
 over-answered None site now cause key m c desk = untouched (ended cause c) desk
-over-answered (Some branch) site now cause key m c desk = other-untouched site key m branch (ended cause c) desk
+over-answered (Some branch) site now cause key m c desk = other-untouched site now.at key m branch (ended cause c) desk
+
+over-row : (site : Site) (now : Standing) (cause : Cause) (heard : Signal) (c : Call) (desk : Desk) → Untouched (ended cause c) desk.rows (row site now heard (ended cause c) desk)
+unfolding row
+over-row site now cause (signal.Request side key request) c desk = untouched (ended cause c) desk
+over-row site now cause (signal.Ack side ack) c desk = untouched (ended cause c) desk
+over-row site now cause (signal.Cancel key cancel invite) c desk = untouched (ended cause c) desk
+over-row site now cause (signal.Answer key response) c desk = over-answered (invite_answered response) site now cause key response c desk
+over-row site now cause (signal.Silent branch method) c desk = over-silent (invite_silent branch method) site now cause c desk
+over-row site now cause (signal.Due what) c desk = untouched (ended cause c) desk
+over-row site now cause (signal.Ended key) c desk = key-untouched key (ended cause c) desk
+
+-- no signal leaves it
+pub no-leaving : (cause : Cause) (heard : Signal) (c : Call) → leaves_by heard (ended cause c) ≡ false
+no-leaving cause (signal.Request side key request) c = refl
+no-leaving cause (signal.Ack side ack) c = refl
+no-leaving cause (signal.Cancel key cancel invite) c = refl
+no-leaving cause (signal.Answer key response) c = by (invite_answered response)
+  where
+    by : (branch : Option (List ℕ)) → leaves_on_response branch response (ended cause c) ≡ false
+    by None = refl
+    by (Some branch) = refl
+no-leaving cause (signal.Silent branch method) c = by (invite_silent branch method)
+  where
+    by : (branch : Option (List ℕ)) → leaves_on_no_response branch (ended cause c) ≡ false
+    by None = refl
+    by (Some branch) = refl
+no-leaving cause (signal.Due what) c = refl
+no-leaving cause (signal.Ended key) c = refl
 
 pub stays-over : (site : Site) (now : Standing) (cause : Cause) (heard : Signal) (c : Call) (desk : Desk) → Untouched (ended cause c) desk.rows (step site now heard (ended cause c) desk)
 unfolding step
-stays-over site now cause (signal.Request side key request) c desk = untouched (ended cause c) desk
-stays-over site now cause (signal.Ack side ack) c desk = untouched (ended cause c) desk
-stays-over site now cause (signal.Cancel key cancel invite) c desk = untouched (ended cause c) desk
-stays-over site now cause (signal.Answer key response) c desk = over-answered (invite_answered response) site now cause key response c desk
-stays-over site now cause (signal.Silent branch method) c desk = over-silent (invite_silent branch method) site now cause c desk
-stays-over site now cause (signal.Due what) c desk = untouched (ended cause c) desk
-stays-over site now cause (signal.Ended key) c desk = key-untouched key (ended cause c) desk
+stays-over site now cause heard c desk =
+    let d : Call = ended cause c in
+    subst (λ b. Untouched d desk.rows (if b then row site now heard (dismissed d) (dismissing site d desk) else row site now heard d desk)) (sym (no-leaving cause heard c)) (over-row site now cause heard c desk)

@@ -24,12 +24,11 @@ use Rattle.mmtel_precedence.specs.Verdicts.{too_many}
 use Rattle.mmtel_rules.specs.Circumstances.{Circumstances}
 use Rattle.mmtel_targets.specs.declared.targets.Target.{Target}
 use Rattle.mmtel_types.specs.declared.causes.Cause.{Cause}
-use Rattle.mmtel_types.specs.declared.causes.Cause.TheVariants as causes
 use Rattle.mmtel_types.specs.declared.numbers.Peer.{Peer}
 use Rattle.mmtel_call_decisions.specs.Decisions as decisions
 use Rattle.mmtel_call_decisions.specs.Decisions.{aim_at, decided_at, its_sheet, peer_for, reach_at, service_at, target_of}
 use Rattle.mmtel_call_decisions.specs.Rows.{cause_by, rows_by}
-use Rattle.mmtel_call_decisions.specs.Showing.{shown_to}
+use Rattle.mmtel_call_decisions.specs.Showing.{offered_to, shown_to}
 use Rattle.mmtel_call_decisions.specs.Site.{Site}
 use Rattle.mmtel_call_decisions.specs.declared.openings.Opening.{Opening}
 use Rattle.mmtel_call_decisions.specs.declared.openings.Service.{Service}
@@ -48,7 +47,7 @@ use Rattle.mmtel_desk.specs.Sending.{attempt_dialog}
 use Rattle.mmtel_transaction.specs.declared.words.DueWord.TheVariants as due
 use Rattle.mmtel_transaction.specs.declared.words.Emit.{Emit}
 use Rattle.mmtel_transaction.specs.declared.words.Emit.TheVariants as emit
-use Rattle.mmtel_types.specs.declared.sides.Side.TheVariants.{Callee, Caller}
+use Rattle.mmtel_types.specs.declared.sides.Side.TheVariants.{Callee}
 use Rattle.mmtel_answers.specs.Answers.{relayed_reply}
 use Rattle.mmtel_answers.specs.Said.{Said, status_of as status_in}
 use Rattle.mmtel_message.specs.Addresses.{contact_text}
@@ -83,7 +82,7 @@ offer-signs : (site : Site) (at : ℕ) (service : Option Service) (waiting : Boo
     signs_of c.opening.key (sent_to site at service waiting (aim_at c.opening peer (cause_of by) target) c desk).out ≡ signs_of c.opening.key desk.out ++ Invited (asked_uri c.opening by target.uri) ∷ []
 offer-signs site at service waiting peer by target c desk =
     let aim = aim_at c.opening peer (cause_of by) target in
-    let ask : Emit = emit.Ask aim.peer (invite_of (attempt_dialog aim c.opening.invite.heard c.opening.restricted desk) site.sip (token (drew (drew desk))) (shown_to site c.opening c.diversions service Caller aim.peer c.opening.invite) waiting c.opening.invite.heard) in
+    let ask : Emit = emit.Ask aim.peer (invite_of (attempt_dialog aim c.opening.invite.heard c.opening.restricted desk) site.sip (token (drew (drew desk))) (offered_to site c.opening c.diversions service aim.peer) waiting c.opening.invite.heard) in
     let arm : Emit = emit.Arm c.opening.number (due.Cap (next_attempt c)) (at + longest_time) in
     signs-more c.opening.key (desk.out ++ ask ∷ []) arm
     ∙ append-nil (signs_of c.opening.key (desk.out ++ ask ∷ []))

@@ -1,5 +1,5 @@
 -- What a call keeps from step to step.
-use Rattle.std.proofs.Common.{◌≡◌, ℕ, true, false, List, ◌++◌, refl, ap, sym, subst, ◌∙◌}
+use Rattle.std.proofs.Common.{◌≡◌, ℕ, true, false, List, [], ◌++◌, refl, ap, sym, subst, ◌∙◌}
 use Rattle.mmtel_charging.specs.Meters.{Noted}
 use Rattle.mmtel_charging.specs.declared.rows.Row.{Row}
 use Rattle.mmtel_desk.specs.declared.desks.Desk.{Desk}
@@ -18,6 +18,7 @@ use Rattle.mmtel_call_decisions.specs.declared.openings.Opening.{Opening}
 use Rattle.mmtel_call.specs.Closing.{Step, over_stood}
 use Rattle.mmtel_call.specs.Table.{step}
 use Rattle.mmtel_call.specs.declared.calls.Call.{Call}
+use Rattle.mmtel_call.specs.declared.calls.Flight.{Flight}
 use Rattle.mmtel_call.specs.declared.calls.Pair.{Pair}
 use Rattle.mmtel_call.specs.declared.calls.Phase.{Phase}
 use Rattle.mmtel_call.specs.declared.calls.Phase.TheVariants.{Lent, Offered, Over, Stood}
@@ -32,6 +33,7 @@ use Rattle.mmtel_call_laws.specs.Story.{Heard, Start, call_after, is_over, openi
 use Rattle.mmtel_call_laws.proofs.Agreeing.{Ends, Place, Rings, Talks}
 use Rattle.mmtel_call_laws.proofs.Answering as answering
 use Rattle.mmtel_call_laws.proofs.Concluding.{told}
+use Rattle.mmtel_call_laws.proofs.Dismissal.{last_none}
 use Rattle.mmtel_call_laws.proofs.Lowering.{stays-lent}
 use Rattle.mmtel_call_laws.proofs.Untouched.{Alike, Untouched}
 
@@ -114,6 +116,7 @@ leaves-so at x y stage c d rows desk a e f g = record {
   same = record { opening = a.opening; diversions = a.diversions; answered = a.answered };
   over = ap Over (ended_so d.answered);
   past = refl;
+  flights = refl;
   filed = λ i. g i ++ rows_by (record { answered = d.answered; at = at; holds = d.hold.holds; cause = ended_so d.answered i }) (a.past i) (e i) (f i);
 }
 
@@ -141,12 +144,12 @@ standing-goes (Stood x stage) site now heard c desk stands = stood-goes now.at x
 standing-goes (Lent loan) site now heard c desk stands = untouched-goes now.at (record c { phase = Lent loan }) desk.rows _ refl (stays-lent site now loan heard c desk)
 standing-goes (Over cause) site now heard c desk stands = absurd (let e : false ≡ true = stands in cc)
 
-over-stays : (phase : Phase) (site : Site) (now : Standing) (heard : Signal) (c : Call) (desk : Desk) → is_over phase ≡ true → StaysOver (record c { phase = phase }) desk.rows (step site now heard (record c { phase = phase }) desk)
+over-stays : (phase : Phase) (site : Site) (now : Standing) (heard : Signal) (c : Call) (desk : Desk) → is_over phase ≡ true → StaysOver (record c { phase = phase; flights = [] }) desk.rows (step site now heard (record c { phase = phase; flights = [] }) desk)
 over-stays (Offered x) site now heard c desk over = absurd (let e : false ≡ true = over in cc)
 over-stays (Stood x stage) site now heard c desk over = absurd (let e : false ≡ true = over in cc)
 over-stays (Lent loan) site now heard c desk over = absurd (let e : false ≡ true = over in cc)
 over-stays (Over cause) site now heard c desk over =
-    let u = answering.stays-over site now cause heard c desk in record { same = same_of _ _ u.alike; phase = u.phase; past = u.alike.past; hold = u.hold; none = u.none }
+    let u = answering.stays-over site now cause heard (record c { flights = [] }) desk in record { same = same_of _ _ u.alike; phase = u.phase; past = u.alike.past; hold = u.hold refl; flights = u.flights refl; none = u.none }
 
 pub calls_go_on : Laws CallsGoOn
 calls_go_on turn_law end_law extend enough_law = record {
@@ -156,5 +159,7 @@ calls_go_on turn_law end_law extend enough_law = record {
   answered = was_answered turn_law end_law extend enough_law;
   cause = by_ending turn_law end_law extend enough_law;
   standing = λ site now heard c desk stands. standing-goes c.phase site now heard c desk stands;
-  ended = λ site now heard c desk over. over-stays c.phase site now heard c desk over;
+  ended = λ site now heard c desk over none.
+      subst (λ (flights : List Flight). StaysOver (record c { flights = flights }) desk.rows (step site now heard (record c { flights = flights }) desk)) (sym none) (over-stays c.phase site now heard c desk over);
+  dismissed = last_none;
 }

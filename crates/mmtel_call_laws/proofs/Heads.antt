@@ -7,6 +7,7 @@ pub mod Sending
 pub mod Keeping
 pub mod Deciding
 pub mod Going
+pub mod Flights
 pub mod Ringing
 pub mod Leaving
 pub mod Talking

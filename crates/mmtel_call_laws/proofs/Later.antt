@@ -1,7 +1,8 @@
 -- A call that is not offered any more has no INVITE to a target go out, and no final to the INVITE that opened it.
-use Rattle.std.proofs.Common.{◌≡◌, ℕ, zero, suc, ◌==◌, Bool, true, false, not, List, [], ◌∷◌, ◌++◌, length, drop, refl, ap, sym, subst, ◌∙◌, append_assoc, ◌+◌}
+use Rattle.std.proofs.Common.{◌≡◌, ℕ, zero, suc, ◌==◌, Bool, true, false, not, List, [], ◌∷◌, ◌++◌, length, drop, refl, ap, sym, subst, ◌∙◌, append_assoc}
 use Rattle.std.proofs.lemmas.List.{append-nil, drop_at}
-use Rattle.std.specs.Prelude.{codes, Option, Some, None, if◌then◌else◌, nat_lt, position, slice_get, Result, Ok, Err}
+use Rattle.std.specs.List.{filter}
+use Rattle.std.specs.Prelude.{IfSome, codes, Option, Some, None, if◌then◌else◌, nat_lt, position, slice_get, Result, Ok, Err}
 use Rattle.mmtel_answers.specs.Answers.{allowed}
 use Rattle.mmtel_answers.specs.Said.{Said, status_of}
 use Rattle.mmtel_desk.specs.Desks.{drew, emitted}
@@ -23,10 +24,12 @@ use Rattle.mmtel_leg.specs.declared.remotes.Remote.{Remote}
 use Rattle.mmtel_message.specs.Faults.{is_method}
 use Rattle.mmtel_message.specs.Message.{Message}
 use Rattle.mmtel_message.specs.declared.messages.Start.{Start as StartLine}
+use Rattle.mmtel_precedence.specs.Attempts as statuses
 use Rattle.mmtel_precedence.specs.Calls.{End, Standing}
 use Rattle.mmtel_precedence.specs.Services.{DueDiversion}
 use Rattle.mmtel_precedence.specs.Turns.{AfterEnd, EndAnswered, EndDivert, EndRefuse, Turn, TurnDivert, TurnOffer, TurnRefuse}
 use Rattle.mmtel_precedence.specs.Verdicts.{too_many}
+use Rattle.mmtel_reliable.specs.declared.racks.Rack.{Rack}
 use Rattle.mmtel_targets.specs.declared.targets.Target.{Target}
 use Rattle.mmtel_transaction.specs.declared.words.Emit.{Emit}
 use Rattle.mmtel_transaction.specs.declared.words.Emit.TheVariants as emit
@@ -35,7 +38,6 @@ use Rattle.mmtel_trust.specs.Digest.{HeardMessage}
 use Rattle.mmtel_types.specs.Sides.{other_of}
 use Rattle.mmtel_types.specs.declared.addrs.Addr.{Addr}
 use Rattle.mmtel_types.specs.declared.causes.Cause.{Cause}
-use Rattle.mmtel_types.specs.declared.causes.Cause.TheVariants as causes
 use Rattle.mmtel_types.specs.declared.sides.Side.{Side}
 use Rattle.mmtel_types.specs.declared.sides.Side.TheVariants.{Caller, Callee}
 use Rattle.mmtel_call_decisions.specs.Decisions.{decided_after, decided_at, handed_on, is_status, peer_for, service_at, target_of}
@@ -46,16 +48,22 @@ use Rattle.mmtel_call_decisions.specs.declared.openings.Service.{Service}
 use Rattle.mmtel_call.specs.Answered.{acked_and_left, acknowledges, at_stage, bye_to, leg_of, with_leg}
 use Rattle.mmtel_call.specs.Closing.{Step, onward, over, over_stood, with_past}
 use Rattle.mmtel_call.specs.Diverting.{at_target, divert, diverted, is_diverted, made, made_unless, on_end, on_turn, passed_by, refusal_by, refused, refused_by, told_of}
-use Rattle.mmtel_call.specs.Leaving.{acked_again, answered_at, answered_loose, answered_other, answered_taken, answered_taken_at, as_loose, is_fork, is_success, is_taken, is_talking}
+use Rattle.mmtel_call.specs.Flights as in_flight
+use Rattle.mmtel_call.specs.Leaving.{acked_again, answered_at, answered_loose, answered_other, answered_taken, answered_taken_at, as_loose, is_fork, is_success, is_taken, is_talking, silent_other, silent_other_at}
 use Rattle.mmtel_call.specs.Lending.{finished, finished_in}
 use Rattle.mmtel_call.specs.Opening.{caller_of, new_call, opened, unless_refused}
 use Rattle.mmtel_call.specs.Reinvites.{agreed, bye_to_both, ends_dialog, loose_across, proceeding_across, refused_back, relayed_back}
-use Rattle.mmtel_call.specs.Requests.{answered_to, having_heard, is_bye, is_invite, says, unheard, unlisted}
-use Rattle.mmtel_call.specs.Ringing.{cancelled_attempt, heard_by, left, on_heard, on_request_if, says_offered, with_loose, awaiting_ack, expiry_in}
+use Rattle.mmtel_call.specs.Reliable.{acknowledged_by, acknowledging, answer_named, on_rack, prack_refused}
+use Rattle.mmtel_call.specs.Requests.{answered_to, having_heard, is_bye, is_invite, is_prack, is_update, says, unheard, unlisted}
+use Rattle.mmtel_call.specs.Ringing.{cancelled_attempt, heard_by, left, on_heard, on_other, on_prack_of, on_request_if, says_offered, with_loose, awaiting_ack, expiry_in}
 use Rattle.mmtel_call.specs.Sending.{relayed_to_caller, replied_to, told_caller}
 use Rattle.mmtel_call.specs.Stages.{busy_in, has_left, is_due_at, left_by, on_ack_at, on_bye, on_cancel_at, on_invite, on_request_at_if, on_response_at, on_silence_at, rung_out}
-use Rattle.mmtel_call.specs.Table.{answer_to, current_at, is_branch, silence_of, step}
+use Rattle.mmtel_call.specs.Table.{answer_to, current_at, is_branch, leaves, row, silence_of, step}
+use Rattle.mmtel_call.specs.Updates.{on_update, on_update_at, takes_updates, unless_updating, updated_across, updated_early}
 use Rattle.mmtel_call.specs.declared.calls.Call.{Call}
+use Rattle.mmtel_call.specs.declared.calls.Flight.{Flight}
+use Rattle.mmtel_call.specs.declared.calls.FlightKind.{FlightKind}
+use Rattle.mmtel_call.specs.declared.calls.FlightKind.TheVariants.{Prack, Update}
 use Rattle.mmtel_call.specs.declared.calls.Loan.{Loan}
 use Rattle.mmtel_call.specs.declared.calls.Pair.{Pair}
 use Rattle.mmtel_call.specs.declared.calls.Phase.{Phase}
@@ -69,11 +77,16 @@ use Rattle.mmtel_call.specs.declared.signals.Signal.{Signal}
 use Rattle.mmtel_call.specs.declared.signals.Signal.TheVariants as signal
 use Rattle.mmtel_call_laws.specs.Endings.{end_in}
 use Rattle.mmtel_call_laws.specs.Laws.{ShowsNothingLater}
-use Rattle.mmtel_call_laws.specs.Shown.{Accepted, AsksOthers, AsksOthersAt, Invited, IsOthers, Refused, Sign, but_passed_on, final_sign, is_offered, is_within, shown_by, sign_of, signs_of}
+use Rattle.mmtel_call_laws.specs.Shown.{Accepted, AsksOthers, AsksOthersAt, FlyOthers, Invited, IsOthers, Refused, Sign, but_passed_on, final_sign, is_offered, is_within, shown_by, sign_of, signs_of}
 use Rattle.mmtel_call_laws.specs.Story.{Start, added, first_step, opening_in}
 use Rattle.mmtel_call_laws.proofs.Faring as faring
-use Rattle.mmtel_call_laws.proofs.Lowering.{stays-lent}
+use Rattle.mmtel_call_laws.proofs.Answering as answering
+use Rattle.mmtel_call_laws.proofs.Dismissal.{nothing_in_flight}
+use Rattle.mmtel_call_laws.proofs.Flying.{flies}
+use Rattle.mmtel_call_laws.proofs.Each.{each_filter, each_get}
+use Rattle.mmtel_call_laws.proofs.Lowering as lowering
 use Rattle.mmtel_call_laws.proofs.Signs.{signs-append}
+use Rattle.mmtel_call_laws.proofs.Untouched.{other-untouched, silent-untouched}
 use Rattle.mmtel_session.specs.Intervals.{expiry_after}
 
 -- ---- what a step adds, as it is seen
@@ -147,7 +160,7 @@ unseen-unlisted key site c asked m desk e =
 
 success-unseen : (key : TKey) (sip : Addr) (l : Loose) (remote : Remote) (d : Option Dialogue) (desk : Desk) → IsUnseen key desk (on_success_in sip l remote d desk).desk
 success-unseen key sip l remote None desk =
-    let d = loose_ones.made_from l.within l.invitation.early l.invitation.dialogue remote in
+    let d = loose_ones.made_from l.within l.invitation.early l.invitation.asked l.invitation.dialogue remote in
     adds-then key desk (acked sip d desk) (bye sip d (acked sip d desk)) [] [] (unseen-acked key sip d desk) (unseen-bye key sip d (acked sip d desk))
 success-unseen key sip l remote (Some d) desk = unseen-acked key sip d desk
 
@@ -179,17 +192,94 @@ taken-unseen key site asked m at (Some t) c desk =
     (step-if key desk (is_fork t m) _ _ (rest-unseen key site.sip asked m.heard (as_loose t) desk)
     (adds-if key desk (is_talking c.phase) (acked_again t t.invitation.ack desk) desk [] (again-unseen key t t.invitation.ack desk) (nothing key desk)))
 
-taken_at-unseen : (key : TKey) (site : Site) (asked : TKey) (m : Said) (at : Option ℕ) (c : Call) (desk : Desk) → IsUnseen key desk (answered_taken_at site asked m at c desk).desk
-taken_at-unseen key site asked m None c desk = nothing key desk
-taken_at-unseen key site asked m (Some at) c desk = taken-unseen key site asked m at (slice_get c.taken at) c desk
+-- ---- what is in flight
 
-at-unseen : (key : TKey) (site : Site) (asked : TKey) (m : Said) (branch : List ℕ) (at : Option ℕ) (c : Call) (desk : Desk) → IsUnseen key desk (answered_at site asked m branch at c desk).desk
-at-unseen key site asked m branch None c desk = taken_at-unseen key site asked m (position (is_taken branch) c.taken) c desk
-at-unseen key site asked m branch (Some at) c desk = loose-unseen key site asked m at (slice_get c.loose at) c desk
+-- what is armed for the session of a 2xx
+expiry-shows : (key : TKey) (timer : Bool) (time : Option ℕ) (at : ℕ) (c : Call) → signs_of key (if timer then expiry_in time at c else []) ≡ []
+expiry-shows key true None at c = refl
+expiry-shows key true (Some time) at c = refl
+expiry-shows key false time at c = refl
 
-other-unseen : (key : TKey) (site : Site) (asked : TKey) (m : Said) (branch : List ℕ) (c : Call) (desk : Desk) → IsUnseen key desk (answered_other site asked m branch c desk).desk
+expiry-unseen : (key : TKey) (timer : Bool) (time : Option ℕ) (at : ℕ) (c : Call) (desk : Desk) → IsUnseen key desk (record desk { out = desk.out ++ (if timer then expiry_in time at c else []) })
+expiry-unseen key timer time at c desk = record { new = if timer then expiry_in time at c else []; out = refl; seen = expiry-shows key timer time at c }
+
+-- of another request than the one of this server transaction
+abbrev IsOther : TKey → Flight → Type 0
+IsOther key flight = (flight.asked.key.0 == key.0) ≡ false
+
+agreed-unseen : (key : TKey) (kind : FlightKind) (site : Site) (at : ℕ) (side : Side) (request response : Said) (c : Call) (desk : Desk) → IsUnseen key desk (in_flight.agreed kind site at side request response c desk).desk
+agreed-unseen key Prack site at side request response c desk = nothing key desk
+agreed-unseen key Update site at side request response c desk = expiry-unseen key site.timer (expiry_after response.heard.session) at c desk
+
+flight-unseen : (key : TKey) (site : Site) (at : ℕ) (m : Said) (code place : ℕ) (o : Option Flight) (c : Call) (desk : Desk) → IfSome o (IsOther key) → IsUnseen key desk (in_flight.answered_flight site at m code place o c desk).desk
+flight-unseen key site at m code place None c desk other = nothing key desk
+flight-unseen key site at m code place (Some flight) c desk other =
+    let gone : Call = in_flight.without_flight place c in
+    let back : Desk = in_flight.relayed_back_to site flight m gone desk in
+    let passed : IsUnseen key desk back = unseen-reply key flight.asked.key _ desk other in
+    step-if key desk (nat_lt code 200) (onward c desk) (in_flight.final_of_flight site at flight m code gone desk) (nothing key desk)
+    (step-if key desk (statuses.is_success code) (in_flight.agreed flight.kind site at flight.side flight.asked.request m gone back) (onward gone back)
+    (adds-then key desk back _ [] [] passed (agreed-unseen key flight.kind site at flight.side flight.asked.request m gone back)) passed)
+
+flying-unseen : (key : TKey) (site : Site) (at : ℕ) (m : Said) (o : Option ℕ) (c : Call) (desk : Desk) → FlyOthers key c.flights → IsUnseen key desk (in_flight.answered_in_flight site at m o c desk).desk
+flying-unseen key site at m None c desk fly = nothing key desk
+flying-unseen key site at m (Some place) c desk fly = flight-unseen key site at m (status_of m.heard.start) place (slice_get c.flights place) c desk (each_get (IsOther key) c.flights place fly)
+
+silent_flight-unseen : (key : TKey) (site : Site) (place : ℕ) (o : Option Flight) (c : Call) (desk : Desk) → IfSome o (IsOther key) → IsUnseen key desk (in_flight.silent_flight site place o c desk).desk
+silent_flight-unseen key site place None c desk other = nothing key desk
+silent_flight-unseen key site place (Some flight) c desk other = unseen-reply key flight.asked.key _ desk other
+
+silent_flying-unseen : (key : TKey) (site : Site) (o : Option ℕ) (c : Call) (desk : Desk) → FlyOthers key c.flights → IsUnseen key desk (in_flight.silent_in_flight site o c desk).desk
+silent_flying-unseen key site None c desk fly = nothing key desk
+silent_flying-unseen key site (Some place) c desk fly = silent_flight-unseen key site place (slice_get c.flights place) c desk (each_get (IsOther key) c.flights place fly)
+
+silent_at-unseen : (key : TKey) (site : Site) (branch : List ℕ) (o : Option ℕ) (c : Call) (desk : Desk) → FlyOthers key c.flights → IsUnseen key desk (silent_other_at site branch o c desk).desk
+silent_at-unseen key site branch None c desk fly = silent_flying-unseen key site (position (in_flight.is_in_flight branch) c.flights) c desk fly
+silent_at-unseen key site branch (Some place) c desk fly = nothing key desk
+
+silent-unseen : (key : TKey) (site : Site) (branch : List ℕ) (c : Call) (desk : Desk) → FlyOthers key c.flights → IsUnseen key desk (silent_other site branch c desk).desk
+silent-unseen key site branch c desk fly = silent_at-unseen key site branch (position (is_of branch) c.loose) c desk fly
+
+-- it is dismissed
+
+settled-unseen : (key : TKey) (site : Site) (own : Option ℕ) (c : Call) (desk : Desk) → IsUnseen key desk (in_flight.settled site own c desk)
+settled-unseen key site own c desk = adds-if key desk site.reliable (emitted (emit.Settled c.opening.key own) desk) desk [] (adds-emit key desk _ [] refl) (nothing key desk)
+
+settled_in-unseen : (key : TKey) (phase : Phase) (site : Site) (c : Call) (desk : Desk) → IsUnseen key desk (in_flight.settled_in phase site c desk)
+settled_in-unseen key (Offered x) site c desk = settled-unseen key site None c desk
+settled_in-unseen key (Stood x stage) site c desk = nothing key desk
+settled_in-unseen key (Lent loan) site c desk = nothing key desk
+settled_in-unseen key (Over cause) site c desk = nothing key desk
+
+each-unseen : (key : TKey) (site : Site) (c : Call) (flights : List Flight) (desk : Desk) → FlyOthers key flights → IsUnseen key desk (in_flight.dismissed_each site c flights desk)
+each-unseen key site c [] desk fly = nothing key desk
+each-unseen key site c (flight ∷ flights) desk fly =
+    let next : Desk = in_flight.dismissed_flight site c flight desk in
+    adds-then key desk next (in_flight.dismissed_each site c flights next) [] [] (unseen-reply key flight.asked.key _ desk fly.0) (each-unseen key site c flights next fly.1)
+
+dismissing-unseen : (key : TKey) (site : Site) (c : Call) (desk : Desk) → FlyOthers key c.flights → IsUnseen key desk (in_flight.dismissing site c desk)
+dismissing-unseen key site c desk fly =
+    let first : Desk = in_flight.dismissed_each site c (filter (λ flight. not (in_flight.is_updating flight)) c.flights) desk in
+    let all : Desk = in_flight.dismissed_all site c desk in
+    adds-then key desk all (in_flight.dismissing site c desk) [] []
+    (adds-then key desk first all [] [] (each-unseen key site c (filter (λ flight. not (in_flight.is_updating flight)) c.flights) desk (each_filter (IsOther key) (λ flight. not (in_flight.is_updating flight)) c.flights fly))
+    (each-unseen key site c (filter in_flight.is_updating c.flights) first (each_filter (IsOther key) in_flight.is_updating c.flights fly)))
+    (settled_in-unseen key c.phase site c all)
+
+-- ---- by the branch
+
+taken_at-unseen : (key : TKey) (site : Site) (at : ℕ) (asked : TKey) (m : Said) (branch : List ℕ) (o : Option ℕ) (c : Call) (desk : Desk) → FlyOthers key c.flights →
+    IsUnseen key desk (answered_taken_at site at asked m branch o c desk).desk
+taken_at-unseen key site at asked m branch None c desk fly = flying-unseen key site at m (position (in_flight.is_in_flight branch) c.flights) c desk fly
+taken_at-unseen key site at asked m branch (Some place) c desk fly = taken-unseen key site asked m place (slice_get c.taken place) c desk
+
+at-unseen : (key : TKey) (site : Site) (at : ℕ) (asked : TKey) (m : Said) (branch : List ℕ) (o : Option ℕ) (c : Call) (desk : Desk) → FlyOthers key c.flights → IsUnseen key desk (answered_at site at asked m branch o c desk).desk
+at-unseen key site at asked m branch None c desk fly = taken_at-unseen key site at asked m branch (position (is_taken branch) c.taken) c desk fly
+at-unseen key site at asked m branch (Some place) c desk fly = loose-unseen key site asked m place (slice_get c.loose place) c desk
+
+other-unseen : (key : TKey) (site : Site) (at : ℕ) (asked : TKey) (m : Said) (branch : List ℕ) (c : Call) (desk : Desk) → FlyOthers key c.flights → IsUnseen key desk (answered_other site at asked m branch c desk).desk
 unfolding answered_other
-other-unseen key site asked m branch c desk = at-unseen key site asked m branch (position (is_of branch) c.loose) c desk
+other-unseen key site at asked m branch c desk fly = at-unseen key site at asked m branch (position (is_of branch) c.loose) c desk fly
 
 -- ---- both sides
 
@@ -206,15 +296,6 @@ both-unseen key site x desk = adds-then key desk (bye_to site x Caller desk) _ [
 
 over-unseen : (key : TKey) (at : ℕ) (x : Pair) (c : Call) (before desk : Desk) → IsUnseen key before desk → IsUnseen key before (over_stood at x c desk).desk
 over-unseen key at x c before desk a = record { new = a.new; out = a.out; seen = a.seen }
-
--- what is armed for the session of a 2xx
-expiry-shows : (key : TKey) (timer : Bool) (time : Option ℕ) (at : ℕ) (c : Call) → signs_of key (if timer then expiry_in time at c else []) ≡ []
-expiry-shows key true None at c = refl
-expiry-shows key true (Some time) at c = refl
-expiry-shows key false time at c = refl
-
-expiry-unseen : (key : TKey) (timer : Bool) (time : Option ℕ) (at : ℕ) (c : Call) (desk : Desk) → IsUnseen key desk (record desk { out = desk.out ++ (if timer then expiry_in time at c else []) })
-expiry-unseen key timer time at c desk = record { new = if timer then expiry_in time at c else []; out = refl; seen = expiry-shows key timer time at c }
 
 -- ---- what a call that stands waits for stays of another request
 
@@ -258,10 +339,32 @@ module _ (key : TKey) (site : Site) (at : ℕ) where
       stays-if key desk (has_left stage side) _ _ (as-it-was key desk c _ now (unseen-reply key asked _ desk other))
       (then-stays desk answered _ (unseen-reply key asked _ desk other) (left-by-stays stage x side m c answered a))
 
+  -- UPDATE of a side
+
+  unless-stays : (flying : Option Side) (across : Call → Desk → Step) (side : Side) (asked : TKey) (m : Said) (c : Call) (desk : Desk) → (asked.0 == key.0) ≡ false → AsksOthers key c.phase → Stays key desk (across c desk) →
+      Stays key desk (unless_updating flying across site side asked m c desk)
+  unless-stays None across side asked m c desk other now passes = passes
+  unless-stays (Some flying) across side asked m c desk other now passes =
+      stays-if key desk (is_same_side flying side) _ _ (as-it-was key desk c _ now (unseen-reply key asked _ desk other)) (as-it-was key desk c _ now (unseen-reply key asked _ desk other))
+
+  update-stays : (stage : Stage) (x : Pair) (side : Side) (asked : TKey) (m : Said) (c : Call) (desk : Desk) → (asked.0 == key.0) ≡ false → AsksOthers key c.phase → Stays key desk (on_update_at stage site x side asked m c desk)
+  update-stays (Answered waiting success) x side asked m c desk other now = as-it-was key desk c _ now (unseen-reply key asked _ desk other)
+  update-stays (Parting waiting success) x side asked m c desk other now = as-it-was key desk c _ now (unseen-reply key asked _ desk other)
+  update-stays Talking x side asked m c desk other now =
+      unless-stays (in_flight.updating c.flights) (updated_across site x side asked m) side asked m c desk other now
+      (record { unseen = adds-then key desk (drew desk) _ [] [] (unseen-drew key desk) (adds-emit key (drew desk) _ [] refl); asks = tt })
+  update-stays (Asking asking q) x side asked m c desk other now = as-it-was key desk c _ now (unseen-reply key asked _ desk other)
+
   rest-stays : (stage : Stage) (x : Pair) (side : Side) (asked : TKey) (m : Said) (c : Call) (desk : Desk) → (asked.0 == key.0) ≡ false → AsksOthersAt key stage → AsksOthers key c.phase →
-      Stays key desk (if is_bye m then on_bye stage site at x side asked m c desk else onward c (unlisted site c asked m desk))
+      Stays key desk
+      (if is_bye m then on_bye stage site at x side asked m c desk
+      else if is_update m then on_update_at stage site x side asked m c desk
+      else if is_prack m then prack_refused site asked m c desk
+      else onward c (unlisted site c asked m desk))
   rest-stays stage x side asked m c desk other a now =
-      stays-if key desk (is_bye m) _ _ (bye-stays stage x side asked m c desk other a now) (as-it-was key desk c _ now (unseen-unlisted key site c asked m desk other))
+      stays-if key desk (is_bye m) _ _ (bye-stays stage x side asked m c desk other a now)
+      (stays-if key desk (is_update m) _ _ (update-stays stage x side asked m c desk other now)
+      (stays-if key desk (is_prack m) _ _ (as-it-was key desk c _ now (unseen-reply key asked _ desk other)) (as-it-was key desk c _ now (unseen-unlisted key site c asked m desk other))))
 
   -- ---- an INVITE within the call is passed on
 
@@ -297,7 +400,12 @@ module _ (key : TKey) (site : Site) (at : ℕ) where
   invite-hears (Asking asking q) x side asked m c desk other a is = hears true desk _ (as-it-was key desk c desk (subst (AsksOthers key) (sym is) a) (nothing key desk))
 
   heard-hears : (b : Bool) (stage : Stage) (x : Pair) (side : Side) (asked : TKey) (m : Said) (c : Call) (desk : Desk) → (asked.0 == key.0) ≡ false → AsksOthersAt key stage → c.phase ≡ Stood x stage →
-      Hears b desk (if b then on_invite stage site x side asked m c desk else if is_bye m then on_bye stage site at x side asked m c desk else onward c (unlisted site c asked m desk))
+      Hears b desk
+      (if b then on_invite stage site x side asked m c desk
+      else if is_bye m then on_bye stage site at x side asked m c desk
+      else if is_update m then on_update_at stage site x side asked m c desk
+      else if is_prack m then prack_refused site asked m c desk
+      else onward c (unlisted site c asked m desk))
   heard-hears true stage x side asked m c desk other a is = invite-hears stage x side asked m c desk other a is
   heard-hears false stage x side asked m c desk other a is = hears false desk _ (rest-stays stage x side asked m c desk other a (subst (AsksOthers key) (sym is) a))
 
@@ -374,81 +482,108 @@ module _ (key : TKey) (site : Site) (at : ℕ) where
   response-stays (Asking asking q) x asked m c desk a now =
       let code = status_of m.heard.start in across-stays x asking q asked m c desk (nat_lt code 200) (nat_lt code 300) (ends_dialog code) a
 
--- ---- an INVITE that the call does not wait on leaves it as it is
+-- ---- a request that the call does not wait on leaves it as it is
 
-other-phase : (site : Site) (asked : TKey) (m : Said) (branch : List ℕ) (c : Call) (desk : Desk) → (answered_other site asked m branch c desk).call.phase ≡ c.phase
-other-phase site asked m branch c desk = (Rattle.mmtel_call_laws.proofs.Untouched.other-untouched site asked m branch c desk).phase
+other-stays : (key : TKey) (site : Site) (at : ℕ) (asked : TKey) (m : Said) (branch : List ℕ) (c : Call) (desk : Desk) → AsksOthers key c.phase → FlyOthers key c.flights → Stays key desk (answered_other site at asked m branch c desk)
+other-stays key site at asked m branch c desk now fly =
+    record { unseen = other-unseen key site at asked m branch c desk fly; asks = subst (AsksOthers key) (sym (other-untouched site at asked m branch c desk).phase) now }
 
-other-stays : (key : TKey) (site : Site) (asked : TKey) (m : Said) (branch : List ℕ) (c : Call) (desk : Desk) → AsksOthers key c.phase → Stays key desk (answered_other site asked m branch c desk)
-other-stays key site asked m branch c desk now = record { unseen = other-unseen key site asked m branch c desk; asks = subst (AsksOthers key) (sym (other-phase site asked m branch c desk)) now }
+silent-stays : (key : TKey) (site : Site) (branch : List ℕ) (c : Call) (desk : Desk) → AsksOthers key c.phase → FlyOthers key c.flights → Stays key desk (silent_other site branch c desk)
+silent-stays key site branch c desk now fly = record { unseen = silent-unseen key site branch c desk fly; asks = subst (AsksOthers key) (sym (silent-untouched site branch c desk).phase) now }
 
 -- ---- a call that stands, on any signal
 
-answer-stays : (key : TKey) (branch : Option (List ℕ)) (stage : Stage) (site : Site) (now : Standing) (x : Pair) (asked : TKey) (m : Said) (c : Call) (desk : Desk) → AsksOthersAt key stage →
+answer-stays : (key : TKey) (branch : Option (List ℕ)) (stage : Stage) (site : Site) (now : Standing) (x : Pair) (asked : TKey) (m : Said) (c : Call) (desk : Desk) → AsksOthersAt key stage → FlyOthers key c.flights →
     Stays key desk (answer_to branch site now asked m (at_stage x stage c) desk)
-answer-stays key None stage site now x asked m c desk a = as-it-was key desk (at_stage x stage c) desk a (nothing key desk)
-answer-stays key (Some branch) stage site now x asked m c desk a =
-    stays-if key desk (is_branch branch (current_at stage)) _ _ (response-stays key site now.at stage x asked m (at_stage x stage c) desk a a) (other-stays key site asked m branch (at_stage x stage c) desk a)
+answer-stays key None stage site now x asked m c desk a fly = as-it-was key desk (at_stage x stage c) desk a (nothing key desk)
+answer-stays key (Some branch) stage site now x asked m c desk a fly =
+    stays-if key desk (is_branch branch (current_at stage)) _ _ (response-stays key site now.at stage x asked m (at_stage x stage c) desk a a) (other-stays key site now.at asked m branch (at_stage x stage c) desk a fly)
 
-silence-stays : (key : TKey) (branch : Option (List ℕ)) (stage : Stage) (site : Site) (now : Standing) (x : Pair) (c : Call) (desk : Desk) → AsksOthersAt key stage →
+silence-stays : (key : TKey) (branch : Option (List ℕ)) (stage : Stage) (site : Site) (now : Standing) (x : Pair) (c : Call) (desk : Desk) → AsksOthersAt key stage → FlyOthers key c.flights →
     Stays key desk (silence_of branch site now (at_stage x stage c) desk)
-silence-stays key None stage site now x c desk a = as-it-was key desk (at_stage x stage c) desk a (nothing key desk)
-silence-stays key (Some branch) stage site now x c desk a =
-    stays-if key desk (is_branch branch (current_at stage)) _ _ (quiet-stays key site now.at stage x (at_stage x stage c) desk a a) (as-it-was key desk _ desk a (nothing key desk))
+silence-stays key None stage site now x c desk a fly = as-it-was key desk (at_stage x stage c) desk a (nothing key desk)
+silence-stays key (Some branch) stage site now x c desk a fly =
+    stays-if key desk (is_branch branch (current_at stage)) _ _ (quiet-stays key site now.at stage x (at_stage x stage c) desk a a) (silent-stays key site branch (at_stage x stage c) desk a fly)
 
-stood-hears : (key : TKey) (site : Site) (now : Standing) (x : Pair) (stage : Stage) (heard : Signal) (c : Call) (desk : Desk) → AsksOthersAt key stage → IsOthers key heard →
-    Hears key site now.at (is_within heard) desk (step site now heard (at_stage x stage c) desk)
-unfolding step
-stood-hears key site now x stage (signal.Request side asked request) c desk a other = said-hears key site now.at (says (leg_of side x) request (busy_in stage side)) stage x side asked request c desk other a
-stood-hears key site now x stage (signal.Ack side ack) c desk a other = hears key site now.at false desk _ (ack-stays key site now.at stage x side ack (at_stage x stage c) desk a a)
-stood-hears key site now x stage (signal.Cancel asked cancel invite) c desk a other =
+row-hears : (key : TKey) (site : Site) (now : Standing) (x : Pair) (stage : Stage) (heard : Signal) (c : Call) (desk : Desk) → AsksOthersAt key stage → FlyOthers key c.flights → IsOthers key heard →
+    Hears key site now.at (is_within heard) desk (row site now heard (at_stage x stage c) desk)
+unfolding row
+row-hears key site now x stage (signal.Request side asked request) c desk a fly other = said-hears key site now.at (says (leg_of side x) request (busy_in stage side)) stage x side asked request c desk other a
+row-hears key site now x stage (signal.Ack side ack) c desk a fly other = hears key site now.at false desk _ (ack-stays key site now.at stage x side ack (at_stage x stage c) desk a a)
+row-hears key site now x stage (signal.Cancel asked cancel invite) c desk a fly other =
     let answered = replied_to site (at_stage x stage c) asked cancel 200 desk in
     hears key site now.at false desk _ (then-stays key site now.at desk answered _ (unseen-reply key asked _ desk other) (cancel-stays key site now.at stage x invite (at_stage x stage c) answered a a))
-stood-hears key site now x stage (signal.Answer asked response) c desk a other = hears key site now.at false desk _ (answer-stays key (invite_answered response) stage site now x asked response c desk a)
-stood-hears key site now x stage (signal.Silent branch method) c desk a other = hears key site now.at false desk _ (silence-stays key (invite_silent branch method) stage site now x c desk a)
-stood-hears key site now x stage (signal.Due what) c desk a other =
+row-hears key site now x stage (signal.Answer asked response) c desk a fly other = hears key site now.at false desk _ (answer-stays key (invite_answered response) stage site now x asked response c desk a fly)
+row-hears key site now x stage (signal.Silent branch method) c desk a fly other = hears key site now.at false desk _ (silence-stays key (invite_silent branch method) stage site now x c desk a fly)
+row-hears key site now x stage (signal.Due what) c desk a fly other =
     hears key site now.at false desk _ (stays-if key desk (is_due_at stage c.successes what) _ _ (rung-stays key site now.at stage x (at_stage x stage c) desk a) (as-it-was key desk (at_stage x stage c) desk a (nothing key desk)))
-stood-hears key site now x stage (signal.Ended asked) c desk a other = hears key site now.at false desk _ (record { unseen = nothing key desk; asks = a })
+row-hears key site now x stage (signal.Ended asked) c desk a fly other = hears key site now.at false desk _ (record { unseen = nothing key desk; asks = a })
+
+-- what is in flight was dismissed before
+hears-after : (key : TKey) (site : Site) (at : ℕ) (within : Bool) (desk before : Desk) (s : Step) → IsUnseen key desk before → Hears key site at within before s → Hears key site at within desk s
+hears-after key site at within desk before s u h = record { signs = h.signs; adds = adds-then key desk before s.desk [] h.signs u h.adds; none = h.none; asks = h.asks }
+
+hears-if : (key : TKey) (site : Site) (at : ℕ) (within : Bool) (desk : Desk) (b : Bool) (one two : Step) → Hears key site at within desk one → Hears key site at within desk two → Hears key site at within desk (if b then one else two)
+hears-if key site at within desk true one two f g = f
+hears-if key site at within desk false one two f g = g
+
+stood-hears : (key : TKey) (site : Site) (now : Standing) (x : Pair) (stage : Stage) (heard : Signal) (c : Call) (desk : Desk) → AsksOthersAt key stage → FlyOthers key c.flights → IsOthers key heard →
+    Hears key site now.at (is_within heard) desk (step site now heard (at_stage x stage c) desk)
+unfolding step
+stood-hears key site now x stage heard c desk a fly other =
+    let d : Call = at_stage x stage c in
+    let before : Desk = in_flight.dismissing site d desk in
+    hears-if key site now.at (is_within heard) desk (leaves heard d) _ _
+    (hears-after key site now.at (is_within heard) desk before _ (dismissing-unseen key site d desk fly) (row-hears key site now x stage heard (in_flight.dismissed c) before a tt other))
+    (row-hears key site now x stage heard c desk a fly other)
 
 -- ---- one that is over, and one whose leg is away
 
--- hears nothing but of INVITEs that it does not wait on
+-- hears nothing but of requests that it does not wait on
 abbrev HearsNone : Phase → Type 0
-HearsNone phase = (key : TKey) (site : Site) (now : Standing) (heard : Signal) (c : Call) (desk : Desk) → IsUnseen key desk (step site now heard (record c { phase = phase }) desk).desk
+HearsNone phase = (key : TKey) (site : Site) (now : Standing) (heard : Signal) (c : Call) (desk : Desk) → FlyOthers key c.flights → IsUnseen key desk (row site now heard (record c { phase = phase }) desk).desk
 
-none-answered : (phase : Phase) → (key : TKey) (branch : Option (List ℕ)) (site : Site) (now : Standing) (asked : TKey) (m : Said) (c : Call) (desk : Desk) →
+none-answered : (phase : Phase) → (key : TKey) (branch : Option (List ℕ)) (site : Site) (now : Standing) (asked : TKey) (m : Said) (c : Call) (desk : Desk) → FlyOthers key c.flights →
     ((branch : List ℕ) → Rattle.mmtel_call.specs.Table.is_current branch (record c { phase = phase }) ≡ false) → IsUnseen key desk (answer_to branch site now asked m (record c { phase = phase }) desk).desk
-none-answered phase key None site now asked m c desk none = nothing key desk
-none-answered phase key (Some branch) site now asked m c desk none =
-    subst (λ b. IsUnseen key desk (if b then Rattle.mmtel_call.specs.Table.response_in phase site now asked m (record c { phase = phase }) desk else answered_other site asked m branch (record c { phase = phase }) desk).desk)
-    (sym (none branch)) (other-unseen key site asked m branch (record c { phase = phase }) desk)
+none-answered phase key None site now asked m c desk fly none = nothing key desk
+none-answered phase key (Some branch) site now asked m c desk fly none =
+    subst (λ b. IsUnseen key desk (if b then Rattle.mmtel_call.specs.Table.response_in phase site now asked m (record c { phase = phase }) desk else answered_other site now.at asked m branch (record c { phase = phase }) desk).desk)
+    (sym (none branch)) (other-unseen key site now.at asked m branch (record c { phase = phase }) desk fly)
 
-quiet-gone : (phase : Phase) → (key : TKey) (branch : Option (List ℕ)) (site : Site) (now : Standing) (c : Call) (desk : Desk) →
+quiet-gone : (phase : Phase) → (key : TKey) (branch : Option (List ℕ)) (site : Site) (now : Standing) (c : Call) (desk : Desk) → FlyOthers key c.flights →
     ((branch : List ℕ) → Rattle.mmtel_call.specs.Table.is_current branch (record c { phase = phase }) ≡ false) → IsUnseen key desk (silence_of branch site now (record c { phase = phase }) desk).desk
-quiet-gone phase key None site now c desk none = nothing key desk
-quiet-gone phase key (Some branch) site now c desk none =
-    subst (λ b. IsUnseen key desk (if b then Rattle.mmtel_call.specs.Table.silence_in phase site now (record c { phase = phase }) desk else onward (Rattle.mmtel_call.specs.Leaving.without_silent branch (record c { phase = phase })) desk).desk)
-    (sym (none branch)) (nothing key desk)
+quiet-gone phase key None site now c desk fly none = nothing key desk
+quiet-gone phase key (Some branch) site now c desk fly none =
+    subst (λ b. IsUnseen key desk (if b then Rattle.mmtel_call.specs.Table.silence_in phase site now (record c { phase = phase }) desk else silent_other site branch (record c { phase = phase }) desk).desk)
+    (sym (none branch)) (silent-unseen key site branch (record c { phase = phase }) desk fly)
 
 lent-none : (loan : Loan) → HearsNone (Lent loan)
-unfolding step
-lent-none loan key site now (signal.Request side asked request) c desk = nothing key desk
-lent-none loan key site now (signal.Ack side ack) c desk = nothing key desk
-lent-none loan key site now (signal.Cancel asked cancel invite) c desk = nothing key desk
-lent-none loan key site now (signal.Answer asked response) c desk = none-answered (Lent loan) key (invite_answered response) site now asked response c desk (λ branch. refl)
-lent-none loan key site now (signal.Silent branch method) c desk = quiet-gone (Lent loan) key (invite_silent branch method) site now c desk (λ branch. refl)
-lent-none loan key site now (signal.Due what) c desk = nothing key desk
-lent-none loan key site now (signal.Ended asked) c desk = nothing key desk
+unfolding row
+lent-none loan key site now (signal.Request side asked request) c desk fly = nothing key desk
+lent-none loan key site now (signal.Ack side ack) c desk fly = nothing key desk
+lent-none loan key site now (signal.Cancel asked cancel invite) c desk fly = nothing key desk
+lent-none loan key site now (signal.Answer asked response) c desk fly = none-answered (Lent loan) key (invite_answered response) site now asked response c desk fly (λ branch. refl)
+lent-none loan key site now (signal.Silent branch method) c desk fly = quiet-gone (Lent loan) key (invite_silent branch method) site now c desk fly (λ branch. refl)
+lent-none loan key site now (signal.Due what) c desk fly = nothing key desk
+lent-none loan key site now (signal.Ended asked) c desk fly = nothing key desk
 
 over-none : (cause : Cause) → HearsNone (Over cause)
+unfolding row
+over-none cause key site now (signal.Request side asked request) c desk fly = nothing key desk
+over-none cause key site now (signal.Ack side ack) c desk fly = nothing key desk
+over-none cause key site now (signal.Cancel asked cancel invite) c desk fly = nothing key desk
+over-none cause key site now (signal.Answer asked response) c desk fly = none-answered (Over cause) key (invite_answered response) site now asked response c desk fly (λ branch. refl)
+over-none cause key site now (signal.Silent branch method) c desk fly = quiet-gone (Over cause) key (invite_silent branch method) site now c desk fly (λ branch. refl)
+over-none cause key site now (signal.Due what) c desk fly = nothing key desk
+over-none cause key site now (signal.Ended asked) c desk fly = nothing key desk
+
+-- whatever it hears, it does not leave
+step-none : (phase : Phase) (key : TKey) (site : Site) (now : Standing) (heard : Signal) (c : Call) (desk : Desk) → leaves heard (record c { phase = phase }) ≡ false → IsUnseen key desk (row site now heard (record c { phase = phase }) desk).desk →
+    IsUnseen key desk (step site now heard (record c { phase = phase }) desk).desk
 unfolding step
-over-none cause key site now (signal.Request side asked request) c desk = nothing key desk
-over-none cause key site now (signal.Ack side ack) c desk = nothing key desk
-over-none cause key site now (signal.Cancel asked cancel invite) c desk = nothing key desk
-over-none cause key site now (signal.Answer asked response) c desk = none-answered (Over cause) key (invite_answered response) site now asked response c desk (λ branch. refl)
-over-none cause key site now (signal.Silent branch method) c desk = quiet-gone (Over cause) key (invite_silent branch method) site now c desk (λ branch. refl)
-over-none cause key site now (signal.Due what) c desk = nothing key desk
-over-none cause key site now (signal.Ended asked) c desk = nothing key desk
+step-none phase key site now heard c desk stays u =
+    let d : Call = record c { phase = phase } in
+    subst (λ b. IsUnseen key desk (if b then row site now heard (in_flight.dismissed d) (in_flight.dismissing site d desk) else row site now heard d desk).desk) (sym stays) u
 
 -- ---- what was added
 
@@ -466,23 +601,27 @@ unseen-none key heard desk s u = ap (λ signs. if is_within heard then but_passe
     none true = refl
     none false = refl
 
-later-none : (phase : Phase) (site : Site) (now : Standing) (heard : Signal) (c : Call) (desk : Desk) (key : TKey) → is_offered phase ≡ false → AsksOthers key phase → IsOthers key heard →
+later-none : (phase : Phase) (site : Site) (now : Standing) (heard : Signal) (c : Call) (desk : Desk) (key : TKey) → is_offered phase ≡ false → AsksOthers key phase → FlyOthers key c.flights → IsOthers key heard →
     shown_by key heard (added desk.out (step site now heard (record c { phase = phase }) desk).desk.out) ≡ []
-later-none (Offered x) site now heard c desk key h a other = absurd (let e : true ≡ false = h in cc)
-later-none (Stood x stage) site now heard c desk key h a other = shows-none key heard site now.at desk _ (stood-hears key site now x stage heard c desk a other)
-later-none (Lent loan) site now heard c desk key h a other = unseen-none key heard desk (step site now heard (record c { phase = Lent loan }) desk) (lent-none loan key site now heard c desk)
-later-none (Over cause) site now heard c desk key h a other = unseen-none key heard desk (step site now heard (record c { phase = Over cause }) desk) (over-none cause key site now heard c desk)
+later-none (Offered x) site now heard c desk key h a fly other = absurd (let e : true ≡ false = h in cc)
+later-none (Stood x stage) site now heard c desk key h a fly other = shows-none key heard site now.at desk _ (stood-hears key site now x stage heard c desk a fly other)
+later-none (Lent loan) site now heard c desk key h a fly other =
+    unseen-none key heard desk (step site now heard (record c { phase = Lent loan }) desk) (step-none (Lent loan) key site now heard c desk (lowering.no-leaving loan heard c) (lent-none loan key site now heard c desk fly))
+later-none (Over cause) site now heard c desk key h a fly other =
+    unseen-none key heard desk (step site now heard (record c { phase = Over cause }) desk) (step-none (Over cause) key site now heard c desk (answering.no-leaving cause heard c) (over-none cause key site now heard c desk fly))
 
-ends-none : (phase : Phase) (site : Site) (at : ℕ) (c : Call) (desk : Desk) (key : TKey) → IsUnseen key desk (finished_in phase site at (record c { phase = phase }) desk).desk
-ends-none (Offered x) site at c desk key = nothing key desk
-ends-none (Stood x stage) site at c desk key = nothing key desk
-ends-none (Lent loan) site at c desk key =
-    let left = unseen-bye key site.sip (released_leg loan.left).dialogue desk in record { new = left.new; out = left.out; seen = left.seen }
-ends-none (Over cause) site at c desk key = nothing key desk
+ends-none : (phase : Phase) (site : Site) (at : ℕ) (c : Call) (desk : Desk) (key : TKey) → FlyOthers key c.flights → IsUnseen key desk (finished_in phase site at (record c { phase = phase }) desk).desk
+ends-none (Offered x) site at c desk key fly = nothing key desk
+ends-none (Stood x stage) site at c desk key fly = nothing key desk
+ends-none (Lent loan) site at c desk key fly =
+    let before : Desk = in_flight.dismissing site (record c { phase = Lent loan }) desk in
+    let left = adds-then key desk before _ [] [] (dismissing-unseen key site (record c { phase = Lent loan }) desk fly) (unseen-bye key site.sip (released_leg loan.left).dialogue before) in
+    record { new = left.new; out = left.out; seen = left.seen }
+ends-none (Over cause) site at c desk key fly = nothing key desk
 
-finished-none : (site : Site) (at : ℕ) (c : Call) (desk : Desk) (key : TKey) → signs_of key (added desk.out (finished site at c desk).desk.out) ≡ []
+finished-none : (site : Site) (at : ℕ) (c : Call) (desk : Desk) (key : TKey) → FlyOthers key c.flights → signs_of key (added desk.out (finished site at c desk).desk.out) ≡ []
 unfolding finished
-finished-none site at c desk key = signs-added key desk (finished_in c.phase site at c desk).desk [] (ends-none c.phase site at c desk key)
+finished-none site at c desk key fly = signs-added key desk (finished_in c.phase site at c desk).desk [] (ends-none c.phase site at c desk key fly)
 
 -- ---- while it is offered
 
@@ -553,13 +692,59 @@ gives-up-answers key site at x asked m c desk =
     (answers-then key replied told (cancelled_attempt site x told) (a-reply key c.opening.key _ replied) (no-answer key told _ (unseen-cancelled key site.sip x.attempt.invitation told))) in
     record { new = all.new; out = all.out; finals = all.finals }
 
+drawn-answers : (key : TKey) (desk : Desk) (e : Emit) → sign_of key e ≡ [] → Answers key desk (emitted e (drew desk))
+drawn-answers key desk e none = no-answer key desk _ (adds-then key desk (drew desk) _ [] [] (unseen-drew key desk) (adds-emit key (drew desk) e [] none))
+
+acknowledging-answers : (key : TKey) (site : Site) (x : Trial) (asked : TKey) (m : Said) (rack : Rack) (answer : Option ℕ) (c : Call) (desk : Desk) → Answers key desk (acknowledging site x asked m rack answer c desk).desk
+acknowledging-answers key site x asked m rack None c desk = a-reply key asked _ desk
+acknowledging-answers key site x asked m rack (Some answer) c desk =
+    let before : Desk = in_flight.settled site (Some rack.answer) c desk in
+    answers-then key desk before _ (no-answer key desk before (settled-unseen key site (Some rack.answer) c desk)) (drawn-answers key before _ refl)
+
+rack-answers : (key : TKey) (site : Site) (x : Trial) (asked : TKey) (m : Said) (rack : Option Rack) (c : Call) (desk : Desk) → Answers key desk (on_rack site x asked m rack c desk).desk
+rack-answers key site x asked m None c desk = a-reply key asked _ desk
+rack-answers key site x asked m (Some rack) c desk = acknowledging-answers key site x asked m rack (answer_named x c rack) c desk
+
+prack-answers : (key : TKey) (side : Side) (site : Site) (x : Trial) (asked : TKey) (m : Said) (c : Call) (desk : Desk) → Answers key desk (on_prack_of side site x asked m c desk).desk
+prack-answers key Caller site x asked m c desk = rack-answers key site x asked m (acknowledged_by m) c desk
+prack-answers key Callee site x asked m c desk = a-reply key asked _ desk
+
+step-answers : (key : TKey) (before : Desk) (b : Bool) (one two : Step) → Answers key before one.desk → Answers key before two.desk → Answers key before (if b then one else two).desk
+step-answers key before true one two p q = p
+step-answers key before false one two p q = q
+
+unless-answers : (key : TKey) (flying : Option Side) (site : Site) (x : Trial) (side : Side) (asked : TKey) (m : Said) (c : Call) (desk : Desk) → Answers key desk (unless_updating flying (updated_early site x side asked m) site side asked m c desk).desk
+unless-answers key None site x side asked m c desk = drawn-answers key desk _ refl
+unless-answers key (Some flying) site x side asked m c desk = step-answers key desk (is_same_side flying side) _ _ (a-reply key asked _ desk) (a-reply key asked _ desk)
+
+update-answers : (key : TKey) (site : Site) (x : Trial) (side : Side) (asked : TKey) (m : Said) (c : Call) (desk : Desk) → Answers key desk (on_update site x side asked m c desk).desk
+update-answers key site x side asked m c desk =
+    step-answers key desk (takes_updates x) _ _ (unless-answers key (in_flight.updating c.flights) site x side asked m c desk) (a-reply key asked _ desk)
+
+other-answers : (key : TKey) (site : Site) (x : Trial) (side : Side) (asked : TKey) (m : Said) (c : Call) (desk : Desk) → Answers key desk (on_other site x side asked m c desk).desk
+other-answers key site x side asked m c desk =
+    step-answers key desk (is_prack m) _ _ (prack-answers key side site x asked m c desk)
+    (step-answers key desk (is_update m) _ _ (update-answers key site x side asked m c desk) (unlisted-answers key site c asked m desk))
+
 heard-answers : (key : TKey) (site : Site) (at : ℕ) (x : Trial) (side : Side) (asked : TKey) (m : Said) (c : Call) (desk : Desk) → Answers key desk (on_heard site at x side asked m c desk).desk
-heard-answers key site at x Caller asked m c desk = go (is_bye m)
-  where
-    go : (b : Bool) → Answers key desk (if b then Rattle.mmtel_call.specs.Ringing.given_up site at x c (replied_to site c asked m 200 desk) else onward c (unlisted site c asked m desk)).desk
-    go true = gives-up-answers key site at x asked m c desk
-    go false = unlisted-answers key site c asked m desk
-heard-answers key site at x Callee asked m c desk = unlisted-answers key site c asked m desk
+heard-answers key site at x Caller asked m c desk =
+    step-answers key desk (is_bye m) _ _ (gives-up-answers key site at x asked m c desk) (other-answers key site x Caller asked m c desk)
+heard-answers key site at x Callee asked m c desk = other-answers key site x Callee asked m c desk
+
+-- what is in flight is dismissed
+each-answers : (key : TKey) (site : Site) (c : Call) (flights : List Flight) (desk : Desk) → Answers key desk (in_flight.dismissed_each site c flights desk)
+each-answers key site c [] desk = no-answer key desk desk (nothing key desk)
+each-answers key site c (flight ∷ flights) desk =
+    let next : Desk = in_flight.dismissed_flight site c flight desk in
+    answers-then key desk next (in_flight.dismissed_each site c flights next) (a-reply key flight.asked.key _ desk) (each-answers key site c flights next)
+
+dismissing-answers : (key : TKey) (site : Site) (c : Call) (desk : Desk) → Answers key desk (in_flight.dismissing site c desk)
+dismissing-answers key site c desk =
+    let first : Desk = in_flight.dismissed_each site c (filter (λ flight. not (in_flight.is_updating flight)) c.flights) desk in
+    let all : Desk = in_flight.dismissed_all site c desk in
+    answers-then key desk all (in_flight.dismissing site c desk)
+    (answers-then key desk first all (each-answers key site c (filter (λ flight. not (in_flight.is_updating flight)) c.flights) desk) (each-answers key site c (filter in_flight.is_updating c.flights) first))
+    (no-answer key all _ (settled_in-unseen key c.phase site c all))
 
 request-answers : (key : TKey) (said : Result (Unit {0}) DialogueFault) (site : Site) (at : ℕ) (x : Trial) (side : Side) (asked : TKey) (m : Said) (c : Call) (desk : Desk) →
     Answers key desk (on_request_if said site at x side asked m c desk).desk
@@ -573,11 +758,22 @@ finals-all key true before after a =
     let new : added before.out after.out ≡ a.new = ap (λ (out : List Emit). drop (length before.out) out) a.out ∙ drop_at before.out a.new (length before.out) refl in
     all-count (signs_of key (added before.out after.out)) (subst (λ out. AreFinals (signs_of key out)) (sym new) a.finals)
 
+row-answers : (key : TKey) (site : Site) (now : Standing) (x : Trial) (side : Side) (asked : TKey) (request : Said) (c : Call) (desk : Desk) → Answers key desk (row site now (signal.Request side asked request) (record c { phase = Offered x }) desk).desk
+unfolding row
+row-answers key site now x side asked request c desk = request-answers key (says_offered x side request) site now.at x side asked request (record c { phase = Offered x }) desk
+
+offered-answers : (key : TKey) (site : Site) (now : Standing) (x : Trial) (side : Side) (asked : TKey) (request : Said) (c : Call) (desk : Desk) →
+    Answers key desk (step site now (signal.Request side asked request) (record c { phase = Offered x }) desk).desk
+unfolding step
+offered-answers key site now x side asked request c desk =
+    let d : Call = record c { phase = Offered x } in
+    let before : Desk = in_flight.dismissing site d desk in
+    step-answers key desk (leaves (signal.Request side asked request) d) _ _
+    (answers-then key desk before _ (dismissing-answers key site d desk) (row-answers key site now x side asked request (in_flight.dismissed c) before)) (row-answers key site now x side asked request c desk)
+
 offered-all : (phase : Phase) (site : Site) (now : Standing) (heard : Signal) (c : Call) (desk : Desk) (key : TKey) → is_offered phase ≡ true →
     shown_by key heard (added desk.out (step site now heard (record c { phase = phase }) desk).desk.out) ≡ signs_of key (added desk.out (step site now heard (record c { phase = phase }) desk).desk.out)
-unfolding step
-offered-all (Offered x) site now (signal.Request side asked request) c desk key h =
-    finals-all key (is_invite request) desk _ (request-answers key (says_offered x side request) site now.at x side asked request (record c { phase = Offered x }) desk)
+offered-all (Offered x) site now (signal.Request side asked request) c desk key h = finals-all key (is_invite request) desk _ (offered-answers key site now x side asked request c desk)
 offered-all (Offered x) site now (signal.Ack side ack) c desk key h = refl
 offered-all (Offered x) site now (signal.Cancel asked cancel invite) c desk key h = refl
 offered-all (Offered x) site now (signal.Answer asked response) c desk key h = refl
@@ -640,7 +836,7 @@ after-asks key site now caller service m (EndRefuse cause) c desk = refused-asks
 fares-asks : (key : TKey) (P : Type 0) (site : Site) (now : Standing) (x : Trial) (c : Call) (before : Desk) (end : Option End) (s : Step) → faring.Fares P site now x c before end s → Asks key s
 fares-asks key P site now x c before end s (faring.Rings e y r) = subst (AsksOthers key) (sym r.phase) tt
 fares-asks key P site now x c before end s (faring.Answers e y stage r) = subst (AsksOthers key) (sym r.phase) (r.awaits key)
-fares-asks key P site now x c before end s (faring.GivesUp e y d desk r) = subst (Asks key) (sym r.is) tt
+fares-asks key P site now x c before end s (faring.GivesUp by_caller e y d desk r) = subst (Asks key) (sym r.is) tt
 fares-asks key P site now x c before end s (faring.GoesOn how e m d desk r) =
     subst (Asks key) (sym r.is) (after-asks key site now x.caller x.attempt.service m (decided_after d.opening now.at (is_diverted d) x.attempt.service how) (with_past x.callee.leg.meter d) desk)
 
@@ -653,19 +849,19 @@ unfolding opened
 first-asks s key =
     let c = new_call s.site (opening_in s) in opens-asks key (refusal_of s.site s.now.at (opening_in s)) s.site s.now (caller_of s.now.at c) c (told_caller s.site c 100 (drew s.desk))
 
-step-asks : (phase : Phase) (site : Site) (now : Standing) (heard : Signal) (c : Call) (desk : Desk) (key : TKey) → AsksOthers key phase → IsOthers key heard →
+step-asks : (phase : Phase) (site : Site) (now : Standing) (heard : Signal) (c : Call) (desk : Desk) (key : TKey) → AsksOthers key phase → FlyOthers key c.flights → IsOthers key heard →
     Asks key (step site now heard (record c { phase = phase }) desk)
-step-asks (Offered x) site now heard c desk key a other =
-    fares-asks key (IsOthers c.opening.key heard) site now x (faring.offered x c) desk (end_in (Offered x) (faring.offered x c) heard) _ (faring.fares site now x heard c desk)
-step-asks (Stood x stage) site now heard c desk key a other = (stood-hears key site now x stage heard c desk a other).asks
-step-asks (Lent loan) site now heard c desk key a other = subst (AsksOthers key) (sym (stays-lent site now loan heard c desk).phase) tt
-step-asks (Over cause) site now heard c desk key a other = subst (AsksOthers key) (sym (Rattle.mmtel_call_laws.proofs.Answering.stays-over site now cause heard c desk).phase) tt
+step-asks (Offered x) site now heard c desk key a fly other =
+    fares-asks key (faring.IsOwn c heard) site now x (faring.offered x c) desk (end_in (Offered x) (faring.offered x c) heard) _ (faring.fares site now x heard c desk)
+step-asks (Stood x stage) site now heard c desk key a fly other = (stood-hears key site now x stage heard c desk a fly other).asks
+step-asks (Lent loan) site now heard c desk key a fly other = subst (AsksOthers key) (sym (lowering.stays-lent site now loan heard c desk).phase) tt
+step-asks (Over cause) site now heard c desk key a fly other = subst (AsksOthers key) (sym (answering.stays-over site now cause heard c desk).phase) tt
 
 pub shows_nothing_later : ShowsNothingLater
 shows_nothing_later = record {
-  opens = first-asks;
-  asks = λ site now heard c desk key a other. step-asks c.phase site now heard c desk key a other;
+  opens = λ s key. (first-asks s key, subst (FlyOthers key) (sym (nothing_in_flight.first s)) tt);
+  asks = λ site now heard c desk key w other. (step-asks c.phase site now heard c desk key w.0 w.1 other, flies site now heard c desk key w.1 other);
   all = λ site now heard c desk key h. offered-all c.phase site now heard c desk key h;
-  none = λ site now heard c desk key h a other. later-none c.phase site now heard c desk key h a other;
+  none = λ site now heard c desk key h w other. later-none c.phase site now heard c desk key h w.0 w.1 other;
   ends = finished-none;
 }

@@ -1,3 +1,4 @@
+pub mod Each
 mod Parts
 pub mod Falling
 pub mod Knowing
@@ -11,6 +12,7 @@ pub mod Telling
 pub mod Lowering
 pub mod Concluding
 pub mod Signs
+mod Flying
 mod Later
 mod Moments
 mod GoingOn
@@ -20,4 +22,5 @@ mod Session
 pub mod Heads
 pub mod Branches
 pub mod Replies
+mod Dismissal
 pub mod Secret

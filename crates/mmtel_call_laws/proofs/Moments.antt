@@ -5,13 +5,12 @@ use Rattle.std.specs.Prelude.{Option, Some, None, if◌then◌else◌}
 use Rattle.mmtel_answers.specs.Said.{Said, status_of}
 use Rattle.mmtel_desk.specs.declared.desks.Desk.{Desk}
 use Rattle.mmtel_leg.specs.Legs.{Leg}
-use Rattle.mmtel_precedence.specs.Calls.{Answer, Cancel, Deflection, End, Ended, NoReply, NotReachable, Other, Standing, UserBusy}
+use Rattle.mmtel_precedence.specs.Calls.{Answer, Cancel, Deflection, End, Ended, NoReply, NotReachable, Other, Standing, Unacknowledged, UserBusy}
 use Rattle.mmtel_precedence.specs.Services.{DueDiversion}
 use Rattle.mmtel_precedence.specs.Turns.{AfterEnd, EndAnswered, EndDivert, EndRefuse, Turn, TurnDivert, TurnOffer, TurnRefuse}
 use Rattle.mmtel_precedence.specs.Verdicts.{too_many}
 use Rattle.mmtel_targets.specs.declared.targets.Target.{Target}
 use Rattle.mmtel_types.specs.declared.causes.Cause.{Cause}
-use Rattle.mmtel_types.specs.declared.causes.Cause.TheVariants as causes
 use Rattle.mmtel_call_decisions.specs.Decisions.{decided_after, decided_at, handed_on, is_status, peer_for, service_at, target_of}
 use Rattle.mmtel_call_decisions.specs.Opening.{first_of, refusal_of}
 use Rattle.mmtel_call_decisions.specs.Site.{Site}
@@ -25,7 +24,6 @@ use Rattle.mmtel_call.specs.declared.calls.Phase.{Phase}
 use Rattle.mmtel_call.specs.declared.calls.Phase.TheVariants.{Lent, Offered, Over, Stood}
 use Rattle.mmtel_call.specs.declared.calls.Trial.{Trial}
 use Rattle.mmtel_call_laws.specs.Endings.{answer_in, answer_of, end_in, ended_at, ending_by, endings_after, last_or}
-use Rattle.mmtel_call_laws.specs.Shown.{IsOthers}
 use Rattle.mmtel_call_laws.specs.Story.{Heard, Start, call_after, first_step, next_step, opening_in}
 use Rattle.mmtel_call_laws.proofs.Answering as answering
 use Rattle.mmtel_call_laws.proofs.Faring as faring
@@ -98,11 +96,17 @@ answer-more (x ∷ ends) e = ap (λ l. last_or l (answer_of x.how x.at)) (answer
 failed-answer : (how : End) (at : ℕ) → (how ≡ Answer → ⊥) → answer_of how at ≡ None
 failed-answer Answer at h = absurd (h refl)
 failed-answer Cancel at h = refl
+failed-answer Unacknowledged at h = refl
 failed-answer (UserBusy code) at h = refl
 failed-answer (NotReachable code) at h = refl
 failed-answer NoReply at h = refl
 failed-answer (Deflection target rang) at h = refl
 failed-answer (Other code) at h = refl
+
+-- a call that is given up has none
+given-answer : (by_caller : Bool) (at : ℕ) → answer_of (faring.given_how by_caller) at ≡ None
+given-answer true at = refl
+given-answer false at = refl
 
 -- ---- one step: what was answered before, and what ends now
 
@@ -115,8 +119,10 @@ adds-nothing c ends now s none same told = same ∙ sym told ∙ ap answer_in (s
 fares-adds : (P : Type 0) (site : Site) (now : Standing) (x : Trial) (c : Call) (before : Desk) (end : Option End) (s : Step) (ends : List Ended) → faring.Fares P site now x c before end s → Adds c.answered ends (ends_by now.at end) s
 fares-adds P site now x c before end s ends (faring.Rings e y r) told = adds-nothing c ends (ends_by now.at end) s (ap (ends_by now.at) e) r.same.answered told
 fares-adds P site now x c before end s ends (faring.Answers e y stage r) told = r.answered ∙ sym (answer-more ends (ended_at now.at Answer)) ∙ ap (λ end. answer_in (ends ++ ends_by now.at end)) (sym e)
-fares-adds P site now x c before end s ends (faring.GivesUp e y d desk r) told =
-    ap (λ (s : Step). s.call.answered) r.is ∙ r.same.answered ∙ sym told ∙ sym (answer-more ends (ended_at now.at Cancel)) ∙ ap (λ end. answer_in (ends ++ ends_by now.at end)) (sym e)
+fares-adds P site now x c before end s ends (faring.GivesUp by_caller e y d desk r) told =
+    let how = faring.given_how by_caller in
+    ap (λ (s : Step). s.call.answered) r.is ∙ r.same.answered ∙ sym told
+    ∙ ap (λ one. last_or one (answer_in ends)) (sym (given-answer by_caller now.at)) ∙ sym (answer-more ends (ended_at now.at how)) ∙ ap (λ end. answer_in (ends ++ ends_by now.at end)) (sym e)
 fares-adds P site now x c before end s ends (faring.GoesOn how e m d desk r) told =
     ap (λ (s : Step). s.call.answered) r.is ∙ on-keeps site now x how m d desk ∙ r.same.answered ∙ sym told
     ∙ ap (λ one. last_or one (answer_in ends)) (sym (failed-answer how now.at r.unanswered)) ∙ sym (answer-more ends (ended_at now.at how)) ∙ ap (λ end. answer_in (ends ++ ends_by now.at end)) (sym e)
@@ -127,7 +133,7 @@ goes-keeps at x c rows s (answering.Leaves y d desk r) = ap (λ (s : Step). s.ca
 
 in-phase-adds : (phase : Phase) (s : Start) (x : Heard) (c : Call) (ends : List Ended) → Adds c.answered ends (ending_by x (record c { phase = phase })) (next_step s x (record c { phase = phase }))
 in-phase-adds (Offered trial) s x c ends =
-    fares-adds (IsOthers c.opening.key x.signal) s.site x.now trial (faring.offered trial c) x.desk (end_in (Offered trial) (faring.offered trial c) x.signal) (next_step s x (faring.offered trial c)) ends (faring.fares s.site x.now trial x.signal c x.desk)
+    fares-adds (faring.IsOwn c x.signal) s.site x.now trial (faring.offered trial c) x.desk (end_in (Offered trial) (faring.offered trial c) x.signal) (next_step s x (faring.offered trial c)) ends (faring.fares s.site x.now trial x.signal c x.desk)
 in-phase-adds (Stood pair stage) s x c ends =
     let new = next_step s x (record c { phase = Stood pair stage }) in
     adds-nothing c ends [] new refl (goes-keeps x.now.at pair c x.desk.rows new (answering.goes s.site x.now pair stage x.signal c x.desk))

@@ -1,9 +1,14 @@
+pub mod Numbers
+pub mod Places
 pub mod Once
 pub mod Sent
 pub mod Shown
 pub mod Rows
+pub mod Flights
+pub mod Offered
 pub mod Absorbing
 pub mod Across
+pub mod Landing
 pub mod Ringing
 pub mod Deciding
 pub mod Offering

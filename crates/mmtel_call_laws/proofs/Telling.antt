@@ -32,7 +32,7 @@ use Rattle.mmtel_call.specs.declared.calls.Stage.{Stage}
 use Rattle.mmtel_call.specs.declared.calls.Trial.{Trial}
 use Rattle.mmtel_waiting.specs.declared.hold.HoldState.{HoldState}
 use Rattle.mmtel_call_laws.specs.Charged.{rows_of_parts}
-use Rattle.mmtel_call_laws.specs.Shown.{AreOwn, IsOthers, Sign, asked_uri, emits_while_offered, final_sign, is_offered, sign_if, sign_of_result, signs_of, signs_of_targets}
+use Rattle.mmtel_call_laws.specs.Shown.{AreOwn, FlyOthers, IsOthers, Sign, asked_uri, emits_while_offered, final_sign, is_offered, sign_if, sign_of_result, signs_of, signs_of_targets}
 use Rattle.mmtel_call_laws.proofs.Signs.{quiet-provisional, signs-append}
 use Rattle.mmtel_transaction.specs.declared.words.Emit.{Emit}
 use Rattle.mmtel_transaction.specs.declared.words.TKey.{TKey}
@@ -43,7 +43,9 @@ use Rattle.mmtel_call_laws.specs.Story.{Heard, Start, added, call_after, first_s
 use Rattle.mmtel_call_laws.proofs.Agreeing.{Agrees, Came, Comes, Ends, IsEnded, IsRinging, IsTalking, Place, Rings, Talks, total}
 use Rattle.mmtel_call_laws.proofs.Answering as answering
 use Rattle.mmtel_call_laws.proofs.Coming.{divert-comes, refused-comes, target-comes, told-shown}
+use Rattle.mmtel_call_laws.proofs.Dismissal.{last_none}
 use Rattle.mmtel_call_laws.proofs.Faring as faring
+use Rattle.mmtel_call_laws.proofs.Flying.{own_fly}
 use Rattle.mmtel_call_laws.proofs.Knowing.{IsKnown, first-known, of_target-known}
 use Rattle.mmtel_call_laws.proofs.Lowering.{step-leaves}
 use Rattle.mmtel_call_laws.proofs.Turning.{ends_by, ringing-came, talking-came}
@@ -195,10 +197,10 @@ targets-more o (target ∷ before) new =
     ∙ sym (append_assoc (sign_if target.offer (asked_uri o target.by target.uri)) (signs_of_targets o before) (signs_of_targets o new))
 
 then-ringing : (s : Start) (x : Heard) (earlier : List Heard) (c : Call) (kept after : Kept) (trial : Trial) (reach : Reach) (new : List precedence.Target) → c.phase ≡ Offered trial → kept.phase ≡ moves.Ringing (Rattle.mmtel_precedence.specs.Moves.account_at reach) → Told s earlier kept →
-    after.targets ≡ kept.targets ++ new →
-    (IsOthers s.arrival.key x.signal → signs_of s.arrival.key (next_step s x c).desk.out ≡ signs_of s.arrival.key x.desk.out ++ (signs_of_targets (opening_in s) new ++ sign_of_result (moves.result_in after.phase))) →
+    after.targets ≡ kept.targets ++ new → (AreOwn s earlier → FlyOthers s.arrival.key c.flights) →
+    (IsOthers s.arrival.key x.signal × FlyOthers s.arrival.key c.flights → signs_of s.arrival.key (next_step s x c).desk.out ≡ signs_of s.arrival.key x.desk.out ++ (signs_of_targets (opening_in s) new ++ sign_of_result (moves.result_in after.phase))) →
     Then s x earlier c after
-then-ringing s x earlier c kept after trial reach new offered rings told targets shown own =
+then-ringing s x earlier c kept after trial reach new offered rings told targets fly shown own =
     let key = s.arrival.key in
     let o = opening_in s in
     let out = added x.desk.out (next_step s x c).desk.out in
@@ -208,7 +210,7 @@ then-ringing s x earlier c kept after trial reach new offered rings told targets
     ap (λ phase. signs_of key (emits_while_offered s earlier ++ (if is_offered phase then out else []))) offered
     ∙ signs-append key (emits_while_offered s earlier) out
     ∙ ap (λ l. l ++ signs_of key out) before
-    ∙ ap (λ l. signs_of_targets o kept.targets ++ l) (shown-of key x.desk.out (next_step s x c).desk.out rest own.0 (shown own.1))
+    ∙ ap (λ l. signs_of_targets o kept.targets ++ l) (shown-of key x.desk.out (next_step s x c).desk.out rest own.0 (shown (own.1, fly own.2)))
     ∙ sym (append_assoc (signs_of_targets o kept.targets) (signs_of_targets o new) (sign_of_result (moves.result_in after.phase)))
     ∙ ap (λ l. l ++ sign_of_result (moves.result_in after.phase)) (sym (targets-more o kept.targets new))
     ∙ ap (λ targets. signs_of_targets o targets ++ sign_of_result (moves.result_in after.phase)) (sym targets)
@@ -222,16 +224,16 @@ then-still s x earlier c kept offered told own =
 next-ringing : (turn_law : TurnsAreMoves) (end_law : EndingsAreMoves) (extend : LaterEndingsExtend) (s : Start) (x : Heard) (earlier : List Heard) (later : ℕ → Standing) (c : Call) (filed : List Row) (before m : ℕ) (trial : Trial) (reach : Reach) →
     let kept = moves.moves m (call_in s later) (at_first (call_in s later) (endings_after s earlier)) in
     Agrees s.site s.now (opening_in s) later kept c filed before → IsRinging s.site s.now (opening_in s) later kept c filed trial reach →
-    ((j : ℕ) → kept.done ≤ j → j < total s.site (opening_in s) - (next_step s x c).call.diversions.left → later j ≡ x.now) → Told s earlier kept →
+    ((j : ℕ) → kept.done ≤ j → j < total s.site (opening_in s) - (next_step s x c).call.diversions.left → later j ≡ x.now) → Told s earlier kept → (AreOwn s earlier → FlyOthers s.arrival.key c.flights) →
     Next s earlier later (ending_by x c) (next_step s x c).call (filed ++ added x.desk.rows (next_step s x c).desk.rows) (at_if_over c.phase before x.now.at) (Then s x earlier c)
-next-ringing turn_law end_law extend s x earlier later c filed before m trial reach agrees p stands told =
+next-ringing turn_law end_law extend s x earlier later c filed before m trial reach agrees p stands told fly =
     let o = opening_in s in
     let call = call_in s later in
     let kept = moves.moves m call (at_first call (endings_after s earlier)) in
     let new = next_step s x c in
-    let P = IsOthers c.opening.key x.signal in
+    let P = faring.IsOwn c x.signal in
     let fares : faring.Fares P s.site x.now trial c x.desk (end_in c.phase c x.signal) new =
-    subst (λ (c : Call). faring.Fares (IsOthers c.opening.key x.signal) s.site x.now trial c x.desk (end_in c.phase c x.signal) (next_step s x c)) (sym (in-phase c (Offered trial) p.phase)) (faring.fares s.site x.now trial x.signal c x.desk) in
+    subst (λ (c : Call). faring.Fares (faring.IsOwn c x.signal) s.site x.now trial c x.desk (end_in c.phase c x.signal) (next_step s x c)) (sym (in-phase c (Offered trial) p.phase)) (faring.fares s.site x.now trial x.signal c x.desk) in
     let came : Comes s.site s.now o later P kept.targets (with_later kept (ending_by x c)) x.desk.rows (signs_of o.key x.desk.out) new x.now.at =
     ringing-came turn_law end_law s.site x.now s.now later kept c filed x.desk P trial reach (end_in c.phase c x.signal) new o (record { known = is-known s; left = agrees.left; count = agrees.count; rings = p; stands = stands }) agrees.made agrees.empty agrees.opening fares in
     let (n, more, same, after, (reached, targets, shown)) = came in
@@ -239,8 +241,8 @@ next-ringing turn_law end_law extend s x earlier later c filed before m trial re
     next-of extend s earlier later (ending_by x c) m n new.call (filed ++ added x.desk.rows new.desk.rows) (at_if_over c.phase before x.now.at) (Then s x earlier c)
     (subst (λ at. Agrees s.site s.now o later (moves.moves n call (with_later kept (ending_by x c))) new.call (filed ++ added x.desk.rows new.desk.rows) at) moment
     (subst (λ rows. Agrees s.site s.now o later (moves.moves n call (with_later kept (ending_by x c))) new.call rows x.now.at) (sym (rows-of filed more x.desk.rows new.desk.rows p.none same)) after))
-    (then-ringing s x earlier c kept (moves.moves n call (with_later kept (ending_by x c))) trial reach reached p.phase p.rings told targets
-    (λ others. shown (subst (λ (q : Opening). IsOthers q.key x.signal) (sym agrees.opening) others)))
+    (then-ringing s x earlier c kept (moves.moves n call (with_later kept (ending_by x c))) trial reach reached p.phase p.rings told targets fly
+    (λ others. shown (subst (λ (q : Opening). IsOthers q.key x.signal × FlyOthers q.key c.flights) (sym agrees.opening) others)))
 
 -- moves of a call that is over
 over-still : (n : ℕ) (call : precedence.Call) (kept : Kept) (result : precedence.Result) → kept.phase ≡ moves.Over result → moves.moves n call kept ≡ kept
@@ -273,8 +275,9 @@ next-talking extend s x earlier later c filed before m pair stage answered agree
     (subst (Then s x earlier c) (sym (over-still n call kept precedence.Answered p.over) ∙ ap (moves.moves n call) (sym still)) (then-still s x earlier c kept (ap is_offered p.phase) told)))
 
 over-same : (site : Site) (first : Standing) (o : Opening) (later : ℕ → Standing) (kept : Kept) (c : Call) (filed : List Row) (at : ℕ) (cause : Cause) (rows : List Row) (new : Step) →
-    Agrees site first o later kept c filed at → IsEnded site first o later kept c filed at cause → Untouched c rows new → Agrees site first o later kept new.call (filed ++ added rows new.desk.rows) at
-over-same site first o later kept c filed at cause rows new agrees p u =
+    Agrees site first o later kept c filed at → IsEnded site first o later kept c filed at cause → c.flights ≡ [] →
+    Untouched c rows new → Agrees site first o later kept new.call (filed ++ added rows new.desk.rows) at
+over-same site first o later kept c filed at cause rows new agrees p flown u =
     let no_rows : added rows new.desk.rows ≡ [] = added-is rows [] new.desk.rows (u.none ∙ sym (append-nil rows)) in
     record {
       opening = u.alike.opening ∙ agrees.opening;
@@ -290,16 +293,16 @@ over-same site first o later kept c filed at cause rows new agrees p u =
         rows =
             ap (λ l. filed ++ l) no_rows ∙ append-nil filed ∙ p.rows
             ∙ ap (λ answered. rows_of_parts (record { answered = answered; at = at; holds = c.hold.holds; cause = cause }) (known_as site first o later) o.number kept.targets) (sym u.alike.answered)
-            ∙ ap (λ (hold : HoldState). rows_of_parts (record { answered = new.call.answered; at = at; holds = hold.holds; cause = cause }) (known_as site first o later) o.number kept.targets) (sym u.hold);
+            ∙ ap (λ (hold : HoldState). rows_of_parts (record { answered = new.call.answered; at = at; holds = hold.holds; cause = cause }) (known_as site first o later) o.number kept.targets) (sym (u.hold flown));
       });
     }
 
 next-over : (extend : LaterEndingsExtend) (s : Start) (x : Heard) (earlier : List Heard) (later : ℕ → Standing) (c : Call) (filed : List Row) (before m : ℕ) (cause : Cause) →
     let kept = moves.moves m (call_in s later) (at_first (call_in s later) (endings_after s earlier)) in
-    Agrees s.site s.now (opening_in s) later kept c filed before → IsEnded s.site s.now (opening_in s) later kept c filed before cause → Told s earlier kept →
+    Agrees s.site s.now (opening_in s) later kept c filed before → IsEnded s.site s.now (opening_in s) later kept c filed before cause → Told s earlier kept → c.flights ≡ [] →
     Next s earlier later (ending_by x c) (next_step s x c).call (filed ++ added x.desk.rows (next_step s x c).desk.rows) (at_if_over c.phase before x.now.at) (Then s x earlier c)
 unfolding moves.moves
-next-over extend s x earlier later c filed before m cause agrees p told =
+next-over extend s x earlier later c filed before m cause agrees p told flown =
     let o = opening_in s in
     let call = call_in s later in
     let kept = moves.moves m call (at_first call (endings_after s earlier)) in
@@ -313,7 +316,7 @@ next-over extend s x earlier later c filed before m cause agrees p told =
     (next-of extend s earlier later [] m 0 new.call (filed ++ added x.desk.rows new.desk.rows) (at_if_over c.phase before x.now.at) (Then s x earlier c)
     (subst (λ (k : Kept). Agrees s.site s.now o later k new.call (filed ++ added x.desk.rows new.desk.rows) (at_if_over c.phase before x.now.at)) (sym still)
     (subst (λ at. Agrees s.site s.now o later kept new.call (filed ++ added x.desk.rows new.desk.rows) at) moment
-    (over-same s.site s.now o later kept c filed before cause x.desk.rows new agrees p u)))
+    (over-same s.site s.now o later kept c filed before cause x.desk.rows new agrees p flown u)))
     (subst (Then s x earlier c) (sym still) (then-still s x earlier c kept (ap is_offered p.phase) told)))
 
 -- wherever it stands
@@ -321,11 +324,11 @@ next-at : (turn_law : TurnsAreMoves) (end_law : EndingsAreMoves) (extend : Later
     let kept = moves.moves m (call_in s later) (at_first (call_in s later) (endings_after s earlier)) in
     Agrees s.site s.now (opening_in s) later kept c filed before →
     ((j : ℕ) → kept.done ≤ j → j < total s.site (opening_in s) - (next_step s x c).call.diversions.left → later j ≡ x.now) → Told s earlier kept →
-    Place s.site s.now (opening_in s) later kept c filed before →
+    (AreOwn s earlier → FlyOthers s.arrival.key c.flights) → (is_over c.phase ≡ true → c.flights ≡ []) → Place s.site s.now (opening_in s) later kept c filed before →
     Next s earlier later (ending_by x c) (next_step s x c).call (filed ++ added x.desk.rows (next_step s x c).desk.rows) (at_if_over c.phase before x.now.at) (Then s x earlier c)
-next-at turn_law end_law extend s x earlier later c filed before m agrees stands told (Rings trial reach p) = next-ringing turn_law end_law extend s x earlier later c filed before m trial reach agrees p stands told
-next-at turn_law end_law extend s x earlier later c filed before m agrees stands told (Talks pair stage answered p) = next-talking extend s x earlier later c filed before m pair stage answered agrees p told
-next-at turn_law end_law extend s x earlier later c filed before m agrees stands told (Ends cause p) = next-over extend s x earlier later c filed before m cause agrees p told
+next-at turn_law end_law extend s x earlier later c filed before m agrees stands told fly flown (Rings trial reach p) = next-ringing turn_law end_law extend s x earlier later c filed before m trial reach agrees p stands told fly
+next-at turn_law end_law extend s x earlier later c filed before m agrees stands told fly flown (Talks pair stage answered p) = next-talking extend s x earlier later c filed before m pair stage answered agrees p told
+next-at turn_law end_law extend s x earlier later c filed before m agrees stands told fly flown (Ends cause p) = next-over extend s x earlier later c filed before m cause agrees p told (flown (ap is_over p.phase))
 
 -- ---- every story
 
@@ -367,4 +370,4 @@ tied turn_law end_law extend s [] later fits = tied-first turn_law s later fits
 tied turn_law end_law extend s (x ∷ earlier) later fits =
     let (m, agrees, told) = tied turn_law end_law extend s earlier later (fits-earlier s x earlier later fits) in
     next-at turn_law end_law extend s x earlier later (call_after s earlier) (rows_after s earlier) (over_at s earlier) m agrees
-    (fits-now s x earlier later (moves.moves m (call_in s later) (at_first (call_in s later) (endings_after s earlier))).done fits agrees.left) told agrees.place
+    (fits-now s x earlier later (moves.moves m (call_in s later) (at_first (call_in s later) (endings_after s earlier))).done fits agrees.left) told (own_fly s earlier) (last_none s earlier) agrees.place

@@ -8,7 +8,7 @@ use Rattle.mmtel_charging.specs.declared.rows.Row.{Row}
 use Rattle.mmtel_desk.specs.declared.desks.Desk.{Desk}
 use Rattle.mmtel_leg.specs.Legs.{Leg}
 use Rattle.mmtel_precedence.specs.Calls as precedence
-use Rattle.mmtel_precedence.specs.Calls.{Answer, Cancel, Deflection, End, Ended, Final, NoReply, NotReachable, Other, Reach, Standing, UserBusy}
+use Rattle.mmtel_precedence.specs.Calls.{Answer, Cancel, Deflection, End, Ended, Final, NoReply, NotReachable, Other, Reach, Standing, Unacknowledged, UserBusy}
 use Rattle.mmtel_precedence.specs.Extension.{with_later}
 use Rattle.mmtel_precedence.specs.Laws.{is_diverted_to}
 use Rattle.mmtel_precedence.specs.Moves as moves
@@ -80,6 +80,7 @@ due-unanswered (Some due) cause e = cc
 only-answers : (c : Circumstances) (sheet : Option Sheet) (how : End) → turn_on c sheet how ≡ EndAnswered → how ≡ Answer
 only-answers c sheet Answer e = refl
 only-answers c sheet Cancel e = absurd cc
+only-answers c sheet Unacknowledged e = absurd cc
 only-answers c sheet (UserBusy code) e = absurd (due-unanswered _ _ e)
 only-answers c sheet (NotReachable code) e = absurd (due-unanswered _ _ e)
 only-answers c sheet NoReply e = absurd (due-unanswered _ _ e)
@@ -178,17 +179,29 @@ went-on turn_law end_law site now first later kept c d filed rows P old x reach 
     (λ e. not_answered (only-answers (decisions.of_caller o now.at (is_diverted d)) (its_sheet x.attempt.service) how e)) step.known (ready-by site now first later kept c d filed x reach s step made same)
     (record { sheet = p.sheet; served = p.served; reached = p.reached }) none shown step.stands))
 
--- its caller gave up
-given-up : (end_law : EndingsAreMoves) (site : Site) (now first : Standing) (later : ℕ → Standing) (kept : Kept) (c d : Call) (filed rows : List Row) (P : Type 0) (old : List Sign) (x y : Trial) (reach : Reach) (desk : Desk) →
-    AtStep site now first later kept c filed x reach (over_offered now.at causes.Cancelled y d desk) d.opening → counted kept → kept.endings ≡ [] → Alike c d →
-    y.caller.meter ≡ x.caller.meter → y.callee.leg.meter ≡ x.callee.leg.meter → desk.rows ≡ rows → (P → signs_of d.opening.key desk.out ≡ old ++ final_sign 487) →
-    Comes site first d.opening later P kept.targets (with_later kept (ended_at now.at Cancel ∷ [])) rows old (over_offered now.at causes.Cancelled y d desk) now.at
+-- its caller gave up, or did not acknowledge an answer
+refuses-so : (by_caller : Bool) (c : Circumstances) (sheet : Option Sheet) → turn_on c sheet (faring.given_how by_caller) ≡ EndRefuse (faring.given_cause by_caller)
+refuses-so true c sheet = refl
+refuses-so false c sheet = refl
+
+given-up : (by_caller : Bool) (end_law : EndingsAreMoves) (site : Site) (now first : Standing) (later : ℕ → Standing) (kept : Kept) (c d : Call) (filed rows : List Row) (P : Type 0) (old : List Sign) (x y : Trial) (reach : Reach) (desk : Desk) →
+    let how = faring.given_how by_caller in
+    let cause = faring.given_cause by_caller in
+    AtStep site now first later kept c filed x reach (over_offered now.at cause y d desk) d.opening → counted kept → kept.endings ≡ [] → Alike c d →
+    y.caller.meter ≡ x.caller.meter → y.callee.leg.meter ≡ x.callee.leg.meter → desk.rows ≡ rows → (P → signs_of d.opening.key desk.out ≡ old ++ final_sign (status_of cause)) →
+    Comes site first d.opening later P kept.targets (with_later kept (ended_at now.at how ∷ [])) rows old (over_offered now.at cause y d desk) now.at
 unfolding moves.moves
-given-up end_law site now first later kept c d filed rows P old x y reach desk step made empty same caller callee none shown =
+given-up by_caller end_law site now first later kept c d filed rows P old x y reach desk step made empty same caller callee none shown =
     let o = d.opening in
     let p = step.rings in
-    let end : Ending = record { answered = d.answered; at = now.at; holds = d.hold.holds; cause = cause_by d.answered causes.Cancelled } in
-    turn-came end_law site first o later kept reach now.at Cancel rows P old (over_offered now.at causes.Cancelled y d desk) now.at p.rings empty (
+    let how = faring.given_how by_caller in
+    let cause = faring.given_cause by_caller in
+    let call = known_as site first o later in
+    let s = over_offered now.at cause y d desk in
+    let end : Ending = record { answered = d.answered; at = now.at; holds = d.hold.holds; cause = cause_by d.answered cause } in
+    turn-came end_law site first o later kept reach now.at how rows P old s now.at p.rings empty
+    (subst (λ (after : AfterEnd). Comes site first o later P kept.targets (kept_after_turn call (account_at reach) now.at (ringing kept reach) after) rows old s now.at)
+    (sym (refuses-so by_caller (targets.of_caller call kept.done now.at) (turns.sheet_of reach))) (
       0,
       rows_by end d.past y.caller.meter y.callee.leg.meter,
       ap (λ l. l ++ rows_by end d.past y.caller.meter y.callee.leg.meter) none,
@@ -198,19 +211,19 @@ given-up end_law site now first later kept c d filed rows P old x y reach desk s
         count = ap (λ (v : Diverted). v.count) same.diversions ∙ step.count;
         made = made;
         empty = refl;
-        place = Ends (cause_by d.answered causes.Cancelled) (record {
+        place = Ends (cause_by d.answered cause) (record {
           phase = refl;
-          over = ap moves.Over (sym (unanswered d.answered causes.Cancelled (same.answered ∙ p.answered)));
-          why = by-answer d.answered causes.Cancelled;
+          over = ap moves.Over (sym (unanswered d.answered cause (same.answered ∙ p.answered)));
+          why = by-answer d.answered cause;
           past = refl;
           rows =
               ap (λ past. rows_by end past y.caller.meter y.callee.leg.meter) (same.past ∙ p.past)
-              ∙ ap (λ first_meter. rows_by end (past_parts (known_as site first o later) o.number 0 None kept.targets) first_meter y.callee.leg.meter) (caller ∙ p.origin)
-              ∙ ap (λ last. rows_by end (past_parts (known_as site first o later) o.number 0 None kept.targets) (origin_part (known_as site first o later) o.number) last) (callee ∙ p.last);
+              ∙ ap (λ first_meter. rows_by end (past_parts call o.number 0 None kept.targets) first_meter y.callee.leg.meter) (caller ∙ p.origin)
+              ∙ ap (λ last. rows_by end (past_parts call o.number 0 None kept.targets) (origin_part call o.number) last) (callee ∙ p.last);
         });
       },
       ([], sym (append-nil kept.targets), shown),
-    )
+    ))
 
 -- it goes on to ring
 still-came : (site : Site) (now first : Standing) (later : ℕ → Standing) (kept : Kept) (c : Call) (filed : List Row) (before : Desk) (P : Type 0) (x y : Trial) (reach : Reach) (s : Step) (o : Opening) →
@@ -287,15 +300,17 @@ ringing-came turn_law end_law site now first later kept c filed before P x reach
     subst (λ (end : Option End). Comes site first o later P kept.targets (with_later kept (ends_by now.at end)) before.rows (signs_of o.key before.out) s now.at) (sym e) (still-came site now first later kept c filed before P x y reach s o step made empty opening r)
 ringing-came turn_law end_law site now first later kept c filed before P x reach end s o step made empty opening (faring.Answers e y stage r) =
     subst (λ (end : Option End). Comes site first o later P kept.targets (with_later kept (ends_by now.at end)) before.rows (signs_of o.key before.out) s now.at) (sym e) (answered-came end_law site now first later kept c filed before P x reach y stage s o step made empty opening r)
-ringing-came turn_law end_law site now first later kept c filed before P x reach end s o step made empty opening (faring.GivesUp e y d desk r) =
+ringing-came turn_law end_law site now first later kept c filed before P x reach end s o step made empty opening (faring.GivesUp by_caller e y d desk r) =
     let same_opening : d.opening ≡ o = r.same.opening ∙ opening in
-    let given = over_offered now.at causes.Cancelled y d desk in
+    let how = faring.given_how by_caller in
+    let cause = faring.given_cause by_caller in
+    let given = over_offered now.at cause y d desk in
     let here : AtStep site now first later kept c filed x reach given o = subst (λ (s : Step). AtStep site now first later kept c filed x reach s o) r.is step in
     subst (λ (end : Option End). Comes site first o later P kept.targets (with_later kept (ends_by now.at end)) before.rows (signs_of o.key before.out) s now.at) (sym e)
-    (subst (λ (s : Step). Comes site first o later P kept.targets (with_later kept (ended_at now.at Cancel ∷ [])) before.rows (signs_of o.key before.out) s now.at) (sym r.is)
-    (subst (λ (o : Opening). Comes site first o later P kept.targets (with_later kept (ended_at now.at Cancel ∷ [])) before.rows (signs_of o.key before.out) given now.at) same_opening
-    (given-up end_law site now first later kept c d filed before.rows P (signs_of d.opening.key before.out) x y reach desk (subst (AtStep site now first later kept c filed x reach given) (sym same_opening) here) made empty r.same r.caller r.callee r.none
-    (λ q. subst (λ (o : Opening). signs_of o.key desk.out ≡ signs_of o.key before.out ++ final_sign 487) (sym r.same.opening) (r.shown q)))))
+    (subst (λ (s : Step). Comes site first o later P kept.targets (with_later kept (ended_at now.at how ∷ [])) before.rows (signs_of o.key before.out) s now.at) (sym r.is)
+    (subst (λ (o : Opening). Comes site first o later P kept.targets (with_later kept (ended_at now.at how ∷ [])) before.rows (signs_of o.key before.out) given now.at) same_opening
+    (given-up by_caller end_law site now first later kept c d filed before.rows P (signs_of d.opening.key before.out) x y reach desk (subst (AtStep site now first later kept c filed x reach given) (sym same_opening) here) made empty r.same r.caller r.callee r.none
+    (λ q. subst (λ (o : Opening). signs_of o.key desk.out ≡ signs_of o.key before.out ++ final_sign (status_of cause)) (sym r.same.opening) (r.shown q)))))
 ringing-came turn_law end_law site now first later kept c filed before P x reach end s o step made empty opening (faring.GoesOn how e m d desk r) =
     let same_opening : d.opening ≡ o = r.same.opening ∙ opening in
     let gone = goes_on site now x how m d desk in

@@ -1,12 +1,13 @@
--- How the attempts of a story ended, by what was heard of them while they were on their way (RFC 3261 §9, §15, §17.1.1 and §21, TS 24.604 §4.5.2.6).
+-- How the attempts of a story ended, by what was heard of them while they were on their way (RFC 3261 §9, §15, §17.1.1 and §21, RFC 3262 §3, TS 24.604 §4.5.2.6).
 use Rattle.std.specs.Prelude.{ℕ, ◌==◌, ◌&&◌, not, Bool, if◌then◌else◌, Option, Some, None, List, [], ◌∷◌, ◌++◌, is_ok, option_to_list}
 use Rattle.std.specs.Option.{option_map}
 use Rattle.std.specs.Str.{bytes_eq}
 use Rattle.mmtel_answers.specs.Said.{Said, status_of}
 use Rattle.mmtel_leg.specs.declared.dialogues.InFlight.TheVariants as in_flight
 use Rattle.mmtel_precedence.specs.Attempts.{end_by, end_by_response}
-use Rattle.mmtel_precedence.specs.Calls.{Answer, Cancel, Deflection, End, Ended, NoReply, NotReachable, Other, UserBusy}
+use Rattle.mmtel_precedence.specs.Calls.{Answer, Cancel, Deflection, End, Ended, NoReply, NotReachable, Other, Unacknowledged, UserBusy}
 use Rattle.mmtel_precedence.specs.Attempts as events
+use Rattle.mmtel_reliable.specs.Acks.{AcksView, has_own}
 use Rattle.mmtel_transaction.specs.declared.words.DueWord.{DueWord}
 use Rattle.mmtel_transaction.specs.declared.words.DueWord.TheVariants as due
 use Rattle.mmtel_types.specs.declared.sides.Side.{Side}
@@ -38,13 +39,13 @@ abbrev pub end_by_silence : Trial → Option (List ℕ) → Option End
 end_by_silence x None = None
 end_by_silence x (Some branch) = if is_its x branch && not x.attempt.rang then end_by events.Silence x.attempt.rang else None
 
--- the no-reply time, or the longest time, of this attempt
-abbrev pub end_by_deadline : Trial → DueWord → Option End
-end_by_deadline x (due.NoReply number) = if number == x.attempt.number then end_by events.NoReplyTime x.attempt.rang else None
-end_by_deadline x (due.NoPrack number) = None
-end_by_deadline x (due.Cap number) = if number == x.attempt.number then end_by events.LongestTime x.attempt.rang else None
-end_by_deadline x (due.NoAck number) = None
-end_by_deadline x (due.Expired number) = None
+-- the no-reply time, or the longest time, of this attempt; and the time of an answer of it that waits for its PRACK (RFC 3262 §3)
+abbrev pub end_by_deadline : Trial → AcksView → DueWord → Option End
+end_by_deadline x acks (due.NoReply number) = if number == x.attempt.number then end_by events.NoReplyTime x.attempt.rang else None
+end_by_deadline x acks (due.NoPrack own) = if has_own own acks.waiting then end_by events.AckTime x.attempt.rang else None
+end_by_deadline x acks (due.Cap number) = if number == x.attempt.number then end_by events.LongestTime x.attempt.rang else None
+end_by_deadline x acks (due.NoAck number) = None
+end_by_deadline x acks (due.Expired number) = None
 
 -- the BYE of the caller, where it is in order
 abbrev pub end_by_request : Trial → Side → Said → Option End
@@ -57,7 +58,7 @@ end_of_attempt x c (signal.Ack side ack) = None
 end_of_attempt x c (signal.Cancel key cancel invite) = if invite.0 == c.opening.key.0 then end_by events.CallerGaveUp x.attempt.rang else None
 end_of_attempt x c (signal.Answer key response) = end_by_answer x response (invite_answered response)
 end_of_attempt x c (signal.Silent branch method) = end_by_silence x (invite_silent branch method)
-end_of_attempt x c (signal.Due what) = end_by_deadline x what
+end_of_attempt x c (signal.Due what) = end_by_deadline x c.acks what
 end_of_attempt x c (signal.Ended key) = None
 
 -- while no attempt is on its way, none ends
@@ -85,6 +86,7 @@ endings_after s (x ∷ earlier) = endings_after s earlier ++ ending_by x (call_a
 abbrev pub answer_of : End → (at : ℕ) → Option ℕ
 answer_of Answer at = Some at
 answer_of Cancel at = None
+answer_of Unacknowledged at = None
 answer_of (UserBusy code) at = None
 answer_of (NotReachable code) at = None
 answer_of NoReply at = None

@@ -74,11 +74,12 @@ pub record StillStands (c : Call) (rows : List Row) (s : Step) : Type 0 where
 abbrev pub ended_at : Call → (at : ℕ) → Ending
 ended_at c at = record { answered = c.answered; at = at; holds = c.hold.holds; cause = Ended }
 
--- both sides have left, and of each part a row was filed
+-- both sides have left, nothing is in flight, and of each part a row was filed
 pub record HasLeft (at : ℕ) (c : Call) (rows : List Row) (s : Step) : Type 0 where
   pub same : StaysSame c s.call
   pub over : s.call.phase ≡ Over Ended
   pub past : s.call.past ≡ []
+  pub flights : s.call.flights ≡ []
   pub filed : s.desk.rows ≡ rows ++ rows_by (ended_at s.call at) (parts_now c).past (parts_now c).first (parts_now c).last
 
 pub data GoesOn (at : ℕ) (c : Call) (rows : List Row) (s : Step) : Type 0 where
@@ -91,6 +92,7 @@ pub record StaysOver (c : Call) (rows : List Row) (s : Step) : Type 0 where
   pub phase : s.call.phase ≡ c.phase
   pub past : s.call.past ≡ c.past
   pub hold : s.call.hold ≡ c.hold
+  pub flights : s.call.flights ≡ []
   pub none : s.desk.rows ≡ rows
 
 -- ---- the laws
@@ -109,4 +111,7 @@ pub record CallsGoOn : Type 0 where
   pub cause : (s : Start) (heard : List Heard) (cause : Cause) → (call_after s heard).phase ≡ Over cause → is_some (call_after s heard).answered ≡ true → cause ≡ Ended
   -- on whatever it hears a call that stands goes on to stand, or ends; one that is over stays so
   pub standing : (site : Site) (now : Standing) (heard : Signal) (c : Call) (desk : Desk) → stands_in c.phase ≡ true → GoesOn now.at c desk.rows (step site now heard c desk)
-  pub ended : (site : Site) (now : Standing) (heard : Signal) (c : Call) (desk : Desk) → is_over c.phase ≡ true → StaysOver c desk.rows (step site now heard c desk)
+  pub ended : (site : Site) (now : Standing) (heard : Signal) (c : Call) (desk : Desk) → is_over c.phase ≡ true → c.flights ≡ [] →
+      StaysOver c desk.rows (step site now heard c desk)
+  -- whose PRACKs and UPDATEs all had their answers
+  pub dismissed : (s : Start) (heard : List Heard) → is_over (call_after s heard).phase ≡ true → (call_after s heard).flights ≡ []

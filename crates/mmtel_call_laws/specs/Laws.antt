@@ -20,7 +20,7 @@ use Rattle.mmtel_call.specs.declared.signals.Signal.{Signal}
 use Rattle.mmtel_call_laws.specs.Charged.{parts_of, rows_of_parts, running}
 use Rattle.mmtel_call_laws.specs.Endings.{answer_in, endings_after}
 use Rattle.mmtel_call_laws.specs.Known.{known_after, left_at_first, outcome_after, result_of}
-use Rattle.mmtel_call_laws.specs.Shown.{AreOwn, AsksOthers, IsOthers, emits_while_offered, is_offered, shown_by, sign_of_result, signs_of, signs_of_targets}
+use Rattle.mmtel_call_laws.specs.Shown.{AreOwn, AsksOthers, FlyOthers, IsOthers, emits_while_offered, is_offered, shown_by, sign_of_result, signs_of, signs_of_targets}
 use Rattle.mmtel_call_laws.specs.Story.{Heard, Start, added, call_after, first_step, is_over, over_at, rows_after, opening_in}
 
 -- ---- the precedence of services
@@ -37,20 +37,24 @@ abbrev pub ShowsItsOutcome : Type 0
 ShowsItsOutcome = (s : Start) (heard : List Heard) → AreOwn s heard →
     signs_of s.arrival.key (emits_while_offered s heard) ≡ signs_of_targets (opening_in s) (outcome_after s heard).targets ++ sign_of_result (outcome_after s heard).result
 
+-- the requests whose answers it waits for are other ones than the one of this server transaction
+abbrev pub WaitsForOthers : (key : TKey) → Call → Type 0
+WaitsForOthers key c = AsksOthers key c.phase × FlyOthers key c.flights
+
 -- whatever a call hears, in whatever story, as long as each later request has a server transaction of its own
 pub record ShowsNothingLater : Type 0 where
-  -- so has the one whose answer it waits for: as it opens, and after each step
-  pub opens : (s : Start) (key : TKey) → AsksOthers key (first_step s).call.phase
-  pub asks : (site : Site) (now : Standing) (heard : Signal) (c : Call) (desk : Desk) (key : TKey) → AsksOthers key c.phase → IsOthers key heard →
-      AsksOthers key (step site now heard c desk).call.phase
+  -- so have those whose answers it waits for, an INVITE of a side and what is in flight beside it: as it opens, and after each step
+  pub opens : (s : Start) (key : TKey) → WaitsForOthers key (first_step s).call
+  pub asks : (site : Site) (now : Standing) (heard : Signal) (c : Call) (desk : Desk) (key : TKey) → WaitsForOthers key c → IsOthers key heard →
+      WaitsForOthers key (step site now heard c desk).call
   -- while it is offered no INVITE is passed on, so all counts that is seen
   pub all : (site : Site) (now : Standing) (heard : Signal) (c : Call) (desk : Desk) (key : TKey) → is_offered c.phase ≡ true →
       shown_by key heard (added desk.out (step site now heard c desk).desk.out) ≡ signs_of key (added desk.out (step site now heard c desk).desk.out)
   -- once it is not offered any more it has no INVITE to a target go out, and no final to the INVITE that opened it: neither by what it hears,
-  pub none : (site : Site) (now : Standing) (heard : Signal) (c : Call) (desk : Desk) (key : TKey) → is_offered c.phase ≡ false → AsksOthers key c.phase → IsOthers key heard →
+  pub none : (site : Site) (now : Standing) (heard : Signal) (c : Call) (desk : Desk) (key : TKey) → is_offered c.phase ≡ false → WaitsForOthers key c → IsOthers key heard →
       shown_by key heard (added desk.out (step site now heard c desk).desk.out) ≡ []
   -- nor where it ends without a leg that was taken out of it
-  pub ends : (site : Site) (at : ℕ) (c : Call) (desk : Desk) (key : TKey) → signs_of key (added desk.out (finished site at c desk).desk.out) ≡ []
+  pub ends : (site : Site) (at : ℕ) (c : Call) (desk : Desk) (key : TKey) → FlyOthers key c.flights → signs_of key (added desk.out (finished site at c desk).desk.out) ≡ []
 
 -- ---- the bound
 

@@ -14,4 +14,5 @@ pub mod Session
 pub mod Heads
 pub mod Branches
 pub mod Replies
+pub mod Dismissal
 pub mod Secret

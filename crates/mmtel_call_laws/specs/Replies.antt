@@ -1,6 +1,6 @@
 -- In which server transactions a call replies: in those of its own requests, which are the INVITE that opened it and those that it hears (RFC 3261 §8.2.6, §17.2). Which
 -- transactions these are is given.
-use Rattle.std.specs.Prelude.{◌≡◌, true, ℕ, Bool}
+use Rattle.std.specs.Prelude.{◌≡◌, true, ℕ, Bool, List}
 use Rattle.mmtel_call_decisions.specs.Site.{Site}
 use Rattle.mmtel_call_decisions.specs.declared.openings.Arrival.{Arrival}
 use Rattle.mmtel_call.specs.Closing.{Step}
@@ -8,6 +8,7 @@ use Rattle.mmtel_call.specs.Lending.{finished, lent_in, put_back_in}
 use Rattle.mmtel_call.specs.Opening.{opened}
 use Rattle.mmtel_call.specs.Table.{step}
 use Rattle.mmtel_call.specs.declared.calls.Call.{Call}
+use Rattle.mmtel_call.specs.declared.calls.Flight.{Flight}
 use Rattle.mmtel_call.specs.declared.calls.Phase.{Phase}
 use Rattle.mmtel_call.specs.declared.calls.Phase.TheVariants.{Lent, Offered, Over, Stood}
 use Rattle.mmtel_call.specs.declared.calls.Stage.{Stage}
@@ -28,6 +29,7 @@ IsRepliedIn own (emit.Ask peer m) = Unit {0}
 IsRepliedIn own (emit.Reply key m) = own key.0 ≡ true
 IsRepliedIn own (emit.Plain peer text) = Unit {0}
 IsRepliedIn own (emit.Ack key m) = Unit {0}
+IsRepliedIn own (emit.Settled key settled) = Unit {0}
 IsRepliedIn own (emit.Arm call what at) = Unit {0}
 IsRepliedIn own (emit.ArmSeat room seat what at) = Unit {0}
 
@@ -54,10 +56,18 @@ PhaseIsOf own (Stood x stage) = StageIsOf own stage
 PhaseIsOf own (Lent loan) = Unit {0}
 PhaseIsOf own (Over cause) = Unit {0}
 
+-- its PRACK or UPDATE that is in flight,
+abbrev pub FlightIsOf : (own : ℕ → Bool) → Flight → Type 0
+FlightIsOf own flight = own flight.asked.key.0 ≡ true
+
+abbrev pub FlightsAreOf : (own : ℕ → Bool) → List Flight → Type 0
+FlightsAreOf own flights = Each (FlightIsOf own) flights
+
 -- and the INVITE that opened the call
 pub record CallIsOf (own : ℕ → Bool) (c : Call) : Type 0 where
   pub opening : own c.opening.key.0 ≡ true
   pub phase : PhaseIsOf own c.phase
+  pub flights : FlightsAreOf own c.flights
 
 -- ---- each reply of a step is in them, where those that lay on the desk are, and the call stays one of them
 

@@ -14,12 +14,14 @@ use Rattle.mmtel_transaction.specs.declared.words.TKey.{TKey}
 use Rattle.mmtel_types.specs.Causes.{status_of}
 use Rattle.mmtel_call_decisions.specs.declared.openings.Opening.{Opening}
 use Rattle.mmtel_call.specs.Requests.{is_invite}
+use Rattle.mmtel_call.specs.declared.calls.Flight.{Flight}
 use Rattle.mmtel_call.specs.declared.calls.Phase.{Phase}
 use Rattle.mmtel_call.specs.declared.calls.Phase.TheVariants as phases
 use Rattle.mmtel_call.specs.declared.calls.Stage.{Stage}
 use Rattle.mmtel_call.specs.declared.calls.Stage.TheVariants as stages
 use Rattle.mmtel_call.specs.declared.signals.Signal.{Signal}
 use Rattle.mmtel_call.specs.declared.signals.Signal.TheVariants as signal
+use Rattle.mmtel_call_laws.specs.Heads.Emits.{Each}
 use Rattle.mmtel_call_laws.specs.Story.{Heard, Start, added, call_after, first_step, next_step}
 
 -- ---- what is seen of what goes out
@@ -42,6 +44,7 @@ sign_of key (emit.Ask peer m) = if is_method (codes "INVITE") m.start then Invit
 sign_of key (emit.Reply asked m) = if asked.0 == key.0 then final_sign (status_in m.start) else []
 sign_of key (emit.Plain peer text) = []
 sign_of key (emit.Ack asked m) = []
+sign_of key (emit.Settled answered own) = []
 sign_of key (emit.Arm call what at) = []
 sign_of key (emit.ArmSeat room seat what at) = []
 
@@ -131,6 +134,10 @@ AsksOthers key (phases.Offered x) = Unit {0}
 AsksOthers key (phases.Stood x stage) = AsksOthersAt key stage
 AsksOthers key (phases.Lent loan) = Unit {0}
 AsksOthers key (phases.Over cause) = Unit {0}
+
+-- and so is what is in flight
+abbrev pub FlyOthers : (key : TKey) → List Flight → Type 0
+FlyOthers key flights = Each (λ (flight : Flight). (flight.asked.key.0 == key.0) ≡ false) flights
 
 -- and each step has a desk of its own, on which nothing lies
 abbrev pub AreOwn : Start → List Heard → Type 0

@@ -8,8 +8,8 @@ ghost use Rattle.mmtel_call_laws.specs.Secret.Lending.{LendingKeepsAlike};
 ghost use Rattle.mmtel_call_laws.specs.Secret.Opening.{OpeningsGiveAlike, OpeningsKeepAlike, OpeningsSeePublicParts};
 ghost use Rattle.mmtel_call_laws.specs.Secret.Renamed.{LookUpsAgree, LookUpsPassOver, NoneAreNamed};
 ghost use Rattle.mmtel_call_laws.specs.Secret.Rows.{AcksOnceAnswered, AnswersAcross, AnswersOfOthers, AnswersToAttempt, AnswersWhileOffered, CancelsOnceAnswered};
-ghost use Rattle.mmtel_call_laws.specs.Secret.Rows.{CancelsWhileOffered, DeadlinesOnceAnswered, DeadlinesWhileOffered, EndsOfAttempts, ProvisionalToAttempt};
-ghost use Rattle.mmtel_call_laws.specs.Secret.Rows.{RequestsOnceAnswered, RequestsWhileOffered, SilenceOnceAnswered, SilenceWhileOffered};
+ghost use Rattle.mmtel_call_laws.specs.Secret.Rows.{CancelsWhileOffered, DeadlinesOnceAnswered, DeadlinesWhileOffered, Dismissals, EndsOfAttempts, ProvisionalToAttempt};
+ghost use Rattle.mmtel_call_laws.specs.Secret.Rows.{RequestsOnceAnswered, RequestsWhileOffered, SilenceOfOthers, SilenceOnceAnswered, SilenceWhileOffered};
 ghost use Rattle.mmtel_call_laws.specs.Secret.Stories.{StoriesStayAlike};
 ghost use Rattle.mmtel_call_laws.specs.Secret.Table.{StepsSeePublicParts};
 
@@ -27,13 +27,13 @@ pub fn messages_are_whole()
     ensures law { MessagesAreWhole }
 {}
 
-/// The public part of a call tells whether it is over, whether anything may still be heard of it, and which INVITEs and client transactions are its.
+/// The public part of a call tells whether it is over, whether anything may still be heard of it, and which requests and client transactions are its.
 pub fn public_parts_tell_what_is_asked()
     ensures law { PublicPartsTell }
 {}
 
-/// While a call is offered, a request of a side and a CANCEL see of the call and of the message their public parts alone: what is answered, and who gives up (RFC 3261
-/// §9.2, §12.2.2, §15.1.2).
+/// While a call is offered, a request of a side and a CANCEL see of the call and of the message their public parts alone: what is answered, who gives up, and which PRACK
+/// and UPDATE go across (RFC 3261 §9.2, §12.2.2, §15.1.2, RFC 3262 §4, RFC 3311 §5).
 pub fn requests_while_offered_see_public_parts()
     ensures requests { RequestsWhileOffered }
     ensures cancels { CancelsWhileOffered }
@@ -41,8 +41,8 @@ pub fn requests_while_offered_see_public_parts()
     heads_rest_on_five_names();
 }
 
-/// Once a call is answered, its public part and that of the message decide alone what a request of a side does, at each stage: BYE, an INVITE within the call, and what is
-/// answered at once; and so do they of CANCEL, of the other side's answer to an INVITE or its silence, and of a 2xx without ACK (RFC 3261 §9, §13.3.1.4, §14, §15).
+/// Once a call is answered, its public part and that of the message decide alone what a request of a side does, at each stage: BYE, an INVITE or an UPDATE within the call, and
+/// what is answered at once; and so do they of CANCEL, of the other side's answer to an INVITE or its silence, and of a 2xx without ACK (RFC 3261 §9, §13.3.1.4, §14, §15).
 pub fn rows_once_answered_see_public_parts()
     ensures requests { RequestsOnceAnswered }
     ensures acks { AcksOnceAnswered }
@@ -75,10 +75,13 @@ pub fn ways_on_see_public_parts()
     verdicts_see_answers_alone();
 }
 
-/// An INVITE that a call does not wait on, since it was left or had a 2xx, is answered by public parts alone, whatever the phase: a CANCEL that goes late, the ACK and BYE
-/// of a late 2xx or of another dialog, the ACK that goes out again, and the ACK of a late refusal (RFC 3261 §9.1, §13.2.2.4, §17.1.1.3).
-pub fn other_invites_see_public_parts()
+/// A request that a call does not wait on is answered by public parts alone, whatever the phase: of an INVITE that was left or had a 2xx a CANCEL that goes late, the ACK and
+/// BYE of a late 2xx or of another dialog, the ACK that goes out again, and the ACK of a late refusal (RFC 3261 §9.1, §13.2.2.4, §17.1.1.3); of what is in flight the final that
+/// comes back, and what its silence or the end of the attempt or the call answers (RFC 3262 §3, §4, RFC 3311 §5).
+pub fn other_requests_see_public_parts()
     ensures answers { AnswersOfOthers }
+    ensures silence { SilenceOfOthers }
+    ensures dismissals { Dismissals }
 {
     heads_rest_on_five_names();
 }
@@ -162,7 +165,7 @@ pub fn lent_calls_stay_alike()
     heads_rest_on_five_names();
 }
 
-/// Whatever a call hears, how it opened and the request that it keeps are asked by their own peers, where the requests that it hears are; and the account that is served
+/// Whatever a call hears, how it opened and the requests that it keeps are asked by their own peers, where the requests that it hears are; and the account that is served
 /// where it is offered has one of the records that stood.
 pub fn what_calls_keep()
     ensures law { CallsKeep }

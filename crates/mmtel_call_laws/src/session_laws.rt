@@ -3,9 +3,9 @@ ghost use Rattle.mmtel_call_laws.specs.Session.Laws.{SessionsAreSeen, SessionsEx
 
 use crate::outcome_laws::calls_go_on;
 
-/// Whatever a call hears, however things stand then, and however it is mixed with others: the deadline of its session that counts went out in the step of the last 2xx to an
-/// INVITE that it passed on, for that moment and 1,000 times the interval of that 2xx, which counts as 90 seconds where it is less; none went out where that 2xx says none
-/// that can be read, and none in any other step (RFC 4028 §7.2, §10).
+/// Whatever a call hears, however things stand then, and however it is mixed with others: the deadline of its session that counts went out in the step of the last 2xx to
+/// an INVITE or an UPDATE that it passed on, for that moment and 1,000 times the interval of that 2xx, which counts as 90 seconds where it is less; none went out where
+/// that 2xx says none that can be read, and none in any other step (RFC 4028 §7.2, §10).
 pub fn sessions_are_seen()
     ensures law { SessionsAreSeen }
 {

@@ -5,7 +5,8 @@ use crate::outcome_laws::{calls_come_to_their_outcome, calls_go_on, calls_show_t
 
 /// Whatever a call hears, however things stand then, and however it is mixed with others: while it is offered, its attempt is that of the last INVITE that went out to a target,
 /// with the peer, the Request-URI and the branch of it (RFC 3261 §13.2.1, §17.1.3);
-/// its deadlines have the number of those that went out since, and of none before; and it rang where a response to that INVITE said so since (§21.1.2).
+/// its deadlines have the number of those that went out since, and of none before; and it rang where a response to that INVITE said so since (§21.1.2);
+/// those reliable answers of it wait for their PRACK that were passed on and not acknowledged (RFC 3262 §3).
 /// So how its attempts ended is told by what went out and was heard alone (TS 24.604 §4.5.2.6).
 pub fn calls_are_what_is_seen()
     ensures attempts { AttemptsAreSeen }

@@ -1,6 +1,7 @@
--- Each row of the step table sends at most one INVITE, with a number that is drawn for it, and the INVITEs of the call were sent to their peers.
-use Rattle.std.proofs.Common.{◌≡◌, ◌<◌, ◌≤◌, ◌^◌, ◌+◌, ◌==◌, ◌&&◌, Bool, true, false, not, ℕ, zero, suc, List, [], ◌∷◌, ◌++◌, take, drop, map, Option, Some, None, refl, subst, inl, inr, arith, nat_lt, Result, Ok, Err, codes, append-nil}
+-- Each row of the step table sends at most one INVITE, PRACK or UPDATE, with a number that is drawn for it; and the INVITEs of the call, and what is in flight, were sent to their peers.
+use Rattle.std.proofs.Common.{◌≡◌, ◌<◌, ◌≤◌, ◌^◌, ◌+◌, ◌==◌, ◌&&◌, Bool, true, false, not, ℕ, zero, suc, List, [], ◌∷◌, ◌++◌, Option, Some, None, refl, sym, subst, inl, inr, arith, nat_lt, Result, Ok, Err, codes, append-nil}
 use Rattle.std.specs.Prelude.{IfSome, if◌then◌else◌, option_to_list, position, slice_get}
+use Rattle.std.specs.List.{filter}
 use Rattle.std.specs.Str.{bytes_eq}
 use Rattle.mmtel_answers.specs.Attempts.{alert_lines, invite_of}
 use Rattle.mmtel_answers.specs.Requests.{bare, bringing, cancel_of, relaying}
@@ -8,30 +9,38 @@ use Rattle.mmtel_answers.specs.Said.{Said, status_of}
 use Rattle.mmtel_answers.specs.declared.attempts.Aim.{Aim}
 use Rattle.mmtel_charging.specs.Meters.{Noted}
 use Rattle.mmtel_call_decisions.specs.Decisions.{aim_at, decided_after, decided_at, handed_on, is_status, its_sheet, peer_for, redirect_of, service_at, target_of, time_of}
-use Rattle.mmtel_desk.specs.Invites.{invite_answered, invite_silent}
+use Rattle.mmtel_desk.specs.Invites.{invite_answered, invite_silent, is_awaited_method}
 use Rattle.mmtel_call_decisions.specs.Opening.{first_of, opening_of, refusal_of}
+use Rattle.mmtel_call_decisions.specs.Reliable.{rack_line, reliable_number}
 use Rattle.mmtel_call_decisions.specs.Requests.{is_same_side}
-use Rattle.mmtel_call_decisions.specs.Showing.{shown_to}
+use Rattle.mmtel_call_decisions.specs.Showing.{offered_to, shown_to}
 use Rattle.mmtel_call_decisions.specs.Site.{Site}
 use Rattle.mmtel_call_decisions.specs.declared.openings.Arrival.{Arrival}
 use Rattle.mmtel_call_decisions.specs.declared.openings.Service.{Service}
 use Rattle.mmtel_call.specs.Answered.{acked_across, acked_and_left, acknowledges, at_stage, bye_before_ack, bye_to, leg_of, parted, shown_across, unacknowledged, with_ack, with_leg}
 use Rattle.mmtel_call.specs.Closing.{Step, onward, over, over_stood, with_past}
 use Rattle.mmtel_call.specs.Diverting.{at_target, divert, diverted, goes_on, is_diverted, made, made_unless, on_end, on_turn, passed_by, reach, refusal_by, refused, refused_by, told_of}
-use Rattle.mmtel_call.specs.Leaving.{acked_again, answered_at, answered_loose, answered_other, answered_taken, answered_taken_at, as_loose, forked, is_fork, is_loose_key, is_success, is_taken, is_taken_key, is_talking, repeated, taken_again, with_rest, without, without_at, without_key, without_silent}
+use Rattle.mmtel_call.specs.Leaving.{acked_again, answered_at, answered_loose, answered_other, answered_taken, answered_taken_at, as_loose, forked, is_fork, is_loose_key, is_success, is_taken, is_taken_key, is_talking, repeated, silent_other, silent_other_at, taken_again, with_rest, without, without_at, without_key, without_silent}
+use Rattle.mmtel_call.specs.Flights as flying
+use Rattle.mmtel_call.specs.Flights.{answered_flight, answered_in_flight, dismissal_of, dismissed, dismissed_all, dismissed_each, dismissed_flight, dismissing, final_of_flight, flight_of, having_asked, is_in_flight, is_updating, relayed_back_to, settled, settled_in, silent_flight, silent_in_flight, updated_by, updating, with_flight, without_flight}
 use Rattle.mmtel_call.specs.Lending.{finished, finished_in}
 use Rattle.mmtel_call.specs.Offering.{dialog_of, longest_time, next_attempt, offer}
 use Rattle.mmtel_call.specs.Opening.{caller_of, new_call, opened, unless_refused}
 use Rattle.mmtel_call.specs.Reinvites.{agreed, asked_across, bye_to_both, bye_while_asking, cancelled_across, cancelled_if_due, cancelling, ends_dialog, having_invited, invited, loose_across, on_response_across, proceeding, proceeding_across, refused_back, relayed_back, silenced_across}
-use Rattle.mmtel_call.specs.Requests.{having_heard, is_bye, is_invite, says, unheard, unlisted}
+use Rattle.mmtel_call.specs.Reliable.{acknowledged_by, acknowledging, answer_named, having_asked_early, on_rack, own_for, prack_refused, relayed_reliably, status_of_refusal}
+use Rattle.mmtel_call.specs.Requests.{having_heard, is_bye, is_invite, is_prack, is_update, says, unheard, unlisted}
 use Rattle.mmtel_call.specs.Ringing as ringing
-use Rattle.mmtel_call.specs.Ringing.{answered, armed, armed_in, cancelled_attempt, early_said, failed, given_up, heard_by, left, loose, met_by, on_cancel, on_due, on_heard, on_request, on_request_if, on_response, says_offered, silenced, taken_by, timed_out, tried, with_loose, awaiting_expiry, expiry_in}
+use Rattle.mmtel_call.specs.Ringing.{answered, armed, armed_in, cancelled_attempt, early_said, failed, given_up, given_up_by, heard_by, left, loose, met_by, on_cancel, on_due, on_heard, on_other, on_prack_of, on_request, on_request_if, on_response, proceeded, proceeding_by, relayed_if, relayed_plainly, says_offered, silenced, taken_by, timed_out, tried, with_loose, awaiting_expiry, expiry_in}
 use Rattle.mmtel_call.specs.Sending.{relayed_to_caller, replied_to, told_caller, told_diversion}
 use Rattle.mmtel_call.specs.Stages.{busy_in, has_left, is_due_at, left_by, on_ack_at, on_bye, on_cancel_at, on_due_at, on_heard_at, on_invite, on_request_at, on_request_at_if, on_response_at, on_silence_at, rung_out}
-use Rattle.mmtel_call.specs.Table.{ack_in, answer_to, cancel_in, due_in, is_current, request_in, response_in, silence_in, silence_of, step}
+use Rattle.mmtel_call.specs.Table.{ack_in, answer_to, cancel_in, due_in, is_current, leaves, request_in, response_in, row, silence_in, silence_of, step}
 use Rattle.mmtel_call.specs.Tried.{TriedView}
+use Rattle.mmtel_call.specs.Updates.{asked_on, crossing, having_updated, later, on_update, on_update_at, other_leg, takes_updates, unless_updating, updated_across, updated_early}
 use Rattle.mmtel_call.specs.declared.calls.Attempt.{Attempt}
 use Rattle.mmtel_call.specs.declared.calls.Call.{Call}
+use Rattle.mmtel_call.specs.declared.calls.Flight.{Flight}
+use Rattle.mmtel_call.specs.declared.calls.FlightKind.{FlightKind}
+use Rattle.mmtel_call.specs.declared.calls.FlightKind.TheVariants.{Prack, Update}
 use Rattle.mmtel_call.specs.declared.calls.Pair.{Pair}
 use Rattle.mmtel_call.specs.declared.calls.Phase.{Phase}
 use Rattle.mmtel_call.specs.declared.calls.Phase.TheVariants.{Lent, Offered, Over, Stood}
@@ -64,6 +73,8 @@ use Rattle.mmtel_message.specs.Message.{Line, Message}
 use Rattle.mmtel_message.specs.declared.messages.Start.{Start}
 use Rattle.mmtel_precedence.specs.Attempts.{end_by_final, end_by_time, rings}
 use Rattle.mmtel_precedence.specs.Calls.{End, NoReply, NotReachable, Standing}
+use Rattle.mmtel_reliable.specs.Acks.{after_ack, has_own}
+use Rattle.mmtel_reliable.specs.declared.racks.Rack.{Rack}
 use Rattle.mmtel_precedence.specs.Services.{DueDiversion}
 use Rattle.mmtel_precedence.specs.Turns.{AfterEnd, EndAnswered, EndDivert, EndRefuse, Turn, TurnDivert, TurnOffer, TurnRefuse}
 use Rattle.mmtel_precedence.specs.Verdicts.{too_many}
@@ -82,62 +93,35 @@ use Rattle.mmtel_types.specs.declared.causes.Cause.TheVariants as causes
 use Rattle.mmtel_types.specs.declared.numbers.Peer.{Peer}
 use Rattle.mmtel_types.specs.declared.sides.Side.{Side}
 use Rattle.mmtel_types.specs.declared.sides.Side.TheVariants.{Caller, Callee}
-use Rattle.mmtel_call_laws.specs.Branches.Sent.{AreNumbered, CallWasSent, Each, InvitationWasSent, IsInvite, IsNotAwaited, IsNumbered, LooseWasSent, OthersWereSent, PhaseWasSent, StageWasSent, TakenWasSent}
+use Rattle.mmtel_sip_rules.specs.Statuses as statuses
+use Rattle.mmtel_call_laws.proofs.Heads.Sending.{each_append, each_front, each_get, each_map, each_option, each_without}
+use Rattle.mmtel_call_laws.specs.Branches.Sent.{AreNumbered, CallWasSent, Each, FlightWasSent, InvitationWasSent, IsAwaited, IsInvite, IsNotAwaited, IsNumbered, IsRequest, LooseWasSent, OthersWereSent, PhaseWasSent, StageWasSent, TakenWasSent, method_of}
 use Rattle.mmtel_session.specs.Intervals.{expiry_after}
 
 -- ---- each of a list
-
-pub each_append : {A : Type 0} (P : A → Type 0) (xs ys : List A) → Each P xs → Each P ys → Each P (xs ++ ys)
-each_append P [] ys e f = f
-each_append P (x ∷ xs) ys e f = (e.0, each_append P xs ys e.1 f)
-
-each_first : {A : Type 0} (P : A → Type 0) (xs ys : List A) → Each P (xs ++ ys) → Each P xs
-each_first P [] ys e = tt
-each_first P (x ∷ xs) ys e = (e.0, each_first P xs ys e.1)
 
 each_last : {A : Type 0} (P : A → Type 0) (xs : List A) (y : A) → Each P (xs ++ y ∷ []) → P y
 each_last P [] y e = e.0
 each_last P (x ∷ xs) y e = each_last P xs y e.1
 
-each_take : {A : Type 0} (P : A → Type 0) (n : ℕ) (xs : List A) → Each P xs → Each P (take n xs)
-each_take P zero xs e = tt
-each_take P (suc n) [] e = tt
-each_take P (suc n) (x ∷ xs) e = (e.0, each_take P n xs e.1)
-
-each_drop : {A : Type 0} (P : A → Type 0) (n : ℕ) (xs : List A) → Each P xs → Each P (drop n xs)
-each_drop P zero xs e = e
-each_drop P (suc n) [] e = tt
-each_drop P (suc n) (x ∷ xs) e = each_drop P n xs e.1
-
-each_get : {A : Type 0} (P : A → Type 0) (xs : List A) (n : ℕ) → Each P xs → IfSome (slice_get xs n) P
-each_get P [] n e = tt
-each_get P (x ∷ xs) zero e = e.0
-each_get P (x ∷ xs) (suc n) e = each_get P xs n e.1
-
-each_map : {A : Type 0} (P : A → Type 0) (f : A → A) → ((x : A) → P x → P (f x)) → (xs : List A) → Each P xs → Each P (map f xs)
-each_map P f go [] e = tt
-each_map P f go (x ∷ xs) e = (go x e.0, each_map P f go xs e.1)
-
-each_option : {A : Type 0} (P : A → Type 0) (o : Option A) → IfSome o P → Each P (option_to_list o)
-each_option P None e = tt
-each_option P (Some x) e = (e, tt)
-
-without_at_each : {A : Type 0} (P : A → Type 0) (at : ℕ) (items : List A) → Each P items → Each P (without_at at items)
-without_at_each P at items e = each_append P (take at items) (drop (at + 1) items) (each_take P at items e) (each_drop P (at + 1) items e)
-
 without_each : {A : Type 0} (P : A → Type 0) (o : Option ℕ) (items : List A) → Each P items → Each P (without o items)
 without_each P None items e = e
-without_each P (Some at) items e = without_at_each P at items e
+without_each P (Some at) items e = each_without P at items e
 
-module _ (sent : List ℕ → Peer → Type 0) (site : Site) (text : List ℕ) (low : ℕ) where
+module _ (asked : (method branch : List ℕ) → Peer → Type 0) (site : Site) (text : List ℕ) (low : ℕ) where
+  -- an INVITE
+  abbrev sent : List ℕ → Peer → Type 0
+  sent = asked (codes "INVITE")
+
   -- ---- what goes out
 
-  -- what is asked is among what was sent, if it is an INVITE
+  -- what is asked is among what was asked, by its method
   abbrev pub AskWasSent : Emit → Type 0
-  AskWasSent (emit.Ask peer m) = (branch : List ℕ) → IsInvite site.sip branch m → sent branch peer
+  AskWasSent (emit.Ask peer m) = (method branch : List ℕ) → IsRequest method site.sip branch m → asked method branch peer
   AskWasSent (emit.Reply key m) = Unit {0}
   AskWasSent (emit.Plain peer sample) = Unit {0}
   AskWasSent (emit.Ack key m) = Unit {0}
+  AskWasSent (emit.Settled key own) = Unit {0}
   AskWasSent (emit.Arm call what at) = Unit {0}
   AskWasSent (emit.ArmSeat room seat what at) = Unit {0}
 
@@ -145,9 +129,9 @@ module _ (sent : List ℕ → Peer → Type 0) (site : Site) (text : List ℕ) (
     pub same : desk.tokens.token ≡ text
     pub out_in : desk.tokens.drawn < 2 ^ 60 → AreNumbered site.sip text low desk.tokens.drawn desk.out
 
-  -- a step leaves a call whose INVITEs were sent, where those were that go out in it
+  -- a step leaves a call whose INVITEs were sent, and what is in flight, where those were that go out in it
   pub record Good (s : Step) : Type 0 where
-    pub call_in : Each AskWasSent s.desk.out → CallWasSent sent s.call
+    pub call_in : Each AskWasSent s.desk.out → CallWasSent asked s.call
     pub desk_in : Counted s.desk
 
   -- it draws nothing
@@ -162,10 +146,10 @@ module _ (sent : List ℕ → Peer → Type 0) (site : Site) (text : List ℕ) (
   quiet_last from high e [] quiet are = (from, quiet from, are)
   quiet_last from high e (x ∷ out) quiet are = (are.0, are.1, quiet_last are.0 high e out quiet are.2)
 
-  invite_last : (from high next : ℕ) (peer : Peer) (m : Message Start) (out : List Emit) → high < next → IsInvite site.sip (token_text text next) m → AreNumbered site.sip text from high out →
+  request_last : (from high next : ℕ) (peer : Peer) (m : Message Start) (out : List Emit) → high < next → IsAwaited site.sip (token_text text next) m → AreNumbered site.sip text from high out →
       AreNumbered site.sip text from next (out ++ emit.Ask peer m ∷ [])
-  invite_last from high next peer m [] lt is are = (next, inr (omega (arith, lt, are), record { method = codes "INVITE"; waited_for = refl; request = is }), omega arith)
-  invite_last from high next peer m (x ∷ out) lt is are = (are.0, are.1, invite_last are.0 high next peer m out lt is are.2)
+  request_last from high next peer m [] lt is are = (next, inr (omega (arith, lt, are), is), omega arith)
+  request_last from high next peer m (x ∷ out) lt is are = (are.0, are.1, request_last are.0 high next peer m out lt is are.2)
 
   emit_in : (e : Emit) (desk : Desk) → IsQuiet e → Counted desk → Counted (emitted e desk)
   emit_in e desk quiet had = record { same = had.same; out_in = λ less. quiet_last low desk.tokens.drawn e desk.out quiet (had.out_in less) }
@@ -181,13 +165,13 @@ module _ (sent : List ℕ → Peer → Type 0) (site : Site) (text : List ℕ) (
         raised low desk.tokens.drawn (next_number desk.tokens.drawn) desk.out (omega (arith, lt)) (had.out_in (omega (arith, lt, less)));
   }
 
-  invite_in : (peer : Peer) (m : Message Start) (desk : Desk) → IsInvite site.sip (token desk) m → Counted desk → Counted (emitted (emit.Ask peer m) (drew desk))
-  invite_in peer m desk is had = record {
+  asked_in : (method : List ℕ) (peer : Peer) (m : Message Start) (desk : Desk) → is_awaited_method method ≡ true → IsRequest method site.sip (token desk) m → Counted desk → Counted (emitted (emit.Ask peer m) (drew desk))
+  asked_in method peer m desk waited is had = record {
     same = had.same;
     out_in = λ less.
         let lt : desk.tokens.drawn < next_number desk.tokens.drawn = next_above desk.tokens.drawn less in
-        invite_last low desk.tokens.drawn (next_number desk.tokens.drawn) peer m desk.out lt
-        (subst (λ (t : List ℕ). IsInvite site.sip (token_text t (next_number desk.tokens.drawn)) m) had.same is) (had.out_in (omega (arith, lt, less)));
+        request_last low desk.tokens.drawn (next_number desk.tokens.drawn) peer m desk.out lt
+        (record { method = method; waited_for = waited; request = subst (λ (t : List ℕ). IsRequest method site.sip (token_text t (next_number desk.tokens.drawn)) m) had.same is }) (had.out_in (omega (arith, lt, less)));
   }
 
   if_desk : (b : Bool) (one two : Desk) → Counted one → Counted two → Counted (if b then one else two)
@@ -259,7 +243,7 @@ module _ (sent : List ℕ → Peer → Type 0) (site : Site) (text : List ℕ) (
   -- ---- steps
 
   abbrev Others : Call → Type 0
-  Others c = OthersWereSent sent c.loose c.taken
+  Others c = OthersWereSent asked c.loose c.taken c.flights
 
   abbrev At : Phase → Type 0
   At p = PhaseWasSent sent p
@@ -274,7 +258,7 @@ module _ (sent : List ℕ → Peer → Type 0) (site : Site) (text : List ℕ) (
   onward_good c desk p k had = good (onward c desk) p k had
 
   over_good : (at : ℕ) (cause : Cause) (first last : Option Noted) (c : Call) (desk : Desk) → Others c → Counted desk → Good (over at cause first last c desk)
-  over_good at cause first last c desk k had = good (over at cause first last c desk) tt k (record { same = had.same; out_in = had.out_in })
+  over_good at cause first last c desk k had = good (over at cause first last c desk) tt (record { loose_in = k.loose_in; taken_in = k.taken_in; flights_in = tt }) (record { same = had.same; out_in = had.out_in })
 
   if_good : (b : Bool) (one two : Step) → Good one → Good two → Good (if b then one else two)
   if_good true one two e f = e
@@ -286,6 +270,155 @@ module _ (sent : List ℕ → Peer → Type 0) (site : Site) (text : List ℕ) (
       by : (t : Bool) → InvitationWasSent sent (if t then record i { cancelled = true } else i)
       by true = is
       by false = is
+
+  -- what is armed for the session of a 2xx sends nothing
+  expiries_in : (timer : Bool) (time : Option ℕ) (at : ℕ) (c : Call) (desk : Desk) → Counted desk → Counted (record desk { out = desk.out ++ (if timer then expiry_in time at c else []) })
+  expiries_in true None at c desk had = simp append-nil had
+  expiries_in true (Some time) at c desk had = emit_in _ desk (λ n. refl) had
+  expiries_in false time at c desk had = simp append-nil had
+
+  expiry_awaited : (at : ℕ) (m : Said) (c : Call) (desk : Desk) → Counted desk → Counted (awaiting_expiry site at m c desk)
+  expiry_awaited at m c desk had = expiries_in site.timer (expiry_after m.heard.session) at c desk had
+
+  -- ---- what is in flight
+
+  settled_good : (own : Option ℕ) (c : Call) (desk : Desk) → Counted desk → Counted (settled site own c desk)
+  settled_good own c desk had = if_desk site.reliable (emitted (emit.Settled c.opening.key own) desk) desk (emit_in _ desk (λ n. refl) had) had
+
+  settled_in_good : (phase : Phase) (c : Call) (desk : Desk) → Counted desk → Counted (settled_in phase site c desk)
+  settled_in_good (Offered x) c desk had = settled_good None c desk had
+  settled_in_good (Stood x stage) c desk had = had
+  settled_in_good (Lent loan) c desk had = had
+  settled_in_good (Over cause) c desk had = had
+
+  dismissed_each_in : (c : Call) (flights : List Flight) (desk : Desk) → Counted desk → Counted (dismissed_each site c flights desk)
+  dismissed_each_in c [] desk had = had
+  dismissed_each_in c (flight ∷ flights) desk had =
+      dismissed_each_in c flights (dismissed_flight site c flight desk) (replied_in c flight.asked.key flight.asked.request (dismissal_of flight.kind) desk had)
+
+  dismissing_in : (c : Call) (desk : Desk) → Counted desk → Counted (dismissing site c desk)
+  dismissing_in c desk had =
+      settled_in_good c.phase c (dismissed_all site c desk)
+      (dismissed_each_in c (filter is_updating c.flights) _ (dismissed_each_in c (filter (λ flight. not (is_updating flight)) c.flights) desk had))
+
+  with_flights : (flights : List Flight) (c : Call) → Each (FlightWasSent asked) flights → Others c → Others (record c { flights = flights })
+  with_flights flights c all k = record { loose_in = k.loose_in; taken_in = k.taken_in; flights_in = all }
+
+  -- its answer comes back
+
+  agreed_row : (kind : FlightKind) (at : ℕ) (side : Side) (request response : Said) (c : Call) (desk : Desk) → At c.phase → Others c → Counted desk → Good (flying.agreed kind site at side request response c desk)
+  agreed_row Prack at side request response c desk p k had = onward_good c desk p k had
+  agreed_row Update at side request response c desk p k had = onward_good (updated_by side request c) (awaiting_expiry site at response c desk) p k (expiry_awaited at response c desk had)
+
+  final_row : (at : ℕ) (flight : Flight) (m : Said) (code : ℕ) (c : Call) (desk : Desk) → At c.phase → Others c → Counted desk → Good (final_of_flight site at flight m code c desk)
+  final_row at flight m code c desk p k had =
+      let back : Desk = relayed_back_to site flight m c desk in
+      let told : Counted back = emit_in _ desk (λ n. refl) had in
+      if_good (statuses.is_success code) (flying.agreed flight.kind site at flight.side flight.asked.request m c back) (onward c back)
+      (agreed_row flight.kind at flight.side flight.asked.request m c back p k told) (onward_good c back p k told)
+
+  without_flight_in : (place : ℕ) (c : Call) → Others c → Others (without_flight place c)
+  without_flight_in place c k = with_flights _ c (each_without (FlightWasSent asked) place c.flights k.flights_in) k
+
+  flight_row : (at : ℕ) (m : Said) (code place : ℕ) (o : Option Flight) (c : Call) (desk : Desk) → At c.phase → Others c → Counted desk → Good (answered_flight site at m code place o c desk)
+  flight_row at m code place None c desk p k had = onward_good c desk p k had
+  flight_row at m code place (Some flight) c desk p k had =
+      if_good (nat_lt code 200) (onward c desk) (final_of_flight site at flight m code (without_flight place c) desk)
+      (onward_good c desk p k had) (final_row at flight m code (without_flight place c) desk p (without_flight_in place c k) had)
+
+  in_flight_row : (at : ℕ) (m : Said) (o : Option ℕ) (c : Call) (desk : Desk) → At c.phase → Others c → Counted desk → Good (answered_in_flight site at m o c desk)
+  in_flight_row at m None c desk p k had = onward_good c desk p k had
+  in_flight_row at m (Some place) c desk p k had = flight_row at m (status_of m.heard.start) place (slice_get c.flights place) c desk p k had
+
+  silent_flight_row : (place : ℕ) (o : Option Flight) (c : Call) (desk : Desk) → At c.phase → Others c → Counted desk → Good (silent_flight site place o c desk)
+  silent_flight_row place None c desk p k had = onward_good c desk p k had
+  silent_flight_row place (Some flight) c desk p k had =
+      onward_good (without_flight place c) (replied_to site c flight.asked.key flight.asked.request 408 desk) p (without_flight_in place c k) (replied_in c flight.asked.key flight.asked.request 408 desk had)
+
+  silent_in_flight_row : (o : Option ℕ) (c : Call) (desk : Desk) → At c.phase → Others c → Counted desk → Good (silent_in_flight site o c desk)
+  silent_in_flight_row None c desk p k had = onward_good c desk p k had
+  silent_in_flight_row (Some place) c desk p k had = silent_flight_row place (slice_get c.flights place) c desk p k had
+
+  -- one more is asked: it goes to the peer of the leg in which it is made
+
+  asked_row : (flight : Flight) (passed : List Line) (m : HeardMessage) (d : Dialogue) (c : Call) (told : Desk) → is_awaited_method (method_of flight.kind) ≡ true →
+      flight.asked.invitation.branch ≡ token told → flight.asked.invitation.dialogue.peer ≡ d.peer → At c.phase → Others c → Counted told →
+      Good (record { call = with_flight flight c; desk = asked_for site.sip (method_of flight.kind) d passed m told })
+  asked_row flight passed m d c told waited of_branch to_peer p k had =
+      let method : List ℕ = method_of flight.kind in
+      let given : Given = relaying site.sip (token told) passed m in
+      let n : Message Start = request_of d method given in
+      let is : IsRequest method site.sip (token told) n = record { dialogue = d; number = next_number d.own; given = given; is = refl; from_there = refl; has_it = refl } in
+      record {
+        call_in = λ each.
+            let was : asked method (token told) d.peer = each_last AskWasSent told.out (emit.Ask d.peer n) each method (token told) is in
+            let its : FlightWasSent asked flight = subst (λ (branch : List ℕ). asked method branch flight.asked.invitation.dialogue.peer) (sym of_branch) (subst (asked method (token told)) (sym to_peer) was) in
+            record { phase_in = p; others_in = with_flights _ c (each_append (FlightWasSent asked) c.flights (flight ∷ []) k.flights_in (its, tt)) k };
+        desk_in = asked_in method d.peer n told waited is had;
+      }
+
+  prack_refused_row : (key : TKey) (m : Said) (c : Call) (desk : Desk) → At c.phase → Others c → Counted desk → Good (prack_refused site key m c desk)
+  prack_refused_row key m c desk p k had =
+      let code : ℕ = status_of_refusal (acknowledged_by m) in onward_good c (replied_to site c key m code desk) p k (replied_in c key m code desk had)
+
+  -- what is settled draws no token
+  settled_token : (own : Option ℕ) (c : Call) (desk : Desk) → token desk ≡ token (settled site own c desk)
+  settled_token own c desk = by site.reliable
+    where
+      by : (b : Bool) → token desk ≡ token (if b then emitted (emit.Settled c.opening.key own) desk else desk)
+      by true = refl
+      by false = refl
+
+  acknowledging_row : (x : Trial) (key : TKey) (m : Said) (rack : Rack) (o : Option ℕ) (c : Call) (desk : Desk) → PhaseWasSent sent (Offered x) → At c.phase → Others c → Counted desk →
+      Good (acknowledging site x key m rack o c desk)
+  acknowledging_row x key m rack None c desk t p k had = prack_refused_row key m c desk p k had
+  acknowledging_row x key m rack (Some answer) c desk t p k had =
+      asked_row (flight_of Prack Caller key m (having_asked (codes "PRACK") x.callee.leg) desk)
+      (shown_to site c.opening c.diversions x.attempt.service Caller x.callee.leg.dialogue.peer m ++ rack_line answer x.attempt.invitation.number) m.heard x.callee.leg.dialogue
+      (record c { acks = after_ack rack c.acks; phase = Offered (having_asked_early (codes "PRACK") x) }) (settled site (Some rack.answer) c desk) refl
+      (settled_token (Some rack.answer) c desk) refl t k (settled_good (Some rack.answer) c desk had)
+
+  rack_row : (x : Trial) (key : TKey) (m : Said) (o : Option Rack) (c : Call) (desk : Desk) → PhaseWasSent sent (Offered x) → At c.phase → Others c → Counted desk → Good (on_rack site x key m o c desk)
+  rack_row x key m None c desk t p k had = prack_refused_row key m c desk p k had
+  rack_row x key m (Some rack) c desk t p k had = acknowledging_row x key m rack (answer_named x c rack) c desk t p k had
+
+  prack_row : (side : Side) (x : Trial) (key : TKey) (m : Said) (c : Call) (desk : Desk) → PhaseWasSent sent (Offered x) → At c.phase → Others c → Counted desk → Good (on_prack_of side site x key m c desk)
+  prack_row Caller x key m c desk t p k had = rack_row x key m (acknowledged_by m) c desk t p k had
+  prack_row Callee x key m c desk t p k had = prack_refused_row key m c desk p k had
+
+  later_row : (key : TKey) (m : Said) (c : Call) (desk : Desk) → At c.phase → Others c → Counted desk → Good (later site key m c desk)
+  later_row key m c desk p k had = good (later site key m c desk) p k (emit_in _ desk (λ n. refl) had)
+
+  crossing_row : (key : TKey) (m : Said) (c : Call) (desk : Desk) → At c.phase → Others c → Counted desk → Good (crossing site key m c desk)
+  crossing_row key m c desk p k had = onward_good c (replied_to site c key m 491 desk) p k (replied_in c key m 491 desk had)
+
+  unless_row : (o : Option Side) (across : Call → Desk → Step) (side : Side) (key : TKey) (m : Said) (c : Call) (desk : Desk) → At c.phase → Others c → Counted desk → Good (across c desk) →
+      Good (unless_updating o across site side key m c desk)
+  unless_row None across side key m c desk p k had is = is
+  unless_row (Some other) across side key m c desk p k had is =
+      if_good (is_same_side other side) (later site key m c desk) (crossing site key m c desk) (later_row key m c desk p k had) (crossing_row key m c desk p k had)
+
+  asked_on_row : (service : Option Service) (side : Side) (leg : Leg) (key : TKey) (m : Said) (c : Call) (desk : Desk) → At c.phase → Others c → Counted desk → Good (asked_on site service side leg key m c desk)
+  asked_on_row service side leg key m c desk p k had =
+      asked_row (flight_of Update side key m (having_asked (codes "UPDATE") leg) desk) (shown_to site c.opening c.diversions service side leg.dialogue.peer m) m.heard leg.dialogue c desk refl refl refl p k had
+
+  updated_sent : (side : Side) (x : Trial) → PhaseWasSent sent (Offered x) → PhaseWasSent sent (Offered (having_updated side x))
+  updated_sent Caller x t = t
+  updated_sent Callee x t = t
+
+  update_row : (x : Trial) (side : Side) (key : TKey) (m : Said) (c : Call) (desk : Desk) → PhaseWasSent sent (Offered x) → At c.phase → Others c → Counted desk → Good (on_update site x side key m c desk)
+  update_row x side key m c desk t p k had =
+      if_good (takes_updates x) (unless_updating (updating c.flights) (updated_early site x side key m) site side key m c desk) (later site key m c desk)
+      (unless_row (updating c.flights) (updated_early site x side key m) side key m c desk p k had
+      (asked_on_row x.attempt.service side (other_leg side x) key m (record c { phase = Offered (having_updated side x) }) desk (updated_sent side x t) k had))
+      (later_row key m c desk p k had)
+
+  on_other_row : (x : Trial) (side : Side) (key : TKey) (m : Said) (c : Call) (desk : Desk) → PhaseWasSent sent (Offered x) → At c.phase → Others c → Counted desk → Good (on_other site x side key m c desk)
+  on_other_row x side key m c desk t p k had =
+      if_good (is_prack m) (on_prack_of side site x key m c desk) (if is_update m then on_update site x side key m c desk else onward c (unlisted site c key m desk))
+      (prack_row side x key m c desk t p k had)
+      (if_good (is_update m) (on_update site x side key m c desk) (onward c (unlisted site c key m desk)) (update_row x side key m c desk t p k had)
+      (onward_good c (unlisted site c key m desk) p k (unlisted_in c key m desk had)))
 
   -- ---- the way on
 
@@ -301,18 +434,18 @@ module _ (sent : List ℕ → Peer → Type 0) (site : Site) (text : List ℕ) (
   offer_good : (at : ℕ) (caller : Leg) (service : Option Service) (waiting : Bool) (aim : Aim) (c : Call) (desk : Desk) → Others c → Counted desk → Good (offer site at caller service waiting aim c desk)
   offer_good at caller service waiting aim c desk k had =
       let o = c.opening in
-      let shown : List Line = shown_to site o c.diversions service Caller aim.peer o.invite in
+      let shown : List Line = offered_to site o c.diversions service aim.peer in
       let d : Dialogue = dialog_of o aim desk in
       let third : Desk = drew (drew desk) in
       let m : Message Start = invite_of d site.sip (token third) shown waiting o.invite.heard in
       let is : IsInvite site.sip (token third) m = record { dialogue = d; number = 1; given = relaying site.sip (token third) (shown ++ alert_lines waiting) o.invite.heard; is = refl; from_there = refl; has_it = refl } in
-      let asked : Desk = emitted (emit.Ask aim.peer m) (drew third) in
+      let offered : Desk = emitted (emit.Ask aim.peer m) (drew third) in
       let arm : Emit = emit.Arm o.number (due.Cap (next_attempt c)) (at + longest_time) in
       record {
         call_in = λ each.
-            let was : sent (token third) aim.peer = each_last AskWasSent desk.out (emit.Ask aim.peer m) (each_first AskWasSent asked.out (arm ∷ []) each) (token third) is in
+            let was : sent (token third) aim.peer = each_last AskWasSent desk.out (emit.Ask aim.peer m) (each_front AskWasSent offered.out (arm ∷ []) each) (codes "INVITE") (token third) is in
             record { phase_in = (was, was); others_in = k };
-        desk_in = emit_in arm asked (λ n. refl) (invite_in aim.peer m third is (drew_in (drew desk) (drew_in desk had)));
+        desk_in = emit_in arm offered (λ n. refl) (asked_in (codes "INVITE") aim.peer m third refl is (drew_in (drew desk) (drew_in desk had)));
       }
 
   abbrev Diverts : ℕ → Standing → Leg → Type 0
@@ -367,7 +500,7 @@ module _ (sent : List ℕ → Peer → Type 0) (site : Site) (text : List ℕ) (
   AtTrial x = PhaseWasSent sent (Offered x)
 
   with_loose_sent : (l : Loose) (c : Call) → LooseWasSent sent l → Others c → Others (with_loose l c)
-  with_loose_sent l c is k = record { loose_in = each_append (LooseWasSent sent) c.loose (l ∷ []) k.loose_in (is, tt); taken_in = k.taken_in }
+  with_loose_sent l c is k = record { loose_in = each_append (LooseWasSent sent) c.loose (l ∷ []) k.loose_in (is, tt); taken_in = k.taken_in; flights_in = k.flights_in }
 
   left_sent : (x : Trial) (c : Call) → AtTrial x → Others c → Others (left x c)
   left_sent x c t k = with_loose_sent (loose (once_cancelled x.attempt.invitation)) c (once_sent x.attempt.invitation t.0) k
@@ -387,24 +520,32 @@ module _ (sent : List ℕ → Peer → Type 0) (site : Site) (text : List ℕ) (
   armed_good code at attempt c desk had =
       if_desk (rings code && not attempt.rang) (armed_in (time_of (its_sheet attempt.service)) at attempt c desk) desk (armed_in_good (time_of (its_sheet attempt.service)) at attempt c desk had) had
 
-  proceeding_good : (at : ℕ) (x : Trial) (key : TKey) (m : Said) (code : ℕ) (c : Call) (desk : Desk) → AtTrial x → Others c → Counted desk → Good (ringing.proceeding site at x key m code c desk)
-  proceeding_good at x key m code c desk t k had =
-      good (ringing.proceeding site at x key m code c desk) (t.0, met_leg x.attempt.invitation.branch (early_said x.callee m) x.callee t.1) k
+  proceeded_sent : (x : Trial) (key : TKey) (m : Said) (code : ℕ) → AtTrial x → AtTrial (proceeded x key m code)
+  proceeded_sent x key m code t = (t.0, met_leg x.attempt.invitation.branch (early_said x.callee m) x.callee t.1)
+
+  plainly_good : (at : ℕ) (x : Trial) (key : TKey) (m : Said) (code : ℕ) (c : Call) (desk : Desk) → AtTrial x → Others c → Counted desk → Good (relayed_plainly site at x key m code c desk)
+  plainly_good at x key m code c desk t k had =
+      good (relayed_plainly site at x key m code c desk) (proceeded_sent x key m code t) k
       (armed_good code at x.attempt c (relayed_to_caller site c x.attempt.service m desk) (relayed_in c x.attempt.service m desk had))
 
-  -- what is armed for the session of a 2xx sends nothing
-  expiries_in : (timer : Bool) (time : Option ℕ) (at : ℕ) (c : Call) (desk : Desk) → Counted desk → Counted (record desk { out = desk.out ++ (if timer then expiry_in time at c else []) })
-  expiries_in true None at c desk had = simp append-nil had
-  expiries_in true (Some time) at c desk had = emit_in _ desk (λ n. refl) had
-  expiries_in false time at c desk had = simp append-nil had
+  relayed_if_good : (o : Option ℕ) (rseq at : ℕ) (x : Trial) (key : TKey) (m : Said) (code : ℕ) (c : Call) (desk : Desk) → AtTrial x → Others c → Counted desk → Good (relayed_if o rseq site at x key m code c desk)
+  relayed_if_good None rseq at x key m code c desk t k had = tried_good key x c desk t k had
+  relayed_if_good (Some own) rseq at x key m code c desk t k had =
+      good (relayed_if (Some own) rseq site at x key m code c desk) (proceeded_sent x key m code t) k
+      (emit_in _ (armed code at x.attempt c (relayed_reliably site c x.attempt.service own m desk)) (λ n. refl)
+      (armed_good code at x.attempt c (relayed_reliably site c x.attempt.service own m desk) (emit_in _ desk (λ n. refl) had)))
 
-  expiry_awaited : (at : ℕ) (m : Said) (c : Call) (desk : Desk) → Counted desk → Counted (awaiting_expiry site at m c desk)
-  expiry_awaited at m c desk had = expiries_in site.timer (expiry_after m.heard.session) at c desk had
+  proceeding_by_good : (o : Option ℕ) (at : ℕ) (x : Trial) (key : TKey) (m : Said) (code : ℕ) (c : Call) (desk : Desk) → AtTrial x → Others c → Counted desk → Good (proceeding_by o site at x key m code c desk)
+  proceeding_by_good None at x key m code c desk t k had = plainly_good at x key m code c desk t k had
+  proceeding_by_good (Some rseq) at x key m code c desk t k had = relayed_if_good (own_for rseq x m c) rseq at x key m code c desk t k had
+
+  proceeding_good : (at : ℕ) (x : Trial) (key : TKey) (m : Said) (code : ℕ) (c : Call) (desk : Desk) → AtTrial x → Others c → Counted desk → Good (ringing.proceeding site at x key m code c desk)
+  proceeding_good at x key m code c desk t k had = proceeding_by_good (reliable_number site c.opening m) at x key m code c desk t k had
 
   answered_good : (at : ℕ) (x : Trial) (key : TKey) (m : Said) (c : Call) (desk : Desk) → AtTrial x → Others c → Counted desk → Good (answered site at x key m c desk)
   answered_good at x key m c desk t k had =
       good (answered site at x key m c desk) t.1
-      (record { loose_in = k.loose_in; taken_in = each_append (TakenWasSent sent) c.taken (taken_by key m false x.attempt.invitation ∷ []) k.taken_in (t.0, tt) })
+      (record { loose_in = k.loose_in; taken_in = each_append (TakenWasSent sent) c.taken (taken_by key m false x.attempt.invitation ∷ []) k.taken_in (t.0, tt); flights_in = k.flights_in })
       (expiry_awaited at m c _ (emit_in _ (relayed_to_caller site c x.attempt.service m desk) (λ n. refl) (relayed_in c x.attempt.service m desk had)))
 
   failed_good : (now : Standing) (x : Trial) (key : TKey) (m : Said) (code : ℕ) (c : Call) (desk : Desk) → Others c → Counted desk → Good (failed site now x key m code c desk)
@@ -430,11 +571,19 @@ module _ (sent : List ℕ → Peer → Type 0) (site : Site) (text : List ℕ) (
   timed_out_good : (now : Standing) (x : Trial) (how : End) (c : Call) (desk : Desk) → AtTrial x → Others c → Counted desk → Good (timed_out site now x how c desk)
   timed_out_good now x how c desk t k had = goes_on_good now x how None (left x c) (cancelled_attempt site x desk) (left_sent x c t k) (cancelled_in x.attempt.invitation desk had)
 
+  given_up_by_good : (cause : Cause) (at : ℕ) (x : Trial) (c : Call) (desk : Desk) → AtTrial x → Others c → Counted desk → Good (given_up_by cause site at x c desk)
+  given_up_by_good cause at x c desk t k had =
+      let code : ℕ = of_causes.status_of cause in
+      over_good at cause x.caller.meter x.callee.leg.meter (left x c) (cancelled_attempt site x (told_caller site c code desk)) (left_sent x c t k)
+      (cancelled_in x.attempt.invitation (told_caller site c code desk) (told_in c code desk had))
+
   due_row : (now : Standing) (x : Trial) (what : DueWord) (c : Call) (desk : Desk) → AtTrial x → Others c → Counted desk → Good (on_due site now x what (offered_call x c) desk)
   due_row now x (due.NoReply number) c desk t k had =
       if_good (number == x.attempt.number) (timed_out site now x NoReply (offered_call x c) desk) (onward (offered_call x c) desk)
       (timed_out_good now x NoReply (offered_call x c) desk t k had) (onward_good (offered_call x c) desk t k had)
-  due_row now x (due.NoPrack number) c desk t k had = onward_good (offered_call x c) desk t k had
+  due_row now x (due.NoPrack own) c desk t k had =
+      if_good (has_own own c.acks.waiting) (given_up_by causes.Unacknowledged site now.at x (offered_call x c) desk) (onward (offered_call x c) desk)
+      (given_up_by_good causes.Unacknowledged now.at x (offered_call x c) desk t k had) (onward_good (offered_call x c) desk t k had)
   due_row now x (due.Cap number) c desk t k had =
       if_good (number == x.attempt.number) (timed_out site now x (end_by_time x.attempt.rang) (offered_call x c) desk) (onward (offered_call x c) desk)
       (timed_out_good now x (end_by_time x.attempt.rang) (offered_call x c) desk t k had) (onward_good (offered_call x c) desk t k had)
@@ -442,9 +591,7 @@ module _ (sent : List ℕ → Peer → Type 0) (site : Site) (text : List ℕ) (
   due_row now x (due.Expired number) c desk t k had = onward_good (offered_call x c) desk t k had
 
   given_up_good : (at : ℕ) (x : Trial) (c : Call) (desk : Desk) → AtTrial x → Others c → Counted desk → Good (given_up site at x c desk)
-  given_up_good at x c desk t k had =
-      over_good at causes.Cancelled x.caller.meter x.callee.leg.meter (left x c) (cancelled_attempt site x (told_caller site c 487 desk)) (left_sent x c t k)
-      (cancelled_in x.attempt.invitation (told_caller site c 487 desk) (told_in c 487 desk had))
+  given_up_good at x c desk t k had = given_up_by_good causes.Cancelled at x c desk t k had
 
   cancel_row : (at : ℕ) (x : Trial) (key : TKey) (m : Said) (invite : TKey) (c : Call) (desk : Desk) → AtTrial x → Others c → Counted desk → Good (on_cancel site at x key m invite (offered_call x c) desk)
   cancel_row at x key m invite c desk t k had =
@@ -455,10 +602,10 @@ module _ (sent : List ℕ → Peer → Type 0) (site : Site) (text : List ℕ) (
 
   heard_row : (at : ℕ) (x : Trial) (side : Side) (key : TKey) (m : Said) (c : Call) (desk : Desk) → AtTrial x → Others c → Counted desk → Good (on_heard site at x side key m (offered_call x c) desk)
   heard_row at x Caller key m c desk t k had =
-      if_good (is_bye m) (given_up site at x (offered_call x c) (replied_to site (offered_call x c) key m 200 desk)) (onward (offered_call x c) (unlisted site (offered_call x c) key m desk))
+      if_good (is_bye m) (given_up site at x (offered_call x c) (replied_to site (offered_call x c) key m 200 desk)) (on_other site x Caller key m (offered_call x c) desk)
       (given_up_good at x (offered_call x c) (replied_to site (offered_call x c) key m 200 desk) t k (replied_in (offered_call x c) key m 200 desk had))
-      (onward_good (offered_call x c) (unlisted site (offered_call x c) key m desk) t k (unlisted_in (offered_call x c) key m desk had))
-  heard_row at x Callee key m c desk t k had = onward_good (offered_call x c) (unlisted site (offered_call x c) key m desk) t k (unlisted_in (offered_call x c) key m desk had)
+      (on_other_row x Caller key m (offered_call x c) desk t t k had)
+  heard_row at x Callee key m c desk t k had = on_other_row x Callee key m (offered_call x c) desk t t k had
 
   heard_by_sent : (side : Side) (m : Said) (x : Trial) → AtTrial x → AtTrial (heard_by side m x)
   heard_by_sent Caller m x t = t
@@ -501,7 +648,7 @@ module _ (sent : List ℕ → Peer → Type 0) (site : Site) (text : List ℕ) (
       let d : Dialogue = (leg_of (other_of side) x).dialogue in
       let sample : List ℕ = relayed_ack_text site.sip d (token desk) (shown_across site c x side m) m.heard in
       good (acked_across site x side success m c desk) tt
-      (record { loose_in = k.loose_in; taken_in = each_map (TakenWasSent sent) (with_ack success.branch sample) (with_ack_sent success.branch sample) c.taken k.taken_in })
+      (record { loose_in = k.loose_in; taken_in = each_map (TakenWasSent sent) (TakenWasSent sent) (with_ack success.branch sample) (with_ack_sent success.branch sample) c.taken k.taken_in; flights_in = k.flights_in })
       (acked_for_in d (shown_across site c x side m) m.heard desk had)
 
   parted_good : (at : ℕ) (x : Pair) (side : Side) (c : Call) (desk : Desk) → Others c → Counted desk → Good (parted site at x side c desk)
@@ -532,9 +679,9 @@ module _ (sent : List ℕ → Peer → Type 0) (site : Site) (text : List ℕ) (
       let is : IsInvite site.sip (token desk) n = record { dialogue = d; number = next_number d.own; given = given; is = refl; from_there = refl; has_it = refl } in
       record {
         call_in = λ each.
-            let was : sent (token desk) d.peer = each_last AskWasSent desk.out (emit.Ask d.peer n) each (token desk) is in
+            let was : sent (token desk) d.peer = each_last AskWasSent desk.out (emit.Ask d.peer n) each (codes "INVITE") (token desk) is in
             record { phase_in = (was, with_leg_sent (token desk) (other_of side) (having_invited leg) x was); others_in = k };
-        desk_in = invite_in d.peer n desk is had;
+        desk_in = asked_in (codes "INVITE") d.peer n desk refl is had;
       }
 
   invited_good : (x : Pair) (side : Side) (key : TKey) (m : Said) (c : Call) (desk : Desk) → Others c → Counted desk → Good (invited site x side key m c desk)
@@ -564,7 +711,7 @@ module _ (sent : List ℕ → Peer → Type 0) (site : Site) (text : List ℕ) (
   agreed_good : (at : ℕ) (x : Pair) (side : Side) (q : Reinvite) (key : TKey) (m : Said) (c : Call) (desk : Desk) → AtStage x (Asking side q) → Others c → Counted desk → Good (agreed site at x side q key m c desk)
   agreed_good at x side q key m c desk e k had =
       good (agreed site at x side q key m c desk) e.1
-      (record { loose_in = k.loose_in; taken_in = each_append (TakenWasSent sent) c.taken (taken_by key m true q.invitation ∷ []) k.taken_in (e.0, tt) })
+      (record { loose_in = k.loose_in; taken_in = each_append (TakenWasSent sent) c.taken (taken_by key m true q.invitation ∷ []) k.taken_in (e.0, tt); flights_in = k.flights_in })
       (expiry_awaited at m c _ (emit_in _ (relayed_back site x side q m c desk) (λ n. refl) (relayed_back_in x side q m c desk had)))
 
   refused_back_in : (x : Pair) (side : Side) (q : Reinvite) (key : TKey) (m : Said) (c : Call) (desk : Desk) → Counted desk → Counted (refused_back site x side q key m c desk)
@@ -629,13 +776,27 @@ module _ (sent : List ℕ → Peer → Type 0) (site : Site) (text : List ℕ) (
       (staged_good x stage c (replied_to site (stood x stage c) key m 481 desk) e k (replied_in (stood x stage c) key m 481 desk had))
       (left_row stage at x side m (stood x stage c) (replied_to site (stood x stage c) key m 200 desk) e k (replied_in (stood x stage c) key m 200 desk had))
 
+  update_at_row : (stage : Stage) (x : Pair) (side : Side) (key : TKey) (m : Said) (c : Call) (desk : Desk) → AtStage x stage → Others c → Counted desk → Good (on_update_at stage site x side key m (stood x stage c) desk)
+  update_at_row (Answered waiting success) x side key m c desk e k had = crossing_row key m (stood x (Answered waiting success) c) desk e k had
+  update_at_row (Parting waiting success) x side key m c desk e k had = crossing_row key m (stood x (Parting waiting success) c) desk e k had
+  update_at_row Talking x side key m c desk e k had =
+      unless_row (updating c.flights) (updated_across site x side key m) side key m (stood x Talking c) desk tt k had
+      (asked_on_row x.service side (leg_of (other_of side) x) key m _ desk tt k had)
+  update_at_row (Asking asking q) x side key m c desk e k had = crossing_row key m (stood x (Asking asking q) c) desk e k had
+
   heard_at_row : (stage : Stage) (at : ℕ) (x : Pair) (side : Side) (key : TKey) (m : Said) (c : Call) (desk : Desk) → AtStage x stage → Others c → Counted desk → Good (on_heard_at stage site at x side key m (stood x stage c) desk)
   heard_at_row stage at x side key m c desk e k had =
-      if_good (is_invite m) (on_invite stage site x side key m (stood x stage c) desk) (if is_bye m then on_bye stage site at x side key m (stood x stage c) desk else onward (stood x stage c) (unlisted site (stood x stage c) key m desk))
+      let now : Call = stood x stage c in
+      let rest : Step = if is_prack m then prack_refused site key m now desk else onward now (unlisted site now key m desk) in
+      if_good (is_invite m) (on_invite stage site x side key m now desk) (if is_bye m then on_bye stage site at x side key m now desk else if is_update m then on_update_at stage site x side key m now desk else rest)
       (invite_row stage x side key m c desk e k had)
-      (if_good (is_bye m) (on_bye stage site at x side key m (stood x stage c) desk) (onward (stood x stage c) (unlisted site (stood x stage c) key m desk))
+      (if_good (is_bye m) (on_bye stage site at x side key m now desk) (if is_update m then on_update_at stage site x side key m now desk else rest)
       (bye_row stage at x side key m c desk e k had)
-      (staged_good x stage c (unlisted site (stood x stage c) key m desk) e k (unlisted_in (stood x stage c) key m desk had)))
+      (if_good (is_update m) (on_update_at stage site x side key m now desk) rest
+      (update_at_row stage x side key m c desk e k had)
+      (if_good (is_prack m) (prack_refused site key m now desk) (onward now (unlisted site now key m desk))
+      (prack_refused_row key m now desk e k had)
+      (staged_good x stage c (unlisted site now key m desk) e k (unlisted_in now key m desk had)))))
 
   -- a request leaves the peers of both legs
   leg_heard : (branch : List ℕ) (of side : Side) (m : Said) (x : Pair) → sent branch (leg_of of x).dialogue.peer → sent branch (leg_of of (with_leg side (having_heard (leg_of side x) m) x)).dialogue.peer
@@ -721,7 +882,7 @@ module _ (sent : List ℕ → Peer → Type 0) (site : Site) (text : List ℕ) (
   success_rest : (l : Loose) (remote : Remote) (o : Option Dialogue) (desk : Desk) → LooseWasSent sent l → Counted desk → GoodRest (on_success_in site.sip l remote o desk)
   success_rest l remote (Some d) desk is had = record { left_in = is; desk_in = acked_in d desk had }
   success_rest l remote None desk is had =
-      let d : Dialogue = left_ones.made_from l.within l.invitation.early l.invitation.dialogue remote in
+      let d : Dialogue = left_ones.made_from l.within l.invitation.early l.invitation.asked l.invitation.dialogue remote in
       record { left_in = is; desk_in = bye_in d (acked site.sip d desk) (acked_in d desk had) }
 
   late_response : (key : TKey) (m : HeardMessage) (l : Loose) (desk : Desk) → LooseWasSent sent l → Counted desk → GoodRest (left_ones.on_response site.sip key m l desk)
@@ -740,7 +901,11 @@ module _ (sent : List ℕ → Peer → Type 0) (site : Site) (text : List ℕ) (
       let rest : Rest = left_ones.on_response site.sip key m.heard l desk in
       let is : GoodRest rest = late_response key m.heard l desk e had in
       good (with_rest at rest c) p
-      (record { loose_in = each_append (LooseWasSent sent) (without_at at c.loose) (option_to_list rest.left) (without_at_each (LooseWasSent sent) at c.loose k.loose_in) (each_option (LooseWasSent sent) rest.left is.left_in); taken_in = k.taken_in })
+      (record {
+        loose_in = each_append (LooseWasSent sent) (without_at at c.loose) (option_to_list rest.left) (each_without (LooseWasSent sent) at c.loose k.loose_in) (each_option (LooseWasSent sent) rest.left is.left_in);
+        taken_in = k.taken_in;
+        flights_in = k.flights_in;
+      })
       is.desk_in
 
   again_sent : (t : Taken) (o : Option Loose) → IfSome o (LooseWasSent sent) → IfSome (taken_again t o) (TakenWasSent sent)
@@ -752,7 +917,12 @@ module _ (sent : List ℕ → Peer → Type 0) (site : Site) (text : List ℕ) (
       let rest : Rest = left_ones.on_response site.sip key m.heard (as_loose t) desk in
       let is : GoodRest rest = late_response key m.heard (as_loose t) desk e had in
       good (forked site key m at t c desk) p
-      (record { loose_in = k.loose_in; taken_in = each_append (TakenWasSent sent) (without_at at c.taken) (option_to_list (taken_again t rest.left)) (without_at_each (TakenWasSent sent) at c.taken k.taken_in) (each_option (TakenWasSent sent) (taken_again t rest.left) (again_sent t rest.left is.left_in)) })
+      (record {
+        loose_in = k.loose_in;
+        taken_in = each_append (TakenWasSent sent) (without_at at c.taken) (option_to_list (taken_again t rest.left)) (each_without (TakenWasSent sent) at c.taken k.taken_in)
+            (each_option (TakenWasSent sent) (taken_again t rest.left) (again_sent t rest.left is.left_in));
+        flights_in = k.flights_in;
+      })
       is.desk_in
 
   acked_again_in : (t : Taken) (o : Option (List ℕ)) (desk : Desk) → Counted desk → Counted (acked_again t o desk)
@@ -768,21 +938,26 @@ module _ (sent : List ℕ → Peer → Type 0) (site : Site) (text : List ℕ) (
       (onward_good c (if is_talking c.phase then acked_again t t.invitation.ack desk else desk) p k
       (if_desk (is_talking c.phase) (acked_again t t.invitation.ack desk) desk (acked_again_in t t.invitation.ack desk had) had)))
 
-  taken_at_row : (key : TKey) (m : Said) (o : Option ℕ) (c : Call) (desk : Desk) → At c.phase → Others c → Counted desk → Good (answered_taken_at site key m o c desk)
-  taken_at_row key m None c desk p k had = onward_good c desk p k had
-  taken_at_row key m (Some at) c desk p k had = taken_row key m at (slice_get c.taken at) c desk (each_get (TakenWasSent sent) c.taken at k.taken_in) p k had
+  taken_at_row : (at : ℕ) (key : TKey) (m : Said) (branch : List ℕ) (o : Option ℕ) (c : Call) (desk : Desk) → At c.phase → Others c → Counted desk → Good (answered_taken_at site at key m branch o c desk)
+  taken_at_row at key m branch None c desk p k had = in_flight_row at m (position (is_in_flight branch) c.flights) c desk p k had
+  taken_at_row at key m branch (Some place) c desk p k had = taken_row key m place (slice_get c.taken place) c desk (each_get (TakenWasSent sent) c.taken place k.taken_in) p k had
 
-  at_row : (key : TKey) (m : Said) (branch : List ℕ) (o : Option ℕ) (c : Call) (desk : Desk) → At c.phase → Others c → Counted desk → Good (answered_at site key m branch o c desk)
-  at_row key m branch None c desk p k had = taken_at_row key m (position (is_taken branch) c.taken) c desk p k had
-  at_row key m branch (Some at) c desk p k had = loose_row key m at (slice_get c.loose at) c desk (each_get (LooseWasSent sent) c.loose at k.loose_in) p k had
+  at_row : (at : ℕ) (key : TKey) (m : Said) (branch : List ℕ) (o : Option ℕ) (c : Call) (desk : Desk) → At c.phase → Others c → Counted desk → Good (answered_at site at key m branch o c desk)
+  at_row at key m branch None c desk p k had = taken_at_row at key m branch (position (is_taken branch) c.taken) c desk p k had
+  at_row at key m branch (Some place) c desk p k had = loose_row key m place (slice_get c.loose place) c desk (each_get (LooseWasSent sent) c.loose place k.loose_in) p k had
 
-  other_row : (key : TKey) (m : Said) (branch : List ℕ) (c : Call) (desk : Desk) → At c.phase → Others c → Counted desk → Good (answered_other site key m branch c desk)
+  other_row : (at : ℕ) (key : TKey) (m : Said) (branch : List ℕ) (c : Call) (desk : Desk) → At c.phase → Others c → Counted desk → Good (answered_other site at key m branch c desk)
   unfolding answered_other
-  other_row key m branch c desk p k had = at_row key m branch (position (is_of branch) c.loose) c desk p k had
+  other_row at key m branch c desk p k had = at_row at key m branch (position (is_of branch) c.loose) c desk p k had
 
-  silent_row : (branch : List ℕ) (c : Call) (desk : Desk) → At c.phase → Others c → Counted desk → Good (onward (without_silent branch c) desk)
-  silent_row branch c desk p k had =
-      good (onward (without_silent branch c) desk) p (record { loose_in = without_each (LooseWasSent sent) (position (is_of branch) c.loose) c.loose k.loose_in; taken_in = k.taken_in }) had
+  silent_at_row : (branch : List ℕ) (o : Option ℕ) (c : Call) (desk : Desk) → At c.phase → Others c → Counted desk → Good (silent_other_at site branch o c desk)
+  silent_at_row branch None c desk p k had = silent_in_flight_row (position (is_in_flight branch) c.flights) c desk p k had
+  silent_at_row branch (Some place) c desk p k had =
+      good (onward (without_silent branch c) desk) p
+      (record { loose_in = without_each (LooseWasSent sent) (position (is_of branch) c.loose) c.loose k.loose_in; taken_in = k.taken_in; flights_in = k.flights_in }) had
+
+  silent_row : (branch : List ℕ) (c : Call) (desk : Desk) → At c.phase → Others c → Counted desk → Good (silent_other site branch c desk)
+  silent_row branch c desk p k had = silent_at_row branch (position (is_of branch) c.loose) c desk p k had
 
   key_row : (key : TKey) (c : Call) (desk : Desk) → At c.phase → Others c → Counted desk → Good (onward (without_key key c) desk)
   key_row key c desk p k had =
@@ -790,6 +965,7 @@ module _ (sent : List ℕ → Peer → Type 0) (site : Site) (text : List ℕ) (
       (record {
         loose_in = without_each (LooseWasSent sent) (position (is_loose_key key) c.loose) c.loose k.loose_in;
         taken_in = without_each (TakenWasSent sent) (position (is_taken_key key) c.taken) c.taken k.taken_in;
+        flights_in = k.flights_in;
       }) had
 
   -- ---- the table, by phase
@@ -837,24 +1013,30 @@ module _ (sent : List ℕ → Peer → Type 0) (site : Site) (text : List ℕ) (
   answer_good : (branch : Option (List ℕ)) (now : Standing) (key : TKey) (m : Said) (c : Call) (desk : Desk) → At c.phase → Others c → Counted desk → Good (answer_to branch site now key m c desk)
   answer_good None now key m c desk p k had = onward_good c desk p k had
   answer_good (Some branch) now key m c desk p k had =
-      if_good (is_current branch c) (response_in c.phase site now key m c desk) (answered_other site key m branch c desk)
-      (response_good c.phase now key m c desk p k had) (other_row key m branch c desk p k had)
+      if_good (is_current branch c) (response_in c.phase site now key m c desk) (answered_other site now.at key m branch c desk)
+      (response_good c.phase now key m c desk p k had) (other_row now.at key m branch c desk p k had)
 
   silence_of_good : (branch : Option (List ℕ)) (now : Standing) (c : Call) (desk : Desk) → At c.phase → Others c → Counted desk → Good (silence_of branch site now c desk)
   silence_of_good None now c desk p k had = onward_good c desk p k had
   silence_of_good (Some branch) now c desk p k had =
-      if_good (is_current branch c) (silence_in c.phase site now c desk) (onward (without_silent branch c) desk)
+      if_good (is_current branch c) (silence_in c.phase site now c desk) (silent_other site branch c desk)
       (silence_good c.phase now c desk p k had) (silent_row branch c desk p k had)
+
+  row_good : (now : Standing) (heard : Signal) (c : Call) (desk : Desk) → At c.phase → Others c → Counted desk → Good (row site now heard c desk)
+  unfolding row
+  row_good now (signal.Request side key request) c desk p k had = request_good c.phase now.at side key request c desk p k had
+  row_good now (signal.Ack side ack) c desk p k had = ack_good c.phase now.at side ack c desk p k had
+  row_good now (signal.Cancel key cancel invite) c desk p k had = cancel_good c.phase now.at key cancel invite c desk p k had
+  row_good now (signal.Answer key response) c desk p k had = answer_good (invite_answered response) now key response c desk p k had
+  row_good now (signal.Silent branch method) c desk p k had = silence_of_good (invite_silent branch method) now c desk p k had
+  row_good now (signal.Due what) c desk p k had = due_good c.phase now what c desk p k had
+  row_good now (signal.Ended key) c desk p k had = key_row key c desk p k had
 
   pub step_good : (now : Standing) (heard : Signal) (c : Call) (desk : Desk) → At c.phase → Others c → Counted desk → Good (step site now heard c desk)
   unfolding step
-  step_good now (signal.Request side key request) c desk p k had = request_good c.phase now.at side key request c desk p k had
-  step_good now (signal.Ack side ack) c desk p k had = ack_good c.phase now.at side ack c desk p k had
-  step_good now (signal.Cancel key cancel invite) c desk p k had = cancel_good c.phase now.at key cancel invite c desk p k had
-  step_good now (signal.Answer key response) c desk p k had = answer_good (invite_answered response) now key response c desk p k had
-  step_good now (signal.Silent branch method) c desk p k had = silence_of_good (invite_silent branch method) now c desk p k had
-  step_good now (signal.Due what) c desk p k had = due_good c.phase now what c desk p k had
-  step_good now (signal.Ended key) c desk p k had = key_row key c desk p k had
+  step_good now heard c desk p k had =
+      if_good (leaves heard c) (row site now heard (dismissed c) (dismissing site c desk)) (row site now heard c desk)
+      (row_good now heard (dismissed c) (dismissing site c desk) p (with_flights [] c tt k) (dismissing_in c desk had)) (row_good now heard c desk p k had)
 
   -- ---- as it opens
 
@@ -866,7 +1048,8 @@ module _ (sent : List ℕ → Peer → Type 0) (site : Site) (text : List ℕ) (
   unfolding opened
   opened_good now a desk had =
       let c : Call = new_call site (opening_of site now (token desk) a) in
-      unless_refused_good (refusal_of site now.at c.opening) now (caller_of now.at c) c (told_caller site c 100 (drew desk)) (record { loose_in = tt; taken_in = tt }) (told_in c 100 (drew desk) (drew_in desk had))
+      unless_refused_good (refusal_of site now.at c.opening) now (caller_of now.at c) c (told_caller site c 100 (drew desk)) (record { loose_in = tt; taken_in = tt; flights_in = tt })
+      (told_in c 100 (drew desk) (drew_in desk had))
 
   -- ---- without a leg
 
@@ -874,7 +1057,9 @@ module _ (sent : List ℕ → Peer → Type 0) (site : Site) (text : List ℕ) (
   finished_in_good (Offered x) at c desk p k had = onward_good (at_phase (Offered x) c) desk p k had
   finished_in_good (Stood x stage) at c desk p k had = onward_good (at_phase (Stood x stage) c) desk p k had
   finished_in_good (Lent loan) at c desk p k had =
-      over_good at causes.Ended _ _ (at_phase (Lent loan) c) (bye site.sip (released_leg loan.left).dialogue desk) k (bye_in (released_leg loan.left).dialogue desk had)
+      let left : Call = at_phase (Lent loan) c in
+      let told : Desk = dismissing site left desk in
+      over_good at causes.Ended _ _ (dismissed left) (bye site.sip (released_leg loan.left).dialogue told) (with_flights [] left tt k) (bye_in (released_leg loan.left).dialogue told (dismissing_in left desk had))
   finished_in_good (Over cause) at c desk p k had = onward_good (at_phase (Over cause) c) desk p k had
 
   pub finished_good : (at : ℕ) (c : Call) (desk : Desk) → At c.phase → Others c → Counted desk → Good (finished site at c desk)

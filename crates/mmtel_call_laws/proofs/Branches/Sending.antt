@@ -1,9 +1,10 @@
 -- The laws: where what was sent is told by what was asked.
-use Rattle.std.proofs.Common.{ℕ, List, [], ◌∷◌, ◌++◌, refl, inl, inr, arith}
+use Rattle.std.proofs.Common.{ℕ, List, [], ◌∷◌, ◌++◌, refl, inl, inr, arith, codes}
 use Rattle.mmtel_call_decisions.specs.Site.{Site}
 use Rattle.mmtel_call.specs.Closing.{Step}
 use Rattle.mmtel_call.specs.Lending.{finished, lent_at, lent_in, put_back_in}
 use Rattle.mmtel_call.specs.declared.calls.Call.{Call}
+use Rattle.mmtel_call.specs.declared.calls.Flight.{Flight}
 use Rattle.mmtel_call.specs.declared.calls.Pair.{Pair}
 use Rattle.mmtel_call.specs.declared.calls.Phase.{Phase}
 use Rattle.mmtel_call.specs.declared.calls.Phase.TheVariants.{Lent, Offered, Over, Stood}
@@ -22,7 +23,7 @@ use Rattle.mmtel_types.specs.declared.addrs.Addr.{Addr}
 use Rattle.mmtel_types.specs.declared.numbers.Peer.{Peer}
 use Rattle.mmtel_types.specs.declared.sides.Side.{Side}
 use Rattle.mmtel_call_laws.specs.Branches.Laws.{EndsSendOnce, LentCallsWereSent, OpeningsSendOnce, ReturnedCallsWereSent, SendsOnce, StepsSendOnce}
-use Rattle.mmtel_call_laws.specs.Branches.Sent.{CallWasSent, Each, LooseWasSent, OthersWereSent, PhaseWasSent, StageWasSent, TakenWasSent, WasSent, asks_in}
+use Rattle.mmtel_call_laws.specs.Branches.Sent.{CallWasSent, Each, FlightWasSent, LooseWasSent, OthersWereSent, PhaseWasSent, StageWasSent, TakenWasSent, WasAsked, asks_in, method_of}
 use Rattle.mmtel_call_laws.proofs.Branches.Rows as rows
 
 abbrev Asks : Type 0
@@ -51,46 +52,61 @@ module _ (one two : List ℕ → Peer → Type 0) (more : (branch : List ℕ) (p
   phase_more (Lent loan) e = tt
   phase_more (Over cause) e = tt
 
+module _ (one two : (method branch : List ℕ) → Peer → Type 0) (more : (method branch : List ℕ) (peer : Peer) → one method branch peer → two method branch peer) where
+  flights_more : (flights : List Flight) → Each (FlightWasSent one) flights → Each (FlightWasSent two) flights
+  flights_more [] e = tt
+  flights_more (flight ∷ flights) e = (more (method_of flight.kind) flight.asked.invitation.branch flight.asked.invitation.dialogue.peer e.0, flights_more flights e.1)
+
   pub call_more : (c : Call) → CallWasSent one c → CallWasSent two c
-  call_more c is = record { phase_in = phase_more c.phase is.phase_in; others_in = record { loose_in = loose_more c.loose is.others_in.loose_in; taken_in = taken_more c.taken is.others_in.taken_in } }
+  call_more c is =
+      let invite : List ℕ = codes "INVITE" in
+      record {
+        phase_in = phase_more (one invite) (two invite) (more invite) c.phase is.phase_in;
+        others_in = record {
+          loose_in = loose_more (one invite) (two invite) (more invite) c.loose is.others_in.loose_in;
+          taken_in = taken_more (one invite) (two invite) (more invite) c.taken is.others_in.taken_in;
+          flights_in = flights_more c.flights is.others_in.flights_in;
+        };
+      }
 
 module _ (sip : Addr) where
-  pub sent_before : (asks others : Asks) (branch : List ℕ) (peer : Peer) → WasSent sip asks branch peer → WasSent sip (asks ++ others) branch peer
-  sent_before [] others branch peer is = absurd is
-  sent_before (ask ∷ asks) others branch peer (inl here) = inl here
-  sent_before (ask ∷ asks) others branch peer (inr there) = inr (sent_before asks others branch peer there)
+  pub sent_before : (asks others : Asks) (method branch : List ℕ) (peer : Peer) → WasAsked sip asks method branch peer → WasAsked sip (asks ++ others) method branch peer
+  sent_before [] others method branch peer is = absurd is
+  sent_before (ask ∷ asks) others method branch peer (inl here) = inl here
+  sent_before (ask ∷ asks) others method branch peer (inr there) = inr (sent_before asks others method branch peer there)
 
-  sent_behind : (asks others : Asks) (branch : List ℕ) (peer : Peer) → WasSent sip others branch peer → WasSent sip (asks ++ others) branch peer
-  sent_behind [] others branch peer is = is
-  sent_behind (ask ∷ asks) others branch peer is = inr (sent_behind asks others branch peer is)
+  sent_behind : (asks others : Asks) (method branch : List ℕ) (peer : Peer) → WasAsked sip others method branch peer → WasAsked sip (asks ++ others) method branch peer
+  sent_behind [] others method branch peer is = is
+  sent_behind (ask ∷ asks) others method branch peer is = inr (sent_behind asks others method branch peer is)
 
--- each INVITE that goes out is among what is asked
-module _ (site : Site) (sent : List ℕ → Peer → Type 0) where
-  each_asked : (out : List Emit) → ((branch : List ℕ) (peer : Peer) → WasSent site.sip (asks_in out) branch peer → sent branch peer) → Each (rows.AskWasSent sent site [] 0) out
+-- each request that goes out is among what is asked
+module _ (site : Site) (asked : (method branch : List ℕ) → Peer → Type 0) where
+  each_asked : (out : List Emit) → ((method branch : List ℕ) (peer : Peer) → WasAsked site.sip (asks_in out) method branch peer → asked method branch peer) → Each (rows.AskWasSent asked site [] 0) out
   each_asked [] sub = tt
-  each_asked (emit.Ask peer m ∷ out) sub = (λ branch is. sub branch peer (inl (refl, is)), each_asked out (λ branch q is. sub branch q (inr is)))
+  each_asked (emit.Ask peer m ∷ out) sub = (λ method branch is. sub method branch peer (inl (refl, is)), each_asked out (λ method branch q is. sub method branch q (inr is)))
   each_asked (emit.Reply key m ∷ out) sub = (tt, each_asked out sub)
   each_asked (emit.Plain peer text ∷ out) sub = (tt, each_asked out sub)
   each_asked (emit.Ack key m ∷ out) sub = (tt, each_asked out sub)
+  each_asked (emit.Settled key own ∷ out) sub = (tt, each_asked out sub)
   each_asked (emit.Arm call what at ∷ out) sub = (tt, each_asked out sub)
   each_asked (emit.ArmSeat room seat what at ∷ out) sub = (tt, each_asked out sub)
 
 module _ (site : Site) (before : Asks) (tokens : Drawn) (s : Step) where
-  abbrev Now : List ℕ → Peer → Type 0
-  Now = WasSent site.sip (before ++ asks_in s.desk.out)
+  abbrev Now : (method branch : List ℕ) → Peer → Type 0
+  Now = WasAsked site.sip (before ++ asks_in s.desk.out)
 
   once_good : rows.Good Now site tokens.token tokens.drawn s → SendsOnce site.sip before tokens s
   once_good is = record {
-    call_in = is.call_in (each_asked site Now s.desk.out (λ branch peer e. sent_behind site.sip before (asks_in s.desk.out) branch peer e));
+    call_in = is.call_in (each_asked site Now s.desk.out (λ method branch peer e. sent_behind site.sip before (asks_in s.desk.out) method branch peer e));
     out_in = is.desk_in.out_in;
     text_in = is.desk_in.same;
   }
 
-  now_sent : (c : Call) → CallWasSent (WasSent site.sip before) c → CallWasSent Now c
-  now_sent c is = call_more (WasSent site.sip before) Now (λ branch peer e. sent_before site.sip before (asks_in s.desk.out) branch peer e) c is
+  now_sent : (c : Call) → CallWasSent (WasAsked site.sip before) c → CallWasSent Now c
+  now_sent c is = call_more (WasAsked site.sip before) Now (λ method branch peer e. sent_before site.sip before (asks_in s.desk.out) method branch peer e) c is
 
-fresh_in : (sent : List ℕ → Peer → Type 0) (site : Site) (tokens : Drawn) → rows.Counted sent site tokens.token tokens.drawn (fresh tokens)
-fresh_in sent site tokens = record { same = refl; out_in = λ less. omega arith }
+fresh_in : (asked : (method branch : List ℕ) → Peer → Type 0) (site : Site) (tokens : Drawn) → rows.Counted asked site tokens.token tokens.drawn (fresh tokens)
+fresh_in asked site tokens = record { same = refl; out_in = λ less. omega arith }
 
 pub steps_send_once : StepsSendOnce
 steps_send_once site now heard c before tokens is =
@@ -114,27 +130,31 @@ ends_send_once site at c before tokens is =
 
 -- ---- a leg is taken out, or put back
 
-module _ (sent : List ℕ → Peer → Type 0) where
-  lent_at_sent : (stage : Stage) (side : Side) (x : Pair) (c : Call) → StageWasSent sent x stage → OthersWereSent sent c.loose c.taken → CallWasSent sent (lent_at stage side x (record c { phase = Stood x stage }))
+module _ (asked : (method branch : List ℕ) → Peer → Type 0) where
+  abbrev sent : List ℕ → Peer → Type 0
+  sent = asked (codes "INVITE")
+
+  lent_at_sent : (stage : Stage) (side : Side) (x : Pair) (c : Call) → StageWasSent sent x stage → OthersWereSent asked c.loose c.taken c.flights →
+      CallWasSent asked (lent_at stage side x (record c { phase = Stood x stage }))
   lent_at_sent (Answered waiting success) side x c p k = record { phase_in = p; others_in = k }
   lent_at_sent (Parting waiting success) side x c p k = record { phase_in = p; others_in = k }
   lent_at_sent Talking side x c p k = record { phase_in = tt; others_in = k }
   lent_at_sent (Asking asking q) side x c p k = record { phase_in = p; others_in = k }
 
-  lent_sent : (p : Phase) (side : Side) (c : Call) → PhaseWasSent sent p → OthersWereSent sent c.loose c.taken → CallWasSent sent (lent_in p side (record c { phase = p }))
+  lent_sent : (p : Phase) (side : Side) (c : Call) → PhaseWasSent sent p → OthersWereSent asked c.loose c.taken c.flights → CallWasSent asked (lent_in p side (record c { phase = p }))
   lent_sent (Offered x) side c p k = record { phase_in = p; others_in = k }
   lent_sent (Stood x stage) side c p k = lent_at_sent stage side x c p k
   lent_sent (Lent loan) side c p k = record { phase_in = p; others_in = k }
   lent_sent (Over cause) side c p k = record { phase_in = p; others_in = k }
 
-  back_sent : (p : Phase) (away : Released) (c : Call) → PhaseWasSent sent p → OthersWereSent sent c.loose c.taken → CallWasSent sent (put_back_in p away (record c { phase = p }))
+  back_sent : (p : Phase) (away : Released) (c : Call) → PhaseWasSent sent p → OthersWereSent asked c.loose c.taken c.flights → CallWasSent asked (put_back_in p away (record c { phase = p }))
   back_sent (Offered x) away c p k = record { phase_in = p; others_in = k }
   back_sent (Stood x stage) away c p k = record { phase_in = p; others_in = k }
   back_sent (Lent loan) away c p k = record { phase_in = tt; others_in = k }
   back_sent (Over cause) away c p k = record { phase_in = p; others_in = k }
 
 pub lent_were_sent : LentCallsWereSent
-lent_were_sent sip side c before is = lent_sent (WasSent sip before) c.phase side c is.phase_in is.others_in
+lent_were_sent sip side c before is = lent_sent (WasAsked sip before) c.phase side c is.phase_in is.others_in
 
 pub returned_were_sent : ReturnedCallsWereSent
-returned_were_sent sip away c before is = back_sent (WasSent sip before) c.phase away c is.phase_in is.others_in
+returned_were_sent sip away c before is = back_sent (WasAsked sip before) c.phase away c is.phase_in is.others_in

@@ -13,7 +13,7 @@ use Rattle.mmtel_lex.specs.declared.values.Uri.{Uri}
 use Rattle.mmtel_lex.specs.declared.values.Uri.TheVariants.{Sip, Tel}
 use Rattle.mmtel_message.specs.Headers.{is_value_byte}
 use Rattle.mmtel_precedence.specs.Attempts.{end_by_final, end_by_redirection, is_redirection, is_success, is_unreachable, is_user_busy}
-use Rattle.mmtel_precedence.specs.Calls.{Answer, Cancel, Deflection, End, NoReply, NotReachable, Other, Reach, Standing, UserBusy, sheet_at}
+use Rattle.mmtel_precedence.specs.Calls.{Answer, Cancel, Deflection, End, NoReply, NotReachable, Other, Reach, Standing, Unacknowledged, UserBusy, sheet_at}
 use Rattle.mmtel_precedence.specs.Moves.{account_at}
 use Rattle.mmtel_precedence.specs.Services.{AccountState, Diverts, DueDiversion, Nothing, Refuses, Says, bars_incoming, diverts_by, due_of, due_on, first_said, own_bound, refuses_if, rejects_anonymous, services_after_barring, services_of_capacity, services_on_arrival}
 use Rattle.mmtel_precedence.specs.Targets.{deflected_to}
@@ -150,6 +150,7 @@ turn_clean c reach e =
 abbrev pub EndsClean : End → Type 0
 EndsClean Answer = Unit {0}
 EndsClean Cancel = Unit {0}
+EndsClean Unacknowledged = Unit {0}
 EndsClean (UserBusy code) = Unit {0}
 EndsClean (NotReachable code) = Unit {0}
 EndsClean NoReply = Unit {0}
@@ -198,6 +199,7 @@ deflection_clean target rang (Some sheet) e = deflected_due target (own_bound sh
 pub after_clean : (c : Circumstances) (sheet : Option Sheet) (how : End) → IfSome sheet IsCleanSheet → EndsClean how → AfterClean (turn_on c sheet how)
 after_clean c sheet Answer e f = tt
 after_clean c sheet Cancel e f = tt
+after_clean c sheet Unacknowledged e f = tt
 after_clean c sheet (UserBusy code) e f = or_refuse_clean (option_and_then (due_on c event.Busy) sheet) (causes.Relayed code) (asked_due c event.Busy sheet e)
 after_clean c sheet (NotReachable code) e f = or_refuse_clean (option_and_then (due_on c event.NotReachable) sheet) (causes.Unreachable code) (asked_due c event.NotReachable sheet e)
 after_clean c sheet NoReply e f = or_refuse_clean (option_and_then (due_on c event.NoAnswer) sheet) causes.NoReply (asked_due c event.NoAnswer sheet e)

@@ -25,9 +25,8 @@ use Rattle.mmtel_types.specs.declared.causes.Cause.{Cause}
 use Rattle.mmtel_types.specs.declared.causes.Cause.TheVariants as causes
 use Rattle.mmtel_types.specs.declared.numbers.Account.{Account}
 use Rattle.mmtel_types.specs.declared.numbers.Peer.{Peer}
-use Rattle.mmtel_types.specs.declared.sides.Side.TheVariants.{Caller}
 use Rattle.mmtel_call_decisions.specs.Decisions.{account_by, aim_at, decided_after, decided_at, handed_on, is_status, its_sheet, of_caller, peer_for, reach_at, served_at, service_at, service_of, target_of, told_at}
-use Rattle.mmtel_call_decisions.specs.Showing.{shown_to}
+use Rattle.mmtel_call_decisions.specs.Showing.{offered_to}
 use Rattle.mmtel_call_decisions.specs.Site.{Site}
 use Rattle.mmtel_call_decisions.specs.declared.openings.Opening.{Opening}
 use Rattle.mmtel_call_decisions.specs.declared.openings.Service.{Service}
@@ -44,7 +43,7 @@ use Rattle.mmtel_call_laws.specs.Heads.Heard.{AreCleanSheets, IsCleanSheet, IsCl
 use Rattle.mmtel_call_laws.specs.Heads.Kept.{IsCleanDialogue}
 use Rattle.mmtel_call_laws.proofs.Heads.Deciding.{AfterClean, EndsClean, IsCleanDue, TurnsClean, after_clean, has_clean_record, new_target_clean, sheet_clean, turn_clean}
 use Rattle.mmtel_call_laws.proofs.Heads.Hearing.{IsCleanHeard, appended_clean}
-use Rattle.mmtel_call_laws.proofs.Heads.Keeping.{IsCleanHere, IsCleanOpening, IsCleanStep, IsCleanTrial, IsKept, Serves, if_step, over_clean, relayed_to_caller_clean, shown_to_clean, told_caller_clean, told_diversion_clean}
+use Rattle.mmtel_call_laws.proofs.Heads.Keeping.{IsCleanHere, IsCleanOpening, IsCleanStep, IsCleanTrial, IsKept, Serves, if_step, offered_to_clean, over_clean, relayed_to_caller_clean, told_caller_clean, told_diversion_clean}
 use Rattle.mmtel_call_laws.proofs.Heads.Sending.{IsCleanAim, attempt_clean, diverted_aim_clean, emit_clean, first_aim_clean, if_desk, offered_clean, token_clean}
 
 -- what a step is given
@@ -83,11 +82,12 @@ offer_clean : (acks : List Acked) (site : Site) (at : ℕ) (caller : Leg) (servi
 offer_clean acks site at caller service waiting aim c desk is first serves k had =
     let invite = c.opening.invite in
     let dialog : IsCleanDialogue (dialog_of c.opening aim desk) = attempt_clean acks aim invite.heard c.opening.restricted desk is k.opening_in.invite_in had in
-    let shown = shown_to site c.opening c.diversions service Caller aim.peer invite in
+    let shown = offered_to site c.opening c.diversions service aim.peer in
     let sent : IsCleanDesk acks (offered site.sip aim invite.heard c.opening.restricted shown waiting desk) =
-    offered_clean acks site.sip aim invite.heard c.opening.restricted shown waiting desk is k.opening_in.invite_in (shown_to_clean site c.opening c.diversions service Caller aim.peer invite k.history_in k.opening_in.invite_in) had in
+    offered_clean acks site.sip aim invite.heard c.opening.restricted shown waiting desk is k.opening_in.invite_in
+    (offered_to_clean site c.opening c.diversions service aim.peer k.history_in k.opening_in.invite_in) had in
     record {
-      kept = record { opening_in = k.opening_in; history_in = k.history_in; loose_in = k.loose_in; taken_in = k.taken_in };
+      kept = k;
       phase = record {
         caller_in = first;
         callee_in = (called_clean (dialog_of c.opening aim desk) dialog, token_clean acks (drew desk) had);
@@ -136,6 +136,7 @@ diverted_kept acks target at left service due c e k = record {
   history_in = appended_clean c.diversions.history (request_uri c.opening.invite.heard.start) (uri_text target.uri) due.cause (not due.forward.reveal_to_target) k.history_in k.opening_in.uri_in e;
   loose_in = k.loose_in;
   taken_in = k.taken_in;
+  flights_in = k.flights_in;
 }
 
 told_of_clean : (acks : List Acked) (site : Site) (due : DueDiversion) (c : Call) (desk : Desk) → IsKept acks c → IsCleanDesk acks desk → IsCleanDesk acks (told_of site due c desk)

@@ -26,12 +26,13 @@ use Rattle.mmtel_types.specs.declared.sides.Side.{Side}
 use Rattle.mmtel_types.specs.declared.sides.Side.TheVariants.{Callee}
 use Rattle.mmtel_trust.specs.Passed.{history_lines}
 use Rattle.mmtel_call_decisions.specs.Diverted.{Diverted}
-use Rattle.mmtel_call_decisions.specs.Showing.{facing_at, list_for, masks_all, shown_to, told_list}
+use Rattle.mmtel_call_decisions.specs.Showing.{facing_at, facing_offered, list_for, masks_all, offered_to, shown_to, told_list}
 use Rattle.mmtel_call_decisions.specs.Site.{Site, further_methods, trusts}
 use Rattle.mmtel_call_decisions.specs.declared.openings.Opening.{Opening}
 use Rattle.mmtel_call_decisions.specs.declared.openings.Service.{Service}
 use Rattle.mmtel_call.specs.declared.calls.Stage.TheVariants.{Answered, Asking, Parting, Talking}
 use Rattle.mmtel_call.specs.declared.calls.Call.{Call}
+use Rattle.mmtel_call.specs.declared.calls.Flight.{Flight}
 use Rattle.mmtel_call.specs.declared.calls.Phase.TheVariants.{Lent, Offered, Over, Stood}
 use Rattle.mmtel_call.specs.declared.calls.Pair.{Pair}
 use Rattle.mmtel_call.specs.declared.calls.Phase.{Phase}
@@ -64,15 +65,23 @@ IsCleanLoose acks l = IsCleanInvitation acks l.invitation
 abbrev pub IsCleanTaken : (acks : List Acked) → Taken → Type 0
 IsCleanTaken acks t = IsCleanInvitation acks t.invitation
 
+-- what is in flight is answered with the lines of its request
+abbrev pub IsCleanFlight : Flight → Type 0
+IsCleanFlight flight = IsCleanHeard flight.asked.request.heard
+
 -- of a call, but for where it stands
-pub record AreKept (acks : List Acked) (o : Opening) (history : List Entry) (loose : List Loose) (taken : List Taken) : Type 0 where
+pub record AreKept (acks : List Acked) (o : Opening) (history : List Entry) (loose : List Loose) (taken : List Taken) (flights : List Flight) : Type 0 where
   pub opening_in : IsCleanOpening o
   pub history_in : AreCleanEntries history
   pub loose_in : Each (IsCleanLoose acks) loose
   pub taken_in : Each (IsCleanTaken acks) taken
+  pub flights_in : Each IsCleanFlight flights
 
 abbrev pub IsKept : (acks : List Acked) → Call → Type 0
-IsKept acks c = AreKept acks c.opening c.diversions.history c.loose c.taken
+IsKept acks c = AreKept acks c.opening c.diversions.history c.loose c.taken c.flights
+
+pub with_flights : (acks : List Acked) (flights : List Flight) (c : Call) → Each IsCleanFlight flights → IsKept acks c → IsKept acks (record c { flights = flights })
+with_flights acks flights c all k = record { opening_in = k.opening_in; history_in = k.history_in; loose_in = k.loose_in; taken_in = k.taken_in; flights_in = all }
 
 abbrev pub has_clean_sheet : Service → Type 0
 has_clean_sheet service = IsCleanSheet service.sheet
@@ -124,7 +133,7 @@ pub onward_clean : (acks : List Acked) (c : Call) (desk : Desk) → IsKept acks 
 onward_clean acks c desk k p had = record { kept = k; phase = p; desk = had }
 
 pub over_clean : (acks : List Acked) (at : ℕ) (cause : Cause) (first last : Option Noted) (c : Call) (desk : Desk) → IsKept acks c → IsCleanDesk acks desk → IsCleanStep acks (over at cause first last c desk)
-over_clean acks at cause first last c desk k had = record { kept = k; phase = tt; desk = record { token_in = had.token_in; out_in = had.out_in } }
+over_clean acks at cause first last c desk k had = record { kept = with_flights acks [] c tt k; phase = tt; desk = record { token_in = had.token_in; out_in = had.out_in } }
 
 pub if_step : (acks : List Acked) (b : Bool) (one two : Step) → IsCleanStep acks one → IsCleanStep acks two → IsCleanStep acks (if b then one else two)
 if_step acks true one two e f = e
@@ -156,6 +165,11 @@ list_clean d m e = by (status_of m.heard.start == 181)
 pub shown_to_clean : (site : Site) (o : Opening) (d : Diverted) (service : Option Service) (side : Side) (peer : Peer) (m : Said) → AreCleanEntries d.history → IsCleanHeard m.heard → AreCleanLines (shown_to site o d service side peer m)
 unfolding shown_to
 shown_to_clean site o d service side peer m e is = shown_clean (facing_at site o service side m) (trusts site peer) (list_for d m) m.heard.start m.heard.lines (list_clean d m e) is.lines_in
+
+pub offered_to_clean : (site : Site) (o : Opening) (d : Diverted) (service : Option Service) (peer : Peer) → AreCleanEntries d.history → IsCleanHeard o.invite.heard → AreCleanLines (offered_to site o d service peer)
+unfolding offered_to
+offered_to_clean site o d service peer e is =
+    shown_clean (facing_offered site o service) (trusts site peer) (list_for d o.invite) o.invite.heard.start o.invite.heard.lines (list_clean d o.invite e) is.lines_in
 
 -- ---- answers
 

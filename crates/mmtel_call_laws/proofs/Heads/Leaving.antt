@@ -1,5 +1,5 @@
 -- INVITEs that a call does not wait on stay clean, and what is sent for them is clean.
-use Rattle.std.proofs.Common.{◌+◌, ◌==◌, ◌||◌, Bool, true, false, not, ℕ, List, [], ◌∷◌, Option, Some, None, length, nat_lt, take, drop}
+use Rattle.std.proofs.Common.{◌==◌, ◌||◌, Bool, true, false, not, ℕ, List, [], ◌∷◌, Option, Some, None, length, nat_lt}
 use Rattle.std.specs.Prelude.{IfSome, codes, if◌then◌else◌, option_to_list, position, slice_get}
 use Rattle.std.specs.Str.{bytes_eq}
 use Rattle.mmtel_answers.specs.Attempts.{called}
@@ -22,23 +22,22 @@ use Rattle.mmtel_call_decisions.specs.Site.{Site}
 use Rattle.mmtel_call.specs.declared.calls.Call.{Call}
 use Rattle.mmtel_call.specs.declared.calls.Taken.{Taken}
 use Rattle.mmtel_call.specs.Closing.{onward}
-use Rattle.mmtel_call.specs.Leaving.{acked_again, answered_at, answered_loose, answered_other, answered_taken, answered_taken_at, as_loose, forked, is_fork, is_loose_key, is_success, is_taken, is_taken_key, is_talking, repeated, taken_again, with_rest, without, without_at, without_key, without_silent}
+use Rattle.mmtel_call.specs.Flights.{is_in_flight}
+use Rattle.mmtel_call.specs.Leaving.{acked_again, answered_at, answered_loose, answered_other, answered_taken, answered_taken_at, as_loose, forked, is_fork, is_loose_key, is_success, is_taken, is_taken_key, is_talking, repeated, silent_other, silent_other_at, taken_again, with_rest, without, without_at, without_key}
 use Rattle.mmtel_call_laws.specs.Heads.Acks.{Acked}
 use Rattle.mmtel_call_laws.specs.Heads.Emits.{Each, IsCleanDesk, IsTextOfAck}
 use Rattle.mmtel_call_laws.specs.Heads.Kept.{IsCleanDialogue}
+use Rattle.mmtel_call_laws.proofs.Heads.Flights.{in_flight_row, silent_in_flight_row}
 use Rattle.mmtel_call_laws.proofs.Heads.Going.{called_clean}
 use Rattle.mmtel_call_laws.proofs.Heads.Hearing.{IsCleanHeard}
 use Rattle.mmtel_call_laws.proofs.Heads.Keeping.{IsCleanLoose, IsCleanPhase, IsCleanStep, IsCleanTaken, IsKept, early_clean, if_step, onward_clean}
-use Rattle.mmtel_call_laws.proofs.Heads.Sending.{IsCleanRemote, acked_clean, bye_clean, cancel_clean, each_append, each_drop, each_get, each_option, each_take, emit_clean, final_acked_clean, if_desk, met_clean, remote_clean}
+use Rattle.mmtel_call_laws.proofs.Heads.Sending.{IsCleanRemote, acked_clean, bye_clean, cancel_clean, each_append, each_get, each_option, each_without, emit_clean, final_acked_clean, if_desk, met_clean, remote_clean}
 
 -- ---- places in a list
 
-without_at_clean : {A : Type 0} (P : A → Type 0) (at : ℕ) (items : List A) → Each P items → Each P (without_at at items)
-without_at_clean P at items e = each_append P (take at items) (drop (at + 1) items) (each_take P at items e) (each_drop P (at + 1) items e)
-
 without_clean : {A : Type 0} (P : A → Type 0) (o : Option ℕ) (items : List A) → Each P items → Each P (without o items)
 without_clean P None items e = e
-without_clean P (Some at) items e = without_at_clean P at items e
+without_clean P (Some at) items e = each_without P at items e
 
 -- ---- one that was left
 
@@ -55,17 +54,18 @@ late_clean acks sip l desk is had =
     if_rest acks l.invitation.cancelled (record { left = Some l; desk = desk }) (record { left = Some (with_invitation l (record l.invitation { cancelled = true })); desk = cancel_sent sip l.invitation desk })
     (record { left_in = is; desk_in = had }) (record { left_in = is; desk_in = cancel_clean acks sip l.invitation desk is had })
 
-begun_clean : (early : Option Remote) (tag : List ℕ) (d : Dialogue) → IfSome early IsCleanRemote → IsCleanDialogue d → IsCleanDialogue (begun early tag d)
-begun_clean None tag d e is = is
-begun_clean (Some said) tag d e is = by (bytes_eq said.tag tag)
+begun_clean : (early : Option Remote) (asked : ℕ) (tag : List ℕ) (d : Dialogue) → IfSome early IsCleanRemote → IsCleanDialogue d → IsCleanDialogue (begun early asked tag d)
+begun_clean None asked tag d e is = is
+begun_clean (Some said) asked tag d e is = by (bytes_eq said.tag tag)
   where
-    by : (b : Bool) → IsCleanDialogue (if b then met d said else d)
-    by true = met_clean d said is e
+    by : (b : Bool) → IsCleanDialogue (if b then met (record d { own = asked }) said else d)
+    by true = met_clean (record d { own = asked }) said is e
     by false = is
 
-made_clean : (within : Bool) (early : Option Remote) (d : Dialogue) (remote : Remote) → IfSome early IsCleanRemote → IsCleanDialogue d → IsCleanRemote remote → IsCleanDialogue (made_from within early d remote)
-made_clean true early d remote e is had = is
-made_clean false early d remote e is had = met_clean (begun early remote.tag (called d)) remote (begun_clean early remote.tag (called d) e (called_clean d is)) had
+made_clean : (within : Bool) (early : Option Remote) (asked : ℕ) (d : Dialogue) (remote : Remote) → IfSome early IsCleanRemote → IsCleanDialogue d → IsCleanRemote remote →
+    IsCleanDialogue (made_from within early asked d remote)
+made_clean true early asked d remote e is had = is
+made_clean false early asked d remote e is had = met_clean (begun early asked remote.tag (called d)) remote (begun_clean early asked remote.tag (called d) e (called_clean d is)) had
 
 fork_clean : (forks : List Dialogue) (o : Option ℕ) → Each IsCleanDialogue forks → IfSome (fork_at forks o) IsCleanDialogue
 fork_clean forks None e = tt
@@ -80,7 +80,9 @@ ended_clean acks sip l d desk is e had = record {
 success_in_clean : (acks : List Acked) (sip : Addr) (l : Loose) (remote : Remote) (o : Option Dialogue) (desk : Desk) → IsCleanLoose acks l → IsCleanRemote remote → IfSome o IsCleanDialogue → IsCleanDesk acks desk → IsCleanRest acks (on_success_in sip l remote o desk)
 success_in_clean acks sip l remote (Some d) desk is had_remote e had = record { left_in = is; desk_in = acked_clean acks sip d desk e had }
 success_in_clean acks sip l remote None desk is had_remote e had =
-    ended_clean acks sip l (made_from l.within l.invitation.early l.invitation.dialogue remote) desk is (made_clean l.within l.invitation.early l.invitation.dialogue remote is.early_in is.dialogue_in had_remote) had
+    let i = l.invitation in
+    let d : Dialogue = made_from l.within i.early i.asked i.dialogue remote in
+    ended_clean acks sip l d desk is (made_clean l.within i.early i.asked i.dialogue remote is.early_in is.dialogue_in had_remote) had
 
 success_clean : (acks : List Acked) (sip : Addr) (l : Loose) (remote : Remote) (desk : Desk) → IsCleanLoose acks l → IsCleanRemote remote → IsCleanDesk acks desk → IsCleanRest acks (on_success sip l remote desk)
 success_clean acks sip l remote desk is had_remote had =
@@ -105,7 +107,13 @@ late_response_clean acks sip key m l desk heard is had =
 
 rest_row : (acks : List Acked) (at : ℕ) (rest : Rest) (c : Call) → IsKept acks c → IsCleanPhase acks c.phase → IsCleanRest acks rest → IsCleanStep acks (with_rest at rest c)
 rest_row acks at rest c k p is = record {
-  kept = record { opening_in = k.opening_in; history_in = k.history_in; loose_in = each_append (IsCleanLoose acks) (without_at at c.loose) (option_to_list rest.left) (without_at_clean (IsCleanLoose acks) at c.loose k.loose_in) (each_option (IsCleanLoose acks) rest.left is.left_in); taken_in = k.taken_in };
+  kept = record {
+    opening_in = k.opening_in;
+    history_in = k.history_in;
+    loose_in = each_append (IsCleanLoose acks) (without_at at c.loose) (option_to_list rest.left) (each_without (IsCleanLoose acks) at c.loose k.loose_in) (each_option (IsCleanLoose acks) rest.left is.left_in);
+    taken_in = k.taken_in;
+    flights_in = k.flights_in;
+  };
   phase = p;
   desk = is.desk_in;
 }
@@ -123,7 +131,14 @@ forked_row acks site key m at t c desk heard e k p had =
     let rest = on_response site.sip key m.heard (as_loose t) desk in
     let is : IsCleanRest acks rest = late_response_clean acks site.sip key m.heard (as_loose t) desk heard e had in
     record {
-      kept = record { opening_in = k.opening_in; history_in = k.history_in; loose_in = k.loose_in; taken_in = each_append (IsCleanTaken acks) (without_at at c.taken) (option_to_list (taken_again t rest.left)) (without_at_clean (IsCleanTaken acks) at c.taken k.taken_in) (each_option (IsCleanTaken acks) (taken_again t rest.left) (again_clean acks t rest.left is.left_in)) };
+      kept = record {
+        opening_in = k.opening_in;
+        history_in = k.history_in;
+        loose_in = k.loose_in;
+        taken_in = each_append (IsCleanTaken acks) (without_at at c.taken) (option_to_list (taken_again t rest.left)) (each_without (IsCleanTaken acks) at c.taken k.taken_in)
+            (each_option (IsCleanTaken acks) (taken_again t rest.left) (again_clean acks t rest.left is.left_in));
+        flights_in = k.flights_in;
+      };
       phase = p;
       desk = is.desk_in;
     }
@@ -144,24 +159,38 @@ taken_row acks site key m at (Some t) c desk heard e k p had =
     (onward_clean acks c desk k p had)
     (if_step acks (is_fork t m) (forked site key m at t c desk) (repeated t c desk) (forked_row acks site key m at t c desk heard e k p had) (repeated_row acks t c desk e k p had))
 
-taken_at_row : (acks : List Acked) (site : Site) (key : TKey) (m : Said) (o : Option ℕ) (c : Call) (desk : Desk) → IsCleanHeard m.heard → IsKept acks c → IsCleanPhase acks c.phase → IsCleanDesk acks desk → IsCleanStep acks (answered_taken_at site key m o c desk)
-taken_at_row acks site key m None c desk heard k p had = onward_clean acks c desk k p had
-taken_at_row acks site key m (Some at) c desk heard k p had = taken_row acks site key m at (slice_get c.taken at) c desk heard (each_get (IsCleanTaken acks) c.taken at k.taken_in) k p had
+taken_at_row : (acks : List Acked) (site : Site) (at : ℕ) (key : TKey) (m : Said) (branch : List ℕ) (o : Option ℕ) (c : Call) (desk : Desk) →
+    IsCleanHeard m.heard → IsKept acks c → IsCleanPhase acks c.phase → IsCleanDesk acks desk → IsCleanStep acks (answered_taken_at site at key m branch o c desk)
+taken_at_row acks site at key m branch None c desk heard k p had = in_flight_row acks site at m (position (is_in_flight branch) c.flights) c desk heard k p had
+taken_at_row acks site at key m branch (Some place) c desk heard k p had = taken_row acks site key m place (slice_get c.taken place) c desk heard (each_get (IsCleanTaken acks) c.taken place k.taken_in) k p had
 
-at_row : (acks : List Acked) (site : Site) (key : TKey) (m : Said) (branch : List ℕ) (o : Option ℕ) (c : Call) (desk : Desk) → IsCleanHeard m.heard → IsKept acks c → IsCleanPhase acks c.phase → IsCleanDesk acks desk → IsCleanStep acks (answered_at site key m branch o c desk)
-at_row acks site key m branch None c desk heard k p had = taken_at_row acks site key m (position (is_taken branch) c.taken) c desk heard k p had
-at_row acks site key m branch (Some at) c desk heard k p had = loose_row acks site key m at (slice_get c.loose at) c desk heard (each_get (IsCleanLoose acks) c.loose at k.loose_in) k p had
+at_row : (acks : List Acked) (site : Site) (at : ℕ) (key : TKey) (m : Said) (branch : List ℕ) (o : Option ℕ) (c : Call) (desk : Desk) →
+    IsCleanHeard m.heard → IsKept acks c → IsCleanPhase acks c.phase → IsCleanDesk acks desk → IsCleanStep acks (answered_at site at key m branch o c desk)
+at_row acks site at key m branch None c desk heard k p had = taken_at_row acks site at key m branch (position (is_taken branch) c.taken) c desk heard k p had
+at_row acks site at key m branch (Some place) c desk heard k p had = loose_row acks site key m place (slice_get c.loose place) c desk heard (each_get (IsCleanLoose acks) c.loose place k.loose_in) k p had
 
-pub other_row : (acks : List Acked) (site : Site) (key : TKey) (m : Said) (branch : List ℕ) (c : Call) (desk : Desk) → IsCleanHeard m.heard → IsKept acks c → IsCleanPhase acks c.phase → IsCleanDesk acks desk → IsCleanStep acks (answered_other site key m branch c desk)
+pub other_row : (acks : List Acked) (site : Site) (at : ℕ) (key : TKey) (m : Said) (branch : List ℕ) (c : Call) (desk : Desk) →
+    IsCleanHeard m.heard → IsKept acks c → IsCleanPhase acks c.phase → IsCleanDesk acks desk → IsCleanStep acks (answered_other site at key m branch c desk)
 unfolding answered_other
-other_row acks site key m branch c desk heard k p had = at_row acks site key m branch (position (is_of branch) c.loose) c desk heard k p had
+other_row acks site at key m branch c desk heard k p had = at_row acks site at key m branch (position (is_of branch) c.loose) c desk heard k p had
 
-pub silent_row : (acks : List Acked) (branch : List ℕ) (c : Call) (desk : Desk) → IsKept acks c → IsCleanPhase acks c.phase → IsCleanDesk acks desk → IsCleanStep acks (onward (without_silent branch c) desk)
-silent_row acks branch c desk k p had = record {
-  kept = record { opening_in = k.opening_in; history_in = k.history_in; loose_in = without_clean (IsCleanLoose acks) (position (is_of branch) c.loose) c.loose k.loose_in; taken_in = k.taken_in };
+silent_at_row : (acks : List Acked) (site : Site) (branch : List ℕ) (o : Option ℕ) (c : Call) (desk : Desk) → IsKept acks c → IsCleanPhase acks c.phase → IsCleanDesk acks desk →
+    IsCleanStep acks (silent_other_at site branch o c desk)
+silent_at_row acks site branch None c desk k p had = silent_in_flight_row acks site (position (is_in_flight branch) c.flights) c desk k p had
+silent_at_row acks site branch (Some place) c desk k p had = record {
+  kept = record {
+    opening_in = k.opening_in;
+    history_in = k.history_in;
+    loose_in = without_clean (IsCleanLoose acks) (position (is_of branch) c.loose) c.loose k.loose_in;
+    taken_in = k.taken_in;
+    flights_in = k.flights_in;
+  };
   phase = p;
   desk = had;
 }
+
+pub silent_row : (acks : List Acked) (site : Site) (branch : List ℕ) (c : Call) (desk : Desk) → IsKept acks c → IsCleanPhase acks c.phase → IsCleanDesk acks desk → IsCleanStep acks (silent_other site branch c desk)
+silent_row acks site branch c desk k p had = silent_at_row acks site branch (position (is_of branch) c.loose) c desk k p had
 
 pub key_row : (acks : List Acked) (key : TKey) (c : Call) (desk : Desk) → IsKept acks c → IsCleanPhase acks c.phase → IsCleanDesk acks desk → IsCleanStep acks (onward (without_key key c) desk)
 key_row acks key c desk k p had = record {
@@ -170,6 +199,7 @@ key_row acks key c desk k p had = record {
     history_in = k.history_in;
     loose_in = without_clean (IsCleanLoose acks) (position (is_loose_key key) c.loose) c.loose k.loose_in;
     taken_in = without_clean (IsCleanTaken acks) (position (is_taken_key key) c.taken) c.taken k.taken_in;
+    flights_in = k.flights_in;
   };
   phase = p;
   desk = had;

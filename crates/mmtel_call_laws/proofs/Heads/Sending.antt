@@ -1,6 +1,6 @@
 -- What the server sends in a step is clean, where it is built of what is clean.
-use Rattle.std.proofs.Common.{◌≡◌, inl, ◌==◌, Bool, true, false, ℕ, zero, suc, List, [], ◌∷◌, ◌++◌, take, drop, map, Option, Some, None, refl}
-use Rattle.std.specs.Prelude.{IfSome, codes, decimal, if◌then◌else◌, slice_get, option_to_list}
+use Rattle.std.proofs.Common.{◌≡◌, inl, ◌==◌, Bool, true, false, ℕ, List, [], ◌∷◌, ◌++◌, map, Option, Some, None, refl}
+use Rattle.std.specs.Prelude.{IfSome, codes, decimal, if◌then◌else◌, option_to_list}
 use Rattle.std.specs.Option.{unwrap_or}
 use Rattle.std.specs.List.{list_all}
 use Rattle.mmtel_scan.specs.Numbers.{next_number}
@@ -50,12 +50,9 @@ use Rattle.mmtel_call_laws.proofs.Heads.Bytes.{all_cons, decimal_clean, joined}
 use Rattle.mmtel_call_laws.proofs.Heads.Building.{contact_clean, lines_joined, request_clean, response_clean, tagged_clean}
 use Rattle.mmtel_call_laws.proofs.Heads.Hearing.{IsCleanHeard, caused_clean, from_clean, uncaused_clean}
 use Rattle.mmtel_call_laws.proofs.Heads.Reading.{first_clean, name_clean, name_text_clean, or_clean, reverse_all, tag_clean, values_named_clean}
+pub use Rattle.mmtel_call_laws.proofs.Each.{each_append, each_drop, each_filter, each_get, each_take, each_without}
 
 -- ---- each of a list
-
-pub each_append : {A : Type 0} (P : A → Type 0) (xs ys : List A) → Each P xs → Each P ys → Each P (xs ++ ys)
-each_append P [] ys e f = f
-each_append P (x ∷ xs) ys e f = (e.0, each_append P xs ys e.1 f)
 
 pub each_front : {A : Type 0} (P : A → Type 0) (xs ys : List A) → Each P (xs ++ ys) → Each P xs
 each_front P [] ys e = tt
@@ -64,21 +61,6 @@ each_front P (x ∷ xs) ys e = (e.0, each_front P xs ys e.1)
 pub each_back : {A : Type 0} (P : A → Type 0) (xs ys : List A) → Each P (xs ++ ys) → Each P ys
 each_back P [] ys e = e
 each_back P (x ∷ xs) ys e = each_back P xs ys e.1
-
-pub each_take : {A : Type 0} (P : A → Type 0) (n : ℕ) (xs : List A) → Each P xs → Each P (take n xs)
-each_take P zero xs e = tt
-each_take P (suc n) [] e = tt
-each_take P (suc n) (x ∷ xs) e = (e.0, each_take P n xs e.1)
-
-pub each_drop : {A : Type 0} (P : A → Type 0) (n : ℕ) (xs : List A) → Each P xs → Each P (drop n xs)
-each_drop P zero xs e = e
-each_drop P (suc n) [] e = tt
-each_drop P (suc n) (x ∷ xs) e = each_drop P n xs e.1
-
-pub each_get : {A : Type 0} (P : A → Type 0) (xs : List A) (n : ℕ) → Each P xs → IfSome (slice_get xs n) P
-each_get P [] n e = tt
-each_get P (x ∷ xs) zero e = e.0
-each_get P (x ∷ xs) (suc n) e = each_get P xs n e.1
 
 pub each_map : {A B : Type 0} (P : A → Type 0) (Q : B → Type 0) (f : A → B) → ((x : A) → P x → Q (f x)) → (xs : List A) → Each P xs → Each Q (map f xs)
 each_map P Q f go [] e = tt

@@ -24,8 +24,8 @@ use Rattle.mmtel_call_decisions.specs.declared.openings.Opening.{Opening}
 use Rattle.mmtel_call.specs.declared.calls.Call.{Call}
 use Rattle.mmtel_call.specs.declared.calls.Phase.TheVariants.{Lent, Offered, Over, Stood}
 use Rattle.mmtel_call.specs.declared.calls.Phase.{Phase}
-use Rattle.mmtel_call.specs.Closing.{onward}
-use Rattle.mmtel_call.specs.Leaving.{answered_other, without_silent}
+use Rattle.mmtel_call.specs.Flights.{dismissed, dismissing}
+use Rattle.mmtel_call.specs.Leaving.{answered_other, silent_other}
 use Rattle.mmtel_call.specs.Lending.{finished, finished_in, last_of, lent_at, lent_in, pair_with, put_back_in, taken_out, taken_out_at, taken_out_in}
 use Rattle.mmtel_call.specs.Lending as lending
 use Rattle.mmtel_call.specs.declared.calls.Loan.{Loan}
@@ -40,7 +40,7 @@ use Rattle.mmtel_types.specs.declared.causes.Cause.TheVariants.{Ended}
 use Rattle.mmtel_types.specs.declared.sides.Side.TheVariants.{Caller, Callee}
 use Rattle.mmtel_call.specs.Opening.{begins, caller_of, new_call, opened, unless_refused}
 use Rattle.mmtel_call.specs.Sending.{replied_to, told_caller}
-use Rattle.mmtel_call.specs.Table.{ack_in, answer_to, cancel_in, due_in, is_current, request_in, response_in, silence_in, silence_of, step}
+use Rattle.mmtel_call.specs.Table.{ack_in, answer_to, cancel_in, due_in, is_current, leaves, request_in, response_in, row, silence_in, silence_of, step}
 use Rattle.mmtel_call.specs.declared.signals.Signal.{Signal}
 use Rattle.mmtel_call.specs.declared.signals.Signal.TheVariants as signal
 use Rattle.mmtel_call_laws.specs.Heads.Acks.{Acked, acked_after, acked_by, acked_in}
@@ -57,6 +57,7 @@ use Rattle.mmtel_call_laws.specs.Heads.Stories as stories
 use Rattle.mmtel_call_laws.specs.Heads.Stories.{AreAmong, EmitsAreClean, EmitsHaveTheirLines, FinishedEmitsAreClean, IsCleanSignal, IsCleanStart, SendsOwnLines, desk_after}
 use Rattle.mmtel_call_laws.proofs.Heads.Bytes.{all_drop}
 use Rattle.mmtel_call_laws.proofs.Heads.Deciding.{first_target_clean}
+use Rattle.mmtel_call_laws.proofs.Heads.Flights.{dismissed_kept, dismissing_clean}
 use Rattle.mmtel_call_laws.proofs.Heads.Going.{IsGood, reach_clean, refused_clean}
 use Rattle.mmtel_call_laws.proofs.Heads.Hearing.{IsCleanHeard, heard_clean}
 use Rattle.mmtel_call_laws.proofs.Heads.Keeping.{IsCleanHere, IsCleanOpening, IsCleanPair, IsCleanPhase, IsCleanStep, IsCleanStood, IsKept, if_step, onward_clean, over_clean, replied_to_clean, told_caller_clean}
@@ -133,24 +134,48 @@ due_clean acks (Over cause) site now what c desk good p k had = onward_clean ack
 answer_clean : (acks : List Acked) (branch : Option (List ℕ)) (site : Site) (now : Standing) (key : TKey) (m : Said) (c : Call) (desk : Desk) → IsGood site now → IsCleanHeard m.heard → IsCleanPhase acks c.phase → IsKept acks c → IsCleanDesk acks desk → IsCleanStep acks (answer_to branch site now key m c desk)
 answer_clean acks None site now key m c desk good heard p k had = onward_clean acks c desk k p had
 answer_clean acks (Some branch) site now key m c desk good heard p k had =
-    if_step acks (is_current branch c) (response_in c.phase site now key m c desk) (answered_other site key m branch c desk)
-    (response_clean acks c.phase site now key m c desk good heard p k had) (other_row acks site key m branch c desk heard k p had)
+    if_step acks (is_current branch c) (response_in c.phase site now key m c desk) (answered_other site now.at key m branch c desk)
+    (response_clean acks c.phase site now key m c desk good heard p k had) (other_row acks site now.at key m branch c desk heard k p had)
 
 silence_of_clean : (acks : List Acked) (branch : Option (List ℕ)) (site : Site) (now : Standing) (c : Call) (desk : Desk) → IsGood site now → IsCleanPhase acks c.phase → IsKept acks c → IsCleanDesk acks desk → IsCleanStep acks (silence_of branch site now c desk)
 silence_of_clean acks None site now c desk good p k had = onward_clean acks c desk k p had
 silence_of_clean acks (Some branch) site now c desk good p k had =
-    if_step acks (is_current branch c) (silence_in c.phase site now c desk) (onward (without_silent branch c) desk)
-    (silence_clean acks c.phase site now c desk good p k had) (silent_row acks branch c desk k p had)
+    if_step acks (is_current branch c) (silence_in c.phase site now c desk) (silent_other site branch c desk)
+    (silence_clean acks c.phase site now c desk good p k had) (silent_row acks site branch c desk k p had)
+
+row_clean : (acks : List Acked) (site : Site) (now : Standing) (heard : Signal) (c : Call) (desk : Desk) → IsGood site now → IsCleanSignal heard → AreAmong (acked_by site heard c) acks →
+    IsCleanPhase acks c.phase → IsKept acks c → IsCleanDesk acks desk → IsCleanStep acks (row site now heard c desk)
+unfolding row
+row_clean acks site now (signal.Request side key request) c desk good is among p k had = request_clean acks c.phase site now.at side key request c desk (heard_clean request.heard is) p k had
+row_clean acks site now (signal.Ack side ack) c desk good is among p k had = ack_clean acks c.phase site now.at side ack c desk among (heard_clean ack.heard is) p k had
+row_clean acks site now (signal.Cancel key cancel invite) c desk good is among p k had = cancel_clean acks c.phase site now.at key cancel invite c desk (heard_clean cancel.heard is) p k had
+row_clean acks site now (signal.Answer key response) c desk good is among p k had = answer_clean acks (invite_answered response) site now key response c desk good (heard_clean response.heard is) p k had
+row_clean acks site now (signal.Silent branch method) c desk good is among p k had = silence_of_clean acks (invite_silent branch method) site now c desk good p k had
+row_clean acks site now (signal.Due what) c desk good is among p k had = due_clean acks c.phase site now what c desk good p k had
+row_clean acks site now (signal.Ended key) c desk good is among p k had = key_row acks key c desk k p had
+
+-- the ACKs that are heard are the same without what is in flight
+same_in : (acks : List Acked) (site : Site) (phase : Phase) (c : Call) (side : Side) (ack : Said) → AreAmong (acked_in site phase c side ack) acks → AreAmong (acked_in site phase (dismissed c) side ack) acks
+same_in acks site (Offered x) c side ack among = among
+same_in acks site (Stood x stage) c side ack among = among
+same_in acks site (Lent loan) c side ack among = among
+same_in acks site (Over cause) c side ack among = among
+
+same_by : (acks : List Acked) (site : Site) (heard : Signal) (c : Call) → AreAmong (acked_by site heard c) acks → AreAmong (acked_by site heard (dismissed c)) acks
+same_by acks site (signal.Request side key request) c among = among
+same_by acks site (signal.Ack side ack) c among = same_in acks site c.phase c side ack among
+same_by acks site (signal.Cancel key cancel invite) c among = among
+same_by acks site (signal.Answer key response) c among = among
+same_by acks site (signal.Silent branch method) c among = among
+same_by acks site (signal.Due what) c among = among
+same_by acks site (signal.Ended key) c among = among
 
 pub step_clean : (acks : List Acked) (site : Site) (now : Standing) (heard : Signal) (c : Call) (desk : Desk) → IsGood site now → IsCleanSignal heard → AreAmong (acked_by site heard c) acks → IsCleanPhase acks c.phase → IsKept acks c → IsCleanDesk acks desk → IsCleanStep acks (step site now heard c desk)
 unfolding step
-step_clean acks site now (signal.Request side key request) c desk good is among p k had = request_clean acks c.phase site now.at side key request c desk (heard_clean request.heard is) p k had
-step_clean acks site now (signal.Ack side ack) c desk good is among p k had = ack_clean acks c.phase site now.at side ack c desk among (heard_clean ack.heard is) p k had
-step_clean acks site now (signal.Cancel key cancel invite) c desk good is among p k had = cancel_clean acks c.phase site now.at key cancel invite c desk (heard_clean cancel.heard is) p k had
-step_clean acks site now (signal.Answer key response) c desk good is among p k had = answer_clean acks (invite_answered response) site now key response c desk good (heard_clean response.heard is) p k had
-step_clean acks site now (signal.Silent branch method) c desk good is among p k had = silence_of_clean acks (invite_silent branch method) site now c desk good p k had
-step_clean acks site now (signal.Due what) c desk good is among p k had = due_clean acks c.phase site now what c desk good p k had
-step_clean acks site now (signal.Ended key) c desk good is among p k had = key_row acks key c desk k p had
+step_clean acks site now heard c desk good is among p k had =
+    if_step acks (leaves heard c) (row site now heard (dismissed c) (dismissing site c desk)) (row site now heard c desk)
+    (row_clean acks site now heard (dismissed c) (dismissing site c desk) good is (same_by acks site heard c among) p (dismissed_kept acks c k) (dismissing_clean acks site c desk k had))
+    (row_clean acks site now heard c desk good is among p k had)
 
 -- ---- as it opens
 
@@ -172,7 +197,7 @@ opening_clean : (site : Site) (now : Standing) (tag : List ℕ) (a : Arrival) �
 opening_clean site now tag a is uri e = record { invite_in = is; uri_in = uri; tag_in = e; routes_in = kept_routes_clean site.sip a.invite.heard.routes is.routes_in }
 
 new_kept : (acks : List Acked) (site : Site) (o : Opening) → IsCleanOpening o → IsKept acks (new_call site o)
-new_kept acks site o is = record { opening_in = is; history_in = received_clean o.invite is.invite_in; loose_in = tt; taken_in = tt }
+new_kept acks site o is = record { opening_in = is; history_in = received_clean o.invite is.invite_in; loose_in = tt; taken_in = tt; flights_in = tt }
 
 unless_refused_clean : (acks : List Acked) (cause : Option Cause) (site : Site) (now : Standing) (caller : Leg) (c : Call) (desk : Desk) →
     IsGood site now → IsCleanHere caller.dialogue → IsKept acks c → IsCleanDesk acks desk → IsCleanStep acks (unless_refused cause site now caller c desk)
@@ -242,7 +267,10 @@ finished_in_clean : (acks : List Acked) (phase : Phase) (site : Site) (at : ℕ)
 finished_in_clean acks (Offered x) site at c desk p k had = onward_clean acks (at_phase (Offered x) c) desk k p had
 finished_in_clean acks (Stood x stage) site at c desk p k had = onward_clean acks (at_phase (Stood x stage) c) desk k p had
 finished_in_clean acks (Lent loan) site at c desk p k had =
-    over_clean acks at Ended (lending.first_of loan.left loan.meter) (last_of loan.left loan.meter) (at_phase (Lent loan) c) (bye site.sip (released_leg loan.left).dialogue desk) k (bye_clean acks site.sip (released_leg loan.left).dialogue desk p.0 had)
+    let left : Call = at_phase (Lent loan) c in
+    let told : Desk = dismissing site left desk in
+    over_clean acks at Ended (lending.first_of loan.left loan.meter) (last_of loan.left loan.meter) (dismissed left) (bye site.sip (released_leg loan.left).dialogue told) (dismissed_kept acks left k)
+    (bye_clean acks site.sip (released_leg loan.left).dialogue told p.0 (dismissing_clean acks site left desk k had))
 finished_in_clean acks (Over cause) site at c desk p k had = onward_clean acks (at_phase (Over cause) c) desk k p had
 
 pub finished_clean : (acks : List Acked) (site : Site) (at : ℕ) (c : Call) (desk : Desk) → IsCleanSoFar acks c → IsCleanDesk acks desk → IsCleanStep acks (finished site at c desk)
@@ -288,6 +316,7 @@ emit_lines acks (emit.Ask peer m) is = own_lines m is
 emit_lines acks (emit.Reply key m) is = own_lines m is
 emit_lines acks (emit.Plain peer text) is = (is.dialogue, is.given, is.passes, is.is, own_lines (ack_of is.dialogue is.given) is.clean)
 emit_lines acks (emit.Ack key m) is = own_lines m is
+emit_lines acks (emit.Settled key own) is = tt
 emit_lines acks (emit.Arm call what at) is = tt
 emit_lines acks (emit.ArmSeat room seat what at) is = tt
 

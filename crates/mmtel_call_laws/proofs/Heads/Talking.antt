@@ -30,12 +30,15 @@ use Rattle.mmtel_call.specs.declared.calls.Stage.{Stage}
 use Rattle.mmtel_call.specs.declared.calls.Phase.TheVariants.{Stood}
 use Rattle.mmtel_call.specs.declared.calls.Success.{Success}
 use Rattle.mmtel_call.specs.declared.calls.Taken.{Taken}
-use Rattle.mmtel_call.specs.Closing.{onward, over_stood}
+use Rattle.mmtel_call.specs.Closing.{Step, onward, over_stood}
 use Rattle.mmtel_call.specs.Reinvites.{agreed, asked_across, bye_to_both, bye_while_asking, cancelled_across, cancelled_if_due, cancelling, ended_dialogs, ends_dialog, having_invited, invited, loose_across, on_response_across, proceeding, proceeding_across, refused_back, relayed_back, silenced_across}
-use Rattle.mmtel_call.specs.Requests.{having_heard, is_bye, is_invite, says, unheard, unlisted}
+use Rattle.mmtel_call.specs.Flights.{having_asked, updating}
+use Rattle.mmtel_call.specs.Reliable.{prack_refused}
+use Rattle.mmtel_call.specs.Requests.{having_heard, is_bye, is_invite, is_prack, is_update, says, unheard, unlisted}
 use Rattle.mmtel_call.specs.Ringing.{awaiting_ack, taken_by, with_loose}
 use Rattle.mmtel_call.specs.Sending.{replied_to}
 use Rattle.mmtel_call.specs.Stages.{busy_in, has_left, is_due_at, left_by, on_ack_at, on_bye, on_cancel_at, on_due_at, on_heard_at, on_invite, on_request_at, on_request_at_if, on_response_at, on_silence_at, rung_out}
+use Rattle.mmtel_call.specs.Updates.{on_update_at, updated_across}
 use Rattle.mmtel_call_laws.specs.Heads.Stories.{AreAmong}
 use Rattle.mmtel_answers.specs.Requests.{relaying}
 use Rattle.mmtel_trust.specs.Members.{IsIn}
@@ -43,9 +46,10 @@ use Rattle.mmtel_call_laws.specs.Heads.Acks.{Acked, IsGivenTo, acked_across as h
 use Rattle.mmtel_call_laws.specs.Heads.Clean.{AreCleanLines}
 use Rattle.mmtel_call_laws.specs.Heads.Emits.{Each, IsCleanDesk, IsTextOfAck}
 use Rattle.mmtel_call_laws.specs.Heads.Kept.{IsCleanDialogue}
+use Rattle.mmtel_call_laws.proofs.Heads.Flights.{asked_on_clean, awaiting_clean, crossing_row, expiry_clean, prack_refused_clean, unless_row}
 use Rattle.mmtel_call_laws.proofs.Heads.Hearing.{IsCleanHeard}
 use Rattle.mmtel_call_laws.proofs.Heads.Keeping.{IsCleanHere, IsCleanPair, IsCleanReinvite, IsCleanStage, IsCleanStep, IsCleanTaken, IsKept, if_step, once_clean, onward_clean, over_clean, replied_to_clean, shown_to_clean, unheard_clean, unlisted_clean}
-use Rattle.mmtel_call_laws.proofs.Heads.Ringing.{awaiting_clean, with_loose_kept, expiry_clean}
+use Rattle.mmtel_call_laws.proofs.Heads.Ringing.{with_loose_kept}
 use Rattle.mmtel_call_laws.proofs.Heads.Sending.{IsCleanInvitation, acked_clean, acked_for_clean, asked_for_clean, bye_clean, cancelled_clean, each_append, each_map, final_acked_clean, if_desk, relayed_ack_clean, relayed_clean, token_clean}
 
 -- ---- both sides
@@ -106,6 +110,7 @@ acked_across_clean acks site x side success m c desk among heard is k had =
         history_in = k.history_in;
         loose_in = k.loose_in;
         taken_in = each_map (IsCleanTaken acks) (IsCleanTaken acks) (with_ack success.branch (relayed_ack_text site.sip d (token desk) (shown_across site c x side m) m.heard)) (with_ack_clean acks success.branch (relayed_ack_text site.sip d (token desk) (shown_across site c x side m) m.heard) text) c.taken k.taken_in;
+        flights_in = k.flights_in;
       };
       phase = record { pair_in = is; stage_in = tt };
       desk = acked_for_clean acks site.sip d (shown_across site c x side m) m.heard desk passes (leg_clean (other_of side) x is) shown had;
@@ -169,7 +174,13 @@ proceeding_across_clean acks site x side q key c desk is e k had =
 
 agreed_clean : (acks : List Acked) (site : Site) (at : ℕ) (x : Pair) (side : Side) (q : Reinvite) (key : TKey) (m : Said) (c : Call) (desk : Desk) → IsCleanHeard m.heard → IsCleanPair x → IsCleanReinvite acks q → IsKept acks c → IsCleanDesk acks desk → IsCleanStep acks (agreed site at x side q key m c desk)
 agreed_clean acks site at x side q key m c desk heard is e k had = record {
-  kept = record { opening_in = k.opening_in; history_in = k.history_in; loose_in = k.loose_in; taken_in = each_append (IsCleanTaken acks) c.taken (taken_by key m true q.invitation ∷ []) k.taken_in (e.sent_in, tt) };
+  kept = record {
+    opening_in = k.opening_in;
+    history_in = k.history_in;
+    loose_in = k.loose_in;
+    taken_in = each_append (IsCleanTaken acks) c.taken (taken_by key m true q.invitation ∷ []) k.taken_in (e.sent_in, tt);
+    flights_in = k.flights_in;
+  };
   phase = record { pair_in = is; stage_in = tt };
   desk =
       let back : Desk = relayed_back site x side q m c desk in
@@ -243,13 +254,31 @@ bye_row acks stage site at x side key m c desk heard is e k had =
     (same_clean acks x stage c (replied_to site (stood x stage c) key m 481 desk) is e k (replied_to_clean acks site (stood x stage c) key m 481 desk k heard had))
     (left_row acks stage site at x side m (stood x stage c) (replied_to site (stood x stage c) key m 200 desk) heard is e k (replied_to_clean acks site (stood x stage c) key m 200 desk k heard had))
 
+update_row : (acks : List Acked) (stage : Stage) (site : Site) (x : Pair) (side : Side) (key : TKey) (m : Said) (c : Call) (desk : Desk) →
+    IsCleanHeard m.heard → IsCleanPair x → IsCleanStage acks stage → IsKept acks c → IsCleanDesk acks desk → IsCleanStep acks (on_update_at stage site x side key m (stood x stage c) desk)
+update_row acks (Answered waiting success) site x side key m c desk heard is e k had = crossing_row acks site key m (stood x (Answered waiting success) c) desk heard k (record { pair_in = is; stage_in = e }) had
+update_row acks (Parting waiting success) site x side key m c desk heard is e k had = crossing_row acks site key m (stood x (Parting waiting success) c) desk heard k (record { pair_in = is; stage_in = e }) had
+update_row acks Talking site x side key m c desk heard is e k had =
+    let other : Leg = leg_of (other_of side) x in
+    let y : Pair = with_leg (other_of side) (having_asked (codes "UPDATE") other) x in
+    unless_row acks (updating c.flights) (updated_across site x side key m) site side key m (stood x Talking c) desk heard k (record { pair_in = is; stage_in = tt }) had
+    (asked_on_clean acks site x.service side other key m (stood y Talking c) desk heard (leg_clean (other_of side) x is) k
+    (record { pair_in = with_leg_clean (other_of side) (having_asked (codes "UPDATE") other) x (leg_here (other_of side) x is) is; stage_in = tt }) had)
+update_row acks (Asking asking q) site x side key m c desk heard is e k had = crossing_row acks site key m (stood x (Asking asking q) c) desk heard k (record { pair_in = is; stage_in = e }) had
+
 heard_at_row : (acks : List Acked) (stage : Stage) (site : Site) (at : ℕ) (x : Pair) (side : Side) (key : TKey) (m : Said) (c : Call) (desk : Desk) → IsCleanHeard m.heard → IsCleanPair x → IsCleanStage acks stage → IsKept acks c → IsCleanDesk acks desk → IsCleanStep acks (on_heard_at stage site at x side key m (stood x stage c) desk)
 heard_at_row acks stage site at x side key m c desk heard is e k had =
-    if_step acks (is_invite m) (on_invite stage site x side key m (stood x stage c) desk) (if is_bye m then on_bye stage site at x side key m (stood x stage c) desk else onward (stood x stage c) (unlisted site (stood x stage c) key m desk))
+    let now : Call = stood x stage c in
+    let rest : Step = if is_prack m then prack_refused site key m now desk else onward now (unlisted site now key m desk) in
+    if_step acks (is_invite m) (on_invite stage site x side key m now desk) (if is_bye m then on_bye stage site at x side key m now desk else if is_update m then on_update_at stage site x side key m now desk else rest)
     (invite_row acks stage site x side key m c desk heard is e k had)
-    (if_step acks (is_bye m) (on_bye stage site at x side key m (stood x stage c) desk) (onward (stood x stage c) (unlisted site (stood x stage c) key m desk))
+    (if_step acks (is_bye m) (on_bye stage site at x side key m now desk) (if is_update m then on_update_at stage site x side key m now desk else rest)
     (bye_row acks stage site at x side key m c desk heard is e k had)
-    (same_clean acks x stage c (unlisted site (stood x stage c) key m desk) is e k (unlisted_clean acks site (stood x stage c) key m desk k heard had)))
+    (if_step acks (is_update m) (on_update_at stage site x side key m now desk) rest
+    (update_row acks stage site x side key m c desk heard is e k had)
+    (if_step acks (is_prack m) (prack_refused site key m now desk) (onward now (unlisted site now key m desk))
+    (prack_refused_clean acks site key m now desk heard k (record { pair_in = is; stage_in = e }) had)
+    (same_clean acks x stage c (unlisted site now key m desk) is e k (unlisted_clean acks site now key m desk k heard had)))))
 
 request_if_row : (acks : List Acked) (r : Result (Unit {0}) DialogueFault) (stage : Stage) (site : Site) (at : ℕ) (x : Pair) (side : Side) (key : TKey) (m : Said) (c : Call) (desk : Desk) →
     IsCleanHeard m.heard → IsCleanPair x → IsCleanStage acks stage → IsKept acks c → IsCleanDesk acks desk → IsCleanStep acks (on_request_at_if r stage site at x side key m (stood x stage c) desk)

@@ -1,6 +1,7 @@
 -- What a step adds to what goes out, and which 181s to the caller are in it.
-use Rattle.std.proofs.Common.{◌≡◌, ℕ, ◌==◌, Bool, true, false, List, [], ◌∷◌, ◌++◌, refl, ap, sym, ◌∙◌, append_assoc, ◌+◌}
+use Rattle.std.proofs.Common.{◌≡◌, ℕ, ◌==◌, Bool, true, false, List, [], ◌∷◌, ◌++◌, refl, ap, sym, ◌∙◌, append_assoc}
 use Rattle.std.proofs.lemmas.List.{append-nil}
+use Rattle.std.specs.List.{filter}
 use Rattle.std.specs.Prelude.{◌&&◌, Option, Some, None, codes, if◌then◌else◌, nat_lt, position, slice_get, not}
 use Rattle.mmtel_answers.specs.Answers.{allowed}
 use Rattle.mmtel_answers.specs.Said.{Said, status_of}
@@ -8,7 +9,7 @@ use Rattle.mmtel_desk.specs.Desks.{drew, emitted}
 use Rattle.mmtel_desk.specs.Invitations.{is_cancellable, knows}
 use Rattle.mmtel_desk.specs.Loose as loose_ones
 use Rattle.mmtel_desk.specs.Loose.{ended_before, is_of, on_response, on_success_in, told_late, with_invitation}
-use Rattle.mmtel_desk.specs.Sending.{acked, bye, cancel_sent, cancelled, final_acked}
+use Rattle.mmtel_desk.specs.Sending.{acked, asked_for, bye, cancel_sent, cancelled, final_acked}
 use Rattle.mmtel_desk.specs.declared.desks.Desk.{Desk}
 use Rattle.mmtel_desk.specs.declared.invitations.Invitation.{Invitation}
 use Rattle.mmtel_desk.specs.declared.invitations.Loose.{Loose}
@@ -21,21 +22,36 @@ use Rattle.mmtel_message.specs.Faults.{is_method}
 use Rattle.mmtel_message.specs.Message.{Line, Message}
 use Rattle.mmtel_message.specs.Responses.{Reply, response}
 use Rattle.mmtel_message.specs.declared.messages.Start.{Start as StartLine}
+use Rattle.mmtel_precedence.specs.Attempts as statuses
+use Rattle.mmtel_reliable.specs.declared.racks.Rack.{Rack}
+use Rattle.mmtel_session.specs.Intervals.{expiry_after}
 use Rattle.mmtel_transaction.specs.declared.words.Emit.{Emit}
 use Rattle.mmtel_transaction.specs.declared.words.Emit.TheVariants as emit
 use Rattle.mmtel_transaction.specs.declared.words.TKey.{TKey}
 use Rattle.mmtel_trust.specs.Digest.{HeardMessage}
 use Rattle.mmtel_types.specs.declared.addrs.Addr.{Addr}
-use Rattle.mmtel_types.specs.declared.sides.Side.TheVariants.{Callee}
+use Rattle.mmtel_types.specs.declared.sides.Side.{Side}
+use Rattle.mmtel_types.specs.declared.sides.Side.TheVariants.{Caller, Callee}
+use Rattle.mmtel_call_decisions.specs.Requests.{is_same_side}
 use Rattle.mmtel_call_decisions.specs.Site.{Site, further_methods}
-use Rattle.mmtel_call.specs.Closing.{Step}
-use Rattle.mmtel_call.specs.Leaving.{acked_again, answered_at, answered_loose, answered_other, answered_taken, answered_taken_at, as_loose, is_fork, is_success, is_taken, is_talking}
-use Rattle.mmtel_call.specs.Requests.{answered_to, unheard, unlisted}
+use Rattle.mmtel_call.specs.Closing.{Step, onward}
+use Rattle.mmtel_call.specs.Flights.{agreed, answered_flight, answered_in_flight, dismissal_of, dismissed_all, dismissed_each, dismissed_flight, dismissing, final_of_flight, is_in_flight, is_updating, relayed_back_to, settled, settled_in, silent_flight, silent_in_flight, updating, without_flight}
+use Rattle.mmtel_call.specs.Leaving.{acked_again, answered_at, answered_loose, answered_other, answered_taken, answered_taken_at, as_loose, is_fork, is_success, is_taken, is_talking, silent_other, silent_other_at}
+use Rattle.mmtel_call.specs.Reliable.{acknowledged_by, acknowledging, answer_named, on_rack, prack_refused, status_of_refusal}
+use Rattle.mmtel_call.specs.Requests.{answered_to, is_prack, is_update, unheard, unlisted}
 use Rattle.mmtel_call.specs.Sending.{replied_to}
+use Rattle.mmtel_call.specs.Updates.{crossing, later, on_update, takes_updates, unless_updating, updated_early}
 use Rattle.mmtel_call.specs.declared.calls.Call.{Call}
+use Rattle.mmtel_call.specs.declared.calls.Flight.{Flight}
+use Rattle.mmtel_call.specs.declared.calls.FlightKind.{FlightKind}
+use Rattle.mmtel_call.specs.declared.calls.FlightKind.TheVariants.{Prack, Update}
+use Rattle.mmtel_call.specs.declared.calls.Phase.{Phase}
+use Rattle.mmtel_call.specs.declared.calls.Phase.TheVariants.{Lent, Offered, Over, Stood}
 use Rattle.mmtel_call.specs.declared.calls.Taken.{Taken}
+use Rattle.mmtel_call.specs.declared.calls.Trial.{Trial}
 use Rattle.mmtel_call_laws.specs.Notices.Due.{but_passed, notice_in, notices_in}
-use Rattle.mmtel_call.specs.Ringing.{expiry_in}
+use Rattle.mmtel_call.specs.Ringing.{expiry_in, on_other, on_prack_of}
+use Rattle.mmtel_call_laws.proofs.Notices.Owning.{IsNoNotice, final-notice}
 
 -- what was added has these 181s
 pub record Adds (key : TKey) (before after : Desk) (notices : List (Message StartLine)) : Type 0 where
@@ -155,7 +171,7 @@ silent-unlisted key site c asked m desk =
 
 success-silent : (key : TKey) (sip : Addr) (l : Loose) (remote : Remote) (d : Option Dialogue) (desk : Desk) → IsSilent key desk (on_success_in sip l remote d desk).desk
 success-silent key sip l remote None desk =
-    let d = loose_ones.made_from l.within l.invitation.early l.invitation.dialogue remote in
+    let d = loose_ones.made_from l.within l.invitation.early l.invitation.asked l.invitation.dialogue remote in
     adds-then key desk (acked sip d desk) (bye sip d (acked sip d desk)) [] [] (silent-acked key sip d desk) (silent-bye key sip d (acked sip d desk))
 success-silent key sip l remote (Some d) desk = silent-acked key sip d desk
 
@@ -191,17 +207,7 @@ taken-silent key site asked m at (Some t) c desk =
     (step-if key desk (is_fork t m) _ _ (rest-silent key site.sip asked m.heard (as_loose t) desk)
     (adds-if key desk (is_talking c.phase) (acked_again t t.invitation.ack desk) desk [] (again-silent key t t.invitation.ack desk) (silent key desk)))
 
-taken_at-silent : (key : TKey) (site : Site) (asked : TKey) (m : Said) (at : Option ℕ) (c : Call) (desk : Desk) → IsSilent key desk (answered_taken_at site asked m at c desk).desk
-taken_at-silent key site asked m None c desk = silent key desk
-taken_at-silent key site asked m (Some at) c desk = taken-silent key site asked m at (slice_get c.taken at) c desk
-
-at-silent : (key : TKey) (site : Site) (asked : TKey) (m : Said) (branch : List ℕ) (at : Option ℕ) (c : Call) (desk : Desk) → IsSilent key desk (answered_at site asked m branch at c desk).desk
-at-silent key site asked m branch None c desk = taken_at-silent key site asked m (position (is_taken branch) c.taken) c desk
-at-silent key site asked m branch (Some at) c desk = loose-silent key site asked m at (slice_get c.loose at) c desk
-
-pub other-silent : (key : TKey) (site : Site) (asked : TKey) (m : Said) (branch : List ℕ) (c : Call) (desk : Desk) → IsSilent key desk (answered_other site asked m branch c desk).desk
-unfolding answered_other
-other-silent key site asked m branch c desk = at-silent key site asked m branch (position (is_of branch) c.loose) c desk
+-- ---- what is in flight
 
 -- what is armed for the session of a 2xx tells nobody anything
 expiry-notices : (key : TKey) (timer : Bool) (time : Option ℕ) (at : ℕ) (c : Call) → notices_in key (if timer then expiry_in time at c else []) ≡ []
@@ -211,3 +217,125 @@ expiry-notices key false time at c = refl
 
 pub expiry-silent : (key : TKey) (timer : Bool) (time : Option ℕ) (at : ℕ) (c : Call) (desk : Desk) → IsSilent key desk (record desk { out = desk.out ++ (if timer then expiry_in time at c else []) })
 expiry-silent key timer time at c desk = record { new = if timer then expiry_in time at c else []; out = refl; seen = expiry-notices key timer time at c }
+
+agreed-silent : (key : TKey) (kind : FlightKind) (site : Site) (at : ℕ) (side : Side) (request response : Said) (c : Call) (desk : Desk) → IsSilent key desk (agreed kind site at side request response c desk).desk
+agreed-silent key Prack site at side request response c desk = silent key desk
+agreed-silent key Update site at side request response c desk = expiry-silent key site.timer (expiry_after response.heard.session) at c desk
+
+-- by whether it is a final
+flight-by : (key : TKey) (site : Site) (at : ℕ) (flight : Flight) (m : Said) (provisional : Bool) (place : ℕ) (c : Call) (desk : Desk) → (provisional ≡ false → IsNoNotice (status_of m.heard.start)) →
+    IsSilent key desk (if provisional then onward c desk else final_of_flight site at flight m (status_of m.heard.start) (without_flight place c) desk).desk
+flight-by key site at flight m true place c desk e = silent key desk
+flight-by key site at flight m false place c desk e =
+    let gone : Call = without_flight place c in
+    let back : Desk = relayed_back_to site flight m gone desk in
+    let passed : IsSilent key desk back = silent-reply key flight.asked.key _ _ _ desk (e refl) in
+    step-if key desk (statuses.is_success (status_of m.heard.start)) (agreed flight.kind site at flight.side flight.asked.request m gone back) (onward gone back)
+    (adds-then key desk back _ [] [] passed (agreed-silent key flight.kind site at flight.side flight.asked.request m gone back)) passed
+
+flight-silent : (key : TKey) (site : Site) (at : ℕ) (m : Said) (place : ℕ) (o : Option Flight) (c : Call) (desk : Desk) → IsSilent key desk (answered_flight site at m (status_of m.heard.start) place o c desk).desk
+flight-silent key site at m place None c desk = silent key desk
+flight-silent key site at m place (Some flight) c desk = flight-by key site at flight m (nat_lt (status_of m.heard.start) 200) place c desk (final-notice (status_of m.heard.start))
+
+flying-silent : (key : TKey) (site : Site) (at : ℕ) (m : Said) (o : Option ℕ) (c : Call) (desk : Desk) → IsSilent key desk (answered_in_flight site at m o c desk).desk
+flying-silent key site at m None c desk = silent key desk
+flying-silent key site at m (Some place) c desk = flight-silent key site at m place (slice_get c.flights place) c desk
+
+gone-flight-silent : (key : TKey) (site : Site) (place : ℕ) (o : Option Flight) (c : Call) (desk : Desk) → IsSilent key desk (silent_flight site place o c desk).desk
+gone-flight-silent key site place None c desk = silent key desk
+gone-flight-silent key site place (Some flight) c desk = silent-reply key flight.asked.key _ _ _ desk refl
+
+gone-flying-silent : (key : TKey) (site : Site) (o : Option ℕ) (c : Call) (desk : Desk) → IsSilent key desk (silent_in_flight site o c desk).desk
+gone-flying-silent key site None c desk = silent key desk
+gone-flying-silent key site (Some place) c desk = gone-flight-silent key site place (slice_get c.flights place) c desk
+
+gone-at-silent : (key : TKey) (site : Site) (branch : List ℕ) (o : Option ℕ) (c : Call) (desk : Desk) → IsSilent key desk (silent_other_at site branch o c desk).desk
+gone-at-silent key site branch None c desk = gone-flying-silent key site (position (is_in_flight branch) c.flights) c desk
+gone-at-silent key site branch (Some place) c desk = silent key desk
+
+pub gone-silent : (key : TKey) (site : Site) (branch : List ℕ) (c : Call) (desk : Desk) → IsSilent key desk (silent_other site branch c desk).desk
+gone-silent key site branch c desk = gone-at-silent key site branch (position (is_of branch) c.loose) c desk
+
+-- it is dismissed
+
+pub settled-silent : (key : TKey) (site : Site) (own : Option ℕ) (c : Call) (desk : Desk) → IsSilent key desk (settled site own c desk)
+settled-silent key site own c desk = adds-if key desk site.reliable (emitted (emit.Settled c.opening.key own) desk) desk [] (adds-emit key desk _ [] refl) (silent key desk)
+
+settled_in-silent : (key : TKey) (phase : Phase) (site : Site) (c : Call) (desk : Desk) → IsSilent key desk (settled_in phase site c desk)
+settled_in-silent key (Offered x) site c desk = settled-silent key site None c desk
+settled_in-silent key (Stood x stage) site c desk = silent key desk
+settled_in-silent key (Lent loan) site c desk = silent key desk
+settled_in-silent key (Over cause) site c desk = silent key desk
+
+flight-dismissed : (key : TKey) (site : Site) (c : Call) (flight : Flight) (kind : FlightKind) (desk : Desk) → IsSilent key desk (replied_to site c flight.asked.key flight.asked.request (dismissal_of kind) desk)
+flight-dismissed key site c flight Prack desk = silent-reply key flight.asked.key _ _ _ desk refl
+flight-dismissed key site c flight Update desk = silent-reply key flight.asked.key _ _ _ desk refl
+
+each-silent : (key : TKey) (site : Site) (c : Call) (flights : List Flight) (desk : Desk) → IsSilent key desk (dismissed_each site c flights desk)
+each-silent key site c [] desk = silent key desk
+each-silent key site c (flight ∷ flights) desk =
+    let next : Desk = dismissed_flight site c flight desk in
+    adds-then key desk next (dismissed_each site c flights next) [] [] (flight-dismissed key site c flight flight.kind desk) (each-silent key site c flights next)
+
+pub dismissing-silent : (key : TKey) (site : Site) (c : Call) (desk : Desk) → IsSilent key desk (dismissing site c desk)
+dismissing-silent key site c desk =
+    let first : Desk = dismissed_each site c (filter (λ flight. not (is_updating flight)) c.flights) desk in
+    let all : Desk = dismissed_all site c desk in
+    adds-then key desk all (dismissing site c desk) [] []
+    (adds-then key desk first all [] [] (each-silent key site c (filter (λ flight. not (is_updating flight)) c.flights) desk) (each-silent key site c (filter is_updating c.flights) first)) (settled_in-silent key c.phase site c all)
+
+-- ---- PRACK and UPDATE
+
+pub asked-for-silent : (key : TKey) (sip : Addr) (method : List ℕ) (d : Dialogue) (passed : List Line) (m : HeardMessage) (desk : Desk) → IsSilent key desk (asked_for sip method d passed m desk)
+asked-for-silent key sip method d passed m desk = adds-then key desk (drew desk) _ [] [] (silent-drew key desk) (adds-emit key (drew desk) _ [] refl)
+
+refusal-silent : (key : TKey) (site : Site) (asked : TKey) (m : Said) (rack : Option Rack) (c : Call) (desk : Desk) → IsSilent key desk (replied_to site c asked m (status_of_refusal rack) desk)
+refusal-silent key site asked m None c desk = silent-reply key asked _ _ _ desk refl
+refusal-silent key site asked m (Some rack) c desk = silent-reply key asked _ _ _ desk refl
+
+acknowledging-silent : (key : TKey) (site : Site) (x : Trial) (asked : TKey) (m : Said) (rack : Rack) (answer : Option ℕ) (c : Call) (desk : Desk) → IsSilent key desk (acknowledging site x asked m rack answer c desk).desk
+acknowledging-silent key site x asked m rack None c desk = refusal-silent key site asked m (acknowledged_by m) c desk
+acknowledging-silent key site x asked m rack (Some answer) c desk =
+    let settled_desk : Desk = settled site (Some rack.answer) c desk in
+    adds-then key desk settled_desk _ [] [] (settled-silent key site (Some rack.answer) c desk) (adds-then key settled_desk (drew settled_desk) _ [] [] (silent-drew key settled_desk) (adds-emit key (drew settled_desk) _ [] refl))
+
+rack-silent : (key : TKey) (site : Site) (x : Trial) (asked : TKey) (m : Said) (rack : Option Rack) (c : Call) (desk : Desk) → IsSilent key desk (on_rack site x asked m rack c desk).desk
+rack-silent key site x asked m None c desk = refusal-silent key site asked m (acknowledged_by m) c desk
+rack-silent key site x asked m (Some rack) c desk = acknowledging-silent key site x asked m rack (answer_named x c rack) c desk
+
+pub prack-silent : (key : TKey) (site : Site) (asked : TKey) (m : Said) (c : Call) (desk : Desk) → IsSilent key desk (prack_refused site asked m c desk).desk
+prack-silent key site asked m c desk = refusal-silent key site asked m (acknowledged_by m) c desk
+
+prack-of-silent : (key : TKey) (side : Side) (site : Site) (x : Trial) (asked : TKey) (m : Said) (c : Call) (desk : Desk) → IsSilent key desk (on_prack_of side site x asked m c desk).desk
+prack-of-silent key Caller site x asked m c desk = rack-silent key site x asked m (acknowledged_by m) c desk
+prack-of-silent key Callee site x asked m c desk = prack-silent key site asked m c desk
+
+pub unless-silent : (key : TKey) (flying : Option Side) (across : Call → Desk → Step) (site : Site) (side : Side) (asked : TKey) (m : Said) (c : Call) (desk : Desk) → IsSilent key desk (across c desk).desk →
+    IsSilent key desk (unless_updating flying across site side asked m c desk).desk
+unless-silent key None across site side asked m c desk passes = passes
+unless-silent key (Some other) across site side asked m c desk passes =
+    step-if key desk (is_same_side other side) (later site asked m c desk) (crossing site asked m c desk) (silent-reply key asked _ _ _ desk refl) (silent-reply key asked _ _ _ desk refl)
+
+update-silent : (key : TKey) (site : Site) (x : Trial) (side : Side) (asked : TKey) (m : Said) (c : Call) (desk : Desk) → IsSilent key desk (on_update site x side asked m c desk).desk
+update-silent key site x side asked m c desk =
+    step-if key desk (takes_updates x) _ _
+    (unless-silent key (updating c.flights) (updated_early site x side asked m) site side asked m c desk (adds-then key desk (drew desk) _ [] [] (silent-drew key desk) (adds-emit key (drew desk) _ [] refl)))
+    (silent-reply key asked _ _ _ desk refl)
+
+pub on-other-silent : (key : TKey) (site : Site) (x : Trial) (side : Side) (asked : TKey) (m : Said) (c : Call) (desk : Desk) → IsSilent key desk (on_other site x side asked m c desk).desk
+on-other-silent key site x side asked m c desk =
+    step-if key desk (is_prack m) _ _ (prack-of-silent key side site x asked m c desk) (step-if key desk (is_update m) _ _ (update-silent key site x side asked m c desk) (silent-unlisted key site c asked m desk))
+
+-- ---- a response to a request that the call does not wait on
+
+taken_at-silent : (key : TKey) (site : Site) (at : ℕ) (asked : TKey) (m : Said) (branch : List ℕ) (o : Option ℕ) (c : Call) (desk : Desk) → IsSilent key desk (answered_taken_at site at asked m branch o c desk).desk
+taken_at-silent key site at asked m branch None c desk = flying-silent key site at m (position (is_in_flight branch) c.flights) c desk
+taken_at-silent key site at asked m branch (Some place) c desk = taken-silent key site asked m place (slice_get c.taken place) c desk
+
+at-silent : (key : TKey) (site : Site) (at : ℕ) (asked : TKey) (m : Said) (branch : List ℕ) (o : Option ℕ) (c : Call) (desk : Desk) → IsSilent key desk (answered_at site at asked m branch o c desk).desk
+at-silent key site at asked m branch None c desk = taken_at-silent key site at asked m branch (position (is_taken branch) c.taken) c desk
+at-silent key site at asked m branch (Some place) c desk = loose-silent key site asked m place (slice_get c.loose place) c desk
+
+pub other-silent : (key : TKey) (site : Site) (at : ℕ) (asked : TKey) (m : Said) (branch : List ℕ) (c : Call) (desk : Desk) → IsSilent key desk (answered_other site at asked m branch c desk).desk
+unfolding answered_other
+other-silent key site at asked m branch c desk = at-silent key site at asked m branch (position (is_of branch) c.loose) c desk

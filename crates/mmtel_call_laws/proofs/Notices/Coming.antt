@@ -26,11 +26,10 @@ use Rattle.mmtel_transaction.specs.declared.words.Emit.TheVariants as emit
 use Rattle.mmtel_types.specs.Causes.{status_of}
 use Rattle.mmtel_types.specs.declared.causes.Cause.{Cause}
 use Rattle.mmtel_types.specs.declared.causes.Cause.TheVariants as causes
-use Rattle.mmtel_types.specs.declared.sides.Side.TheVariants.{Caller}
 use Rattle.mmtel_call_decisions.specs.Decisions as decisions
 use Rattle.mmtel_call_decisions.specs.Decisions.{aim_at, decided_at, its_sheet, peer_for, reach_at, service_at, target_of}
 use Rattle.mmtel_call_decisions.specs.Diverted.{Diverted}
-use Rattle.mmtel_call_decisions.specs.Showing.{shown_to}
+use Rattle.mmtel_call_decisions.specs.Showing.{offered_to}
 use Rattle.mmtel_call_decisions.specs.Site.{Site}
 use Rattle.mmtel_call_decisions.specs.declared.openings.Opening.{Opening}
 use Rattle.mmtel_call_decisions.specs.declared.openings.Service.{Service}
@@ -107,7 +106,7 @@ refused-tells site call at caller cause c desk kept result empty e =
 
 sent-silent : (site : Site) (at : ℕ) (service : Option Service) (waiting : Bool) (aim : Aim) (c : Call) (desk : Desk) → IsSilent c.opening.key desk (sent_to site at service waiting aim c desk)
 sent-silent site at service waiting aim c desk =
-    let ask : Emit = emit.Ask aim.peer (invite_of (attempt_dialog aim c.opening.invite.heard c.opening.restricted desk) site.sip (token (drew (drew desk))) (shown_to site c.opening c.diversions service Caller aim.peer c.opening.invite) waiting c.opening.invite.heard) in
+    let ask : Emit = emit.Ask aim.peer (invite_of (attempt_dialog aim c.opening.invite.heard c.opening.restricted desk) site.sip (token (drew (drew desk))) (offered_to site c.opening c.diversions service aim.peer) waiting c.opening.invite.heard) in
     let arm : Emit = emit.Arm c.opening.number (due.Cap (next_attempt c)) (at + longest_time) in
     record { new = ask ∷ arm ∷ []; out = append_assoc desk.out (ask ∷ []) (arm ∷ []); seen = refl }
 

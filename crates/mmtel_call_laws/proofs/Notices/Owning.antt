@@ -4,7 +4,7 @@ use Rattle.std.proofs.lemmas.Bool.Decides.{nat_tests}
 use Rattle.std.specs.Prelude.{nat_lt, not, ◌&&◌, Option, Some, None, if◌then◌else◌}
 use Rattle.mmtel_lex.specs.declared.values.Uri.{Uri}
 use Rattle.mmtel_precedence.specs.Attempts.{end_by_final, end_by_redirection, is_redirection, is_success, is_unreachable, is_user_busy}
-use Rattle.mmtel_precedence.specs.Calls.{Answer, Cancel, Deflection, End, NoReply, NotReachable, Other, Reach, UserBusy}
+use Rattle.mmtel_precedence.specs.Calls.{Answer, Cancel, Deflection, End, NoReply, NotReachable, Other, Reach, Unacknowledged, UserBusy}
 use Rattle.mmtel_precedence.specs.Moves.{account_at}
 use Rattle.mmtel_precedence.specs.Opening.{refusal_by}
 use Rattle.mmtel_precedence.specs.Services.{DueDiversion, diverts_by, first_said, refuses_if}
@@ -61,6 +61,7 @@ IsAfter (EndRefuse cause) = IsNoNotice (status_of cause)
 abbrev pub IsFinal : End → Type 0
 IsFinal Answer = Unit {0}
 IsFinal Cancel = Unit {0}
+IsFinal Unacknowledged = Unit {0}
 IsFinal (UserBusy code) = IsNoNotice code
 IsFinal (NotReachable code) = IsNoNotice code
 IsFinal NoReply = Unit {0}
@@ -74,6 +75,7 @@ diverted-or (Some due) cause e = tt
 pub its-after : (c : Circumstances) (sheet : Option Sheet) (how : End) → IsFinal how → IsAfter (turn_on c sheet how)
 its-after c sheet Answer e = tt
 its-after c sheet Cancel e = refl
+its-after c sheet Unacknowledged e = refl
 its-after c sheet (UserBusy code) e = diverted-or _ (causes.Relayed code) e
 its-after c sheet (NotReachable code) e = diverted-or _ (causes.Unreachable code) e
 its-after c sheet NoReply e = diverted-or _ causes.NoReply refl
@@ -125,3 +127,7 @@ its-refusal words served sheet c = refusal-of _ _ _
 pub too-many-notice : (busy : Bool) → IsNoNotice (status_of (causes.TooManyDiversions busy))
 too-many-notice true = refl
 too-many-notice false = refl
+
+-- a final is no 181
+pub final-notice : (code : ℕ) → nat_lt code 200 ≡ false → IsNoNotice code
+final-notice code e = grind (arith, nat_tests)

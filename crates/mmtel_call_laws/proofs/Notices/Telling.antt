@@ -12,7 +12,7 @@ use Rattle.mmtel_leg.specs.Legs.{Leg}
 use Rattle.mmtel_message.specs.Message.{Message}
 use Rattle.mmtel_message.specs.declared.messages.Start.{Start as StartLine}
 use Rattle.mmtel_precedence.specs.Calls as precedence
-use Rattle.mmtel_precedence.specs.Calls.{Answer, Cancel, Deflection, End, Ended, Final, NoReply, NotReachable, Other, Reach, Result, Standing, UserBusy}
+use Rattle.mmtel_precedence.specs.Calls.{Answer, Cancel, Deflection, End, Ended, Final, NoReply, NotReachable, Other, Reach, Result, Standing, Unacknowledged, UserBusy}
 use Rattle.mmtel_precedence.specs.Extension.{LaterEndingsExtend, with_later}
 use Rattle.mmtel_precedence.specs.Moves as moves
 use Rattle.mmtel_precedence.specs.Moves.{Kept, MovesGiveTheOutcome, account_at, at_first, at_phase, first_phase, move_in, moves_enough, outcome_so_far}
@@ -194,6 +194,8 @@ rests-alone law call kept reach at (Some Answer) e rings empty =
     end-move law call kept reach at Answer (RestsAt call kept.targets) (rests-after call kept.targets) rings empty (0, Finished precedence.Answered refl refl, refl)
 rests-alone law call kept reach at (Some Cancel) e rings empty =
     end-move law call kept reach at Cancel (RestsAt call kept.targets) (rests-after call kept.targets) rings empty (0, Finished (Final causes.Cancelled) refl refl, refl)
+rests-alone law call kept reach at (Some Unacknowledged) e rings empty =
+    end-move law call kept reach at Unacknowledged (RestsAt call kept.targets) (rests-after call kept.targets) rings empty (0, Finished (Final causes.Unacknowledged) refl refl, refl)
 rests-alone law call kept reach at (Some (UserBusy code)) e rings empty = absurd e
 rests-alone law call kept reach at (Some (NotReachable code)) e rings empty = absurd e
 rests-alone law call kept reach at (Some NoReply) e rings empty = absurd e

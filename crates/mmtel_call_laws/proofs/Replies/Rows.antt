@@ -1,6 +1,7 @@
--- Each row of the step table replies in the server transactions of the call's own requests, and keeps those alone.
-use Rattle.std.proofs.Common.{◌≡◌, ◌==◌, ◌&&◌, Bool, true, false, not, ℕ, zero, suc, List, [], ◌∷◌, Option, Some, None, nat_lt, Result, Ok, Err, codes}
-use Rattle.std.specs.Prelude.{if◌then◌else◌, position, slice_get}
+-- Each row of the step table replies in the server transactions of the call's own requests, and keeps those alone; and what goes out stands behind what lay there.
+use Rattle.std.proofs.Common.{◌≡◌, ◌∙◌, ◌==◌, ◌&&◌, Bool, true, false, not, ℕ, zero, suc, List, [], ◌∷◌, ◌++◌, Option, Some, None, nat_lt, Result, Ok, Err, codes, ap, append_assoc}
+use Rattle.std.specs.Prelude.{IfSome, if◌then◌else◌, position, slice_get}
+use Rattle.std.specs.List.{filter}
 use Rattle.mmtel_answers.specs.Attempts.{invite_of}
 use Rattle.mmtel_answers.specs.Said.{Said, status_of}
 use Rattle.mmtel_answers.specs.declared.attempts.Aim.{Aim}
@@ -8,27 +9,35 @@ use Rattle.mmtel_charging.specs.Meters.{Noted}
 use Rattle.mmtel_call_decisions.specs.Decisions.{aim_at, decided_after, decided_at, handed_on, is_status, its_sheet, peer_for, redirect_of, service_at, target_of, time_of}
 use Rattle.mmtel_desk.specs.Invites.{invite_answered, invite_silent}
 use Rattle.mmtel_call_decisions.specs.Opening.{first_of, opening_of, refusal_of}
+use Rattle.mmtel_call_decisions.specs.Reliable.{reliable_number}
 use Rattle.mmtel_call_decisions.specs.Requests.{is_same_side}
-use Rattle.mmtel_call_decisions.specs.Showing.{shown_to}
+use Rattle.mmtel_call_decisions.specs.Showing.{offered_to}
 use Rattle.mmtel_call_decisions.specs.Site.{Site}
 use Rattle.mmtel_call_decisions.specs.declared.openings.Arrival.{Arrival}
 use Rattle.mmtel_call_decisions.specs.declared.openings.Service.{Service}
 use Rattle.mmtel_call.specs.Answered.{acked_across, acked_and_left, acknowledges, at_stage, bye_before_ack, bye_to, leg_of, parted, shown_across, unacknowledged, with_leg}
 use Rattle.mmtel_call.specs.Closing.{Step, onward, over, over_stood, with_past}
 use Rattle.mmtel_call.specs.Diverting.{at_target, divert, diverted, goes_on, is_diverted, made, made_unless, on_end, on_turn, passed_by, reach, refusal_by, refused, refused_by, told_of}
-use Rattle.mmtel_call.specs.Leaving.{acked_again, answered_at, answered_loose, answered_other, answered_taken, answered_taken_at, as_loose, forked, is_fork, is_success, is_taken, is_talking, repeated, without_key, without_silent}
+use Rattle.mmtel_call.specs.Leaving.{acked_again, answered_at, answered_loose, answered_other, answered_taken, answered_taken_at, as_loose, forked, is_fork, is_success, is_taken, is_talking, repeated, silent_other, silent_other_at, without_key, without_silent}
+use Rattle.mmtel_call.specs.Flights as flying
+use Rattle.mmtel_call.specs.Flights.{answered_flight, answered_in_flight, dismissal_of, dismissed, dismissed_all, dismissed_each, dismissed_flight, dismissing, final_of_flight, is_in_flight, is_updating, relayed_back_to, settled, settled_in, silent_flight, silent_in_flight, updated_by, updating, without_flight}
 use Rattle.mmtel_call.specs.Lending.{finished, finished_in}
 use Rattle.mmtel_call.specs.Offering.{dialog_of, offer}
 use Rattle.mmtel_call.specs.Opening.{caller_of, new_call, opened, unless_refused}
 use Rattle.mmtel_call.specs.Reinvites.{agreed, asked_across, bye_to_both, bye_while_asking, cancelled_across, cancelled_if_due, cancelling, ends_dialog, invited, loose_across, on_response_across, proceeding, proceeding_across, refused_back, relayed_back, silenced_across}
-use Rattle.mmtel_call.specs.Requests.{having_heard, is_bye, is_invite, says, unheard, unlisted}
+use Rattle.mmtel_call.specs.Reliable.{acknowledged_across, acknowledged_by, acknowledging, answer_named, on_rack, own_for, prack_refused, relayed_reliably, status_of_refusal}
+use Rattle.mmtel_call.specs.Requests.{having_heard, is_bye, is_invite, is_prack, is_update, says, unheard, unlisted}
 use Rattle.mmtel_call.specs.Ringing as ringing
-use Rattle.mmtel_call.specs.Ringing.{answered, armed, armed_in, cancelled_attempt, failed, given_up, heard_by, left, on_cancel, on_due, on_heard, on_request, on_request_if, on_response, says_offered, silenced, timed_out, tried, with_loose, awaiting_ack, awaiting_expiry, expiries, expiry_in}
+use Rattle.mmtel_call.specs.Ringing.{answered, armed, armed_in, cancelled_attempt, failed, given_up, given_up_by, heard_by, left, on_cancel, on_due, on_heard, on_other, on_prack_of, on_request, on_request_if, on_response, proceeding_by, relayed_if, relayed_plainly, says_offered, silenced, timed_out, tried, with_loose, awaiting_ack, awaiting_expiry, expiries, expiry_in}
 use Rattle.mmtel_call.specs.Sending.{relayed_to_caller, replied_to, told_caller, told_diversion}
 use Rattle.mmtel_call.specs.Stages.{busy_in, has_left, is_due_at, left_by, on_ack_at, on_bye, on_cancel_at, on_due_at, on_heard_at, on_invite, on_request_at, on_request_at_if, on_response_at, on_silence_at, rung_out}
-use Rattle.mmtel_call.specs.Table.{ack_in, answer_to, cancel_in, due_in, is_current, request_in, response_in, silence_in, silence_of, step}
+use Rattle.mmtel_call.specs.Table.{ack_in, answer_to, cancel_in, due_in, is_current, leaves, request_in, response_in, row, silence_in, silence_of, step}
+use Rattle.mmtel_call.specs.Updates.{asked_on, crossing, having_updated, later, on_update, on_update_at, other_leg, takes_updates, unless_updating, updated_across, updated_early}
 use Rattle.mmtel_call.specs.declared.calls.Attempt.{Attempt}
 use Rattle.mmtel_call.specs.declared.calls.Call.{Call}
+use Rattle.mmtel_call.specs.declared.calls.Flight.{Flight}
+use Rattle.mmtel_call.specs.declared.calls.FlightKind.{FlightKind}
+use Rattle.mmtel_call.specs.declared.calls.FlightKind.TheVariants.{Prack, Update}
 use Rattle.mmtel_call.specs.declared.calls.Pair.{Pair}
 use Rattle.mmtel_call.specs.declared.calls.Phase.{Phase}
 use Rattle.mmtel_call.specs.declared.calls.Phase.TheVariants.{Lent, Offered, Over, Stood}
@@ -60,6 +69,8 @@ use Rattle.mmtel_message.specs.Message.{Line, Message}
 use Rattle.mmtel_message.specs.declared.messages.Start.{Start}
 use Rattle.mmtel_precedence.specs.Attempts.{end_by_final, end_by_time, rings}
 use Rattle.mmtel_precedence.specs.Calls.{End, NoReply, NotReachable, Standing}
+use Rattle.mmtel_reliable.specs.Acks.{has_own}
+use Rattle.mmtel_reliable.specs.declared.racks.Rack.{Rack}
 use Rattle.mmtel_precedence.specs.Services.{DueDiversion}
 use Rattle.mmtel_precedence.specs.Turns.{AfterEnd, EndAnswered, EndDivert, EndRefuse, Turn, TurnDivert, TurnOffer, TurnRefuse}
 use Rattle.mmtel_precedence.specs.Verdicts.{too_many}
@@ -77,27 +88,40 @@ use Rattle.mmtel_types.specs.declared.causes.Cause.TheVariants as causes
 use Rattle.mmtel_types.specs.declared.sides.Side.{Side}
 use Rattle.mmtel_types.specs.declared.sides.Side.TheVariants.{Caller, Callee}
 use Rattle.mmtel_call_laws.specs.Heads.Emits.{Each}
-use Rattle.mmtel_call_laws.proofs.Heads.Sending.{each_append}
-use Rattle.mmtel_call_laws.specs.Replies.{CallIsOf, IsRepliedIn, PhaseIsOf, SignalIsOf, StageIsOf}
+use Rattle.mmtel_call_laws.proofs.Heads.Sending.{each_append, each_filter, each_get, each_without}
+use Rattle.mmtel_call_laws.specs.Replies.{CallIsOf, FlightIsOf, FlightsAreOf, IsRepliedIn, PhaseIsOf, SignalIsOf, StageIsOf}
 use Rattle.mmtel_session.specs.Intervals.{expiry_after}
 use Rattle.mmtel_call.specs.Expiring.{expired, expired_asking}
 
-module _ (own : ℕ → Bool) (site : Site) where
+module _ (own : ℕ → Bool) (site : Site) (before : List Emit) where
   -- ---- what goes out
 
   abbrev Own : TKey → Type 0
   Own key = own key.0 ≡ true
 
+  -- what came behind what lay there, and it replies in these transactions alone
+  pub record Replies (out : List Emit) : Type 0 where
+    pub more : List Emit
+    pub is : out ≡ before ++ more
+    pub each : Each (IsRepliedIn own) more
+
   abbrev pub Replied : Desk → Type 0
-  Replied desk = Each (IsRepliedIn own) desk.out
+  Replied desk = Replies desk.out
 
   -- a step leaves a call of these transactions, and its replies are in them
   pub record Good (s : Step) : Type 0 where
     pub call_in : CallIsOf own s.call
     pub desk_in : Replied s.desk
 
+  more_in : (out more : List Emit) → Each (IsRepliedIn own) more → Replies out → Replies (out ++ more)
+  more_in out more all had = record {
+    more = had.more ++ more;
+    is = ap (λ (o : List Emit). o ++ more) had.is ∙ append_assoc before had.more more;
+    each = each_append (IsRepliedIn own) had.more more had.each all;
+  }
+
   emit_in : (e : Emit) (desk : Desk) → IsRepliedIn own e → Replied desk → Replied (emitted e desk)
-  emit_in e desk is had = each_append (IsRepliedIn own) desk.out (e ∷ []) had (is, tt)
+  emit_in e desk is had = more_in desk.out (e ∷ []) (is, tt) had
 
   if_desk : (b : Bool) (one two : Desk) → Replied one → Replied two → Replied (if b then one else two)
   if_desk true one two e f = e
@@ -127,14 +151,18 @@ module _ (own : ℕ → Bool) (site : Site) where
   replied_in : (c : Call) (key : TKey) (m : Said) (code : ℕ) (desk : Desk) → Own key → Replied desk → Replied (replied_to site c key m code desk)
   replied_in c key m code desk is had = emit_in _ desk is had
 
-  told_in : (c : Call) (code : ℕ) (desk : Desk) → Own c.opening.key → Replied desk → Replied (told_caller site c code desk)
-  told_in c code desk k had = emit_in _ desk k had
+  -- the INVITE that opened the call is of these, and what is in flight
+  abbrev Opens : Call → Type 0
+  Opens c = Own c.opening.key × FlightsAreOf own c.flights
 
-  told_diversion_in : (c : Call) (desk : Desk) → Own c.opening.key → Replied desk → Replied (told_diversion site c desk)
-  told_diversion_in c desk k had = emit_in _ desk k had
+  told_in : (c : Call) (code : ℕ) (desk : Desk) → Opens c → Replied desk → Replied (told_caller site c code desk)
+  told_in c code desk k had = emit_in _ desk k.0 had
 
-  relayed_in : (c : Call) (service : Option Service) (m : Said) (desk : Desk) → Own c.opening.key → Replied desk → Replied (relayed_to_caller site c service m desk)
-  relayed_in c service m desk k had = emit_in _ desk k had
+  told_diversion_in : (c : Call) (desk : Desk) → Opens c → Replied desk → Replied (told_diversion site c desk)
+  told_diversion_in c desk k had = emit_in _ desk k.0 had
+
+  relayed_in : (c : Call) (service : Option Service) (m : Said) (desk : Desk) → Opens c → Replied desk → Replied (relayed_to_caller site c service m desk)
+  relayed_in c service m desk k had = emit_in _ desk k.0 had
 
   unheard_in : (c : Call) (key : TKey) (m : Said) (fault : DialogueFault) (desk : Desk) → Own key → Replied desk → Replied (unheard site c key m fault desk)
   unheard_in c key m (OldCSeq last) desk is had = emit_in _ desk is had
@@ -152,9 +180,6 @@ module _ (own : ℕ → Bool) (site : Site) where
 
   -- ---- steps
 
-  abbrev Opens : Call → Type 0
-  Opens c = Own c.opening.key
-
   abbrev At : Phase → Type 0
   At p = PhaseIsOf own p
 
@@ -162,17 +187,136 @@ module _ (own : ℕ → Bool) (site : Site) where
   AtStage stage = StageIsOf own stage
 
   good : (s : Step) → At s.call.phase → Opens s.call → Replied s.desk → Good s
-  good s p k had = record { call_in = record { opening = k; phase = p }; desk_in = had }
+  good s p k had = record { call_in = record { opening = k.0; phase = p; flights = k.1 }; desk_in = had }
 
   onward_good : (c : Call) (desk : Desk) → At c.phase → Opens c → Replied desk → Good (onward c desk)
   onward_good c desk p k had = good (onward c desk) p k had
 
   over_good : (at : ℕ) (cause : Cause) (first last : Option Noted) (c : Call) (desk : Desk) → Opens c → Replied desk → Good (over at cause first last c desk)
-  over_good at cause first last c desk k had = good (over at cause first last c desk) tt k had
+  over_good at cause first last c desk k had = good (over at cause first last c desk) tt (k.0, tt) had
 
   if_good : (b : Bool) (one two : Step) → Good one → Good two → Good (if b then one else two)
   if_good true one two e f = e
   if_good false one two e f = f
+
+  -- what is armed for the session of a 2xx replies nothing
+  expiries_in : (timer : Bool) (time : Option ℕ) (at : ℕ) (c : Call) → Each (IsRepliedIn own) (if timer then expiry_in time at c else [])
+  expiries_in true None at c = tt
+  expiries_in true (Some time) at c = (tt, tt)
+  expiries_in false time at c = tt
+
+  expiry_awaited : (at : ℕ) (m : Said) (c : Call) (desk : Desk) → Replied desk → Replied (awaiting_expiry site at m c desk)
+  expiry_awaited at m c desk had = more_in desk.out (expiries site.timer at m c) (expiries_in site.timer (expiry_after m.heard.session) at c) had
+
+  -- ---- what is in flight
+
+  settled_good : (answer : Option ℕ) (c : Call) (desk : Desk) → Replied desk → Replied (settled site answer c desk)
+  settled_good answer c desk had = if_desk site.reliable (emitted (emit.Settled c.opening.key answer) desk) desk (emit_in _ desk tt had) had
+
+  dismissed_each_in : (c : Call) (flights : List Flight) (desk : Desk) → FlightsAreOf own flights → Replied desk → Replied (dismissed_each site c flights desk)
+  dismissed_each_in c [] desk all had = had
+  dismissed_each_in c (flight ∷ flights) desk all had =
+      dismissed_each_in c flights (dismissed_flight site c flight desk) all.1 (replied_in c flight.asked.key flight.asked.request (dismissal_of flight.kind) desk all.0 had)
+
+  dismissed_all_in : (c : Call) (desk : Desk) → Opens c → Replied desk → Replied (dismissed_all site c desk)
+  dismissed_all_in c desk k had =
+      dismissed_each_in c (filter is_updating c.flights) (dismissed_each site c (filter (λ flight. not (is_updating flight)) c.flights) desk) (each_filter (FlightIsOf own) is_updating c.flights k.1)
+      (dismissed_each_in c (filter (λ flight. not (is_updating flight)) c.flights) desk (each_filter (FlightIsOf own) (λ flight. not (is_updating flight)) c.flights k.1) had)
+
+  settled_in_good : (phase : Phase) (c : Call) (desk : Desk) → Replied desk → Replied (settled_in phase site c desk)
+  settled_in_good (Offered x) c desk had = settled_good None c desk had
+  settled_in_good (Stood x stage) c desk had = had
+  settled_in_good (Lent loan) c desk had = had
+  settled_in_good (Over cause) c desk had = had
+
+  dismissing_in : (c : Call) (desk : Desk) → Opens c → Replied desk → Replied (dismissing site c desk)
+  dismissing_in c desk k had = settled_in_good c.phase c (dismissed_all site c desk) (dismissed_all_in c desk k had)
+
+  -- its answer comes back
+
+  agreed_row : (kind : FlightKind) (at : ℕ) (side : Side) (request response : Said) (c : Call) (desk : Desk) → At c.phase → Opens c → Replied desk → Good (flying.agreed kind site at side request response c desk)
+  agreed_row Prack at side request response c desk p k had = onward_good c desk p k had
+  agreed_row Update at side request response c desk p k had = onward_good (updated_by side request c) (awaiting_expiry site at response c desk) p k (expiry_awaited at response c desk had)
+
+  final_row : (at : ℕ) (flight : Flight) (m : Said) (code : ℕ) (c : Call) (desk : Desk) → FlightIsOf own flight → At c.phase → Opens c → Replied desk → Good (final_of_flight site at flight m code c desk)
+  final_row at flight m code c desk is p k had =
+      let back : Desk = relayed_back_to site flight m c desk in
+      let told : Replied back = emit_in _ desk is had in
+      if_good (is_success code) (flying.agreed flight.kind site at flight.side flight.asked.request m c back) (onward c back)
+      (agreed_row flight.kind at flight.side flight.asked.request m c back p k told) (onward_good c back p k told)
+
+  without_flight_in : (place : ℕ) (c : Call) → Opens c → Opens (without_flight place c)
+  without_flight_in place c k = (k.0, each_without (FlightIsOf own) place c.flights k.1)
+
+  flight_row : (at : ℕ) (m : Said) (code place : ℕ) (o : Option Flight) (c : Call) (desk : Desk) → IfSome o (FlightIsOf own) → At c.phase → Opens c → Replied desk → Good (answered_flight site at m code place o c desk)
+  flight_row at m code place None c desk is p k had = onward_good c desk p k had
+  flight_row at m code place (Some flight) c desk is p k had =
+      if_good (nat_lt code 200) (onward c desk) (final_of_flight site at flight m code (without_flight place c) desk)
+      (onward_good c desk p k had) (final_row at flight m code (without_flight place c) desk is p (without_flight_in place c k) had)
+
+  in_flight_row : (at : ℕ) (m : Said) (o : Option ℕ) (c : Call) (desk : Desk) → At c.phase → Opens c → Replied desk → Good (answered_in_flight site at m o c desk)
+  in_flight_row at m None c desk p k had = onward_good c desk p k had
+  in_flight_row at m (Some place) c desk p k had = flight_row at m (status_of m.heard.start) place (slice_get c.flights place) c desk (each_get (FlightIsOf own) c.flights place k.1) p k had
+
+  silent_flight_row : (place : ℕ) (o : Option Flight) (c : Call) (desk : Desk) → IfSome o (FlightIsOf own) → At c.phase → Opens c → Replied desk → Good (silent_flight site place o c desk)
+  silent_flight_row place None c desk is p k had = onward_good c desk p k had
+  silent_flight_row place (Some flight) c desk is p k had =
+      onward_good (without_flight place c) (replied_to site c flight.asked.key flight.asked.request 408 desk) p (without_flight_in place c k) (replied_in c flight.asked.key flight.asked.request 408 desk is had)
+
+  silent_in_flight_row : (o : Option ℕ) (c : Call) (desk : Desk) → At c.phase → Opens c → Replied desk → Good (silent_in_flight site o c desk)
+  silent_in_flight_row None c desk p k had = onward_good c desk p k had
+  silent_in_flight_row (Some place) c desk p k had = silent_flight_row place (slice_get c.flights place) c desk (each_get (FlightIsOf own) c.flights place k.1) p k had
+
+  -- one more is asked
+
+  with_flight_in : (flight : Flight) (c : Call) → FlightIsOf own flight → Opens c → FlightsAreOf own (c.flights ++ flight ∷ [])
+  with_flight_in flight c is k = each_append (FlightIsOf own) c.flights (flight ∷ []) k.1 (is, tt)
+
+  prack_refused_row : (key : TKey) (m : Said) (c : Call) (desk : Desk) → Own key → At c.phase → Opens c → Replied desk → Good (prack_refused site key m c desk)
+  prack_refused_row key m c desk a p k had =
+      let code : ℕ = status_of_refusal (acknowledged_by m) in onward_good c (replied_to site c key m code desk) p k (replied_in c key m code desk a had)
+
+  acknowledging_row : (x : Trial) (key : TKey) (m : Said) (rack : Rack) (o : Option ℕ) (c : Call) (desk : Desk) → Own key → At c.phase → Opens c → Replied desk → Good (acknowledging site x key m rack o c desk)
+  acknowledging_row x key m rack None c desk a p k had = prack_refused_row key m c desk a p k had
+  acknowledging_row x key m rack (Some answer) c desk a p k had =
+      good (acknowledged_across site x key m rack answer c desk) tt (k.0, with_flight_in _ c a k) (emit_in _ (drew (settled site (Some rack.answer) c desk)) tt (settled_good (Some rack.answer) c desk had))
+
+  rack_row : (x : Trial) (key : TKey) (m : Said) (o : Option Rack) (c : Call) (desk : Desk) → Own key → At c.phase → Opens c → Replied desk → Good (on_rack site x key m o c desk)
+  rack_row x key m None c desk a p k had = prack_refused_row key m c desk a p k had
+  rack_row x key m (Some rack) c desk a p k had = acknowledging_row x key m rack (answer_named x c rack) c desk a p k had
+
+  prack_row : (side : Side) (x : Trial) (key : TKey) (m : Said) (c : Call) (desk : Desk) → Own key → At c.phase → Opens c → Replied desk → Good (on_prack_of side site x key m c desk)
+  prack_row Caller x key m c desk a p k had = rack_row x key m (acknowledged_by m) c desk a p k had
+  prack_row Callee x key m c desk a p k had = prack_refused_row key m c desk a p k had
+
+  later_row : (key : TKey) (m : Said) (c : Call) (desk : Desk) → Own key → At c.phase → Opens c → Replied desk → Good (later site key m c desk)
+  later_row key m c desk a p k had = good (later site key m c desk) p k (emit_in _ desk a had)
+
+  crossing_row : (key : TKey) (m : Said) (c : Call) (desk : Desk) → Own key → At c.phase → Opens c → Replied desk → Good (crossing site key m c desk)
+  crossing_row key m c desk a p k had = onward_good c (replied_to site c key m 491 desk) p k (replied_in c key m 491 desk a had)
+
+  unless_row : (o : Option Side) (across : Call → Desk → Step) (side : Side) (key : TKey) (m : Said) (c : Call) (desk : Desk) → Own key → At c.phase → Opens c → Replied desk → Good (across c desk) →
+      Good (unless_updating o across site side key m c desk)
+  unless_row None across side key m c desk a p k had is = is
+  unless_row (Some other) across side key m c desk a p k had is =
+      if_good (is_same_side other side) (later site key m c desk) (crossing site key m c desk) (later_row key m c desk a p k had) (crossing_row key m c desk a p k had)
+
+  asked_on_row : (service : Option Service) (side : Side) (leg : Leg) (key : TKey) (m : Said) (c : Call) (desk : Desk) → Own key → At c.phase → Opens c → Replied desk → Good (asked_on site service side leg key m c desk)
+  asked_on_row service side leg key m c desk a p k had = good (asked_on site service side leg key m c desk) p (k.0, with_flight_in _ c a k) (emit_in _ (drew desk) tt had)
+
+  update_row : (x : Trial) (side : Side) (key : TKey) (m : Said) (c : Call) (desk : Desk) → Own key → At c.phase → Opens c → Replied desk → Good (on_update site x side key m c desk)
+  update_row x side key m c desk a p k had =
+      if_good (takes_updates x) (unless_updating (updating c.flights) (updated_early site x side key m) site side key m c desk) (later site key m c desk)
+      (unless_row (updating c.flights) (updated_early site x side key m) side key m c desk a p k had
+      (asked_on_row x.attempt.service side (other_leg side x) key m (record c { phase = Offered (having_updated side x) }) desk a tt k had))
+      (later_row key m c desk a p k had)
+
+  on_other_row : (x : Trial) (side : Side) (key : TKey) (m : Said) (c : Call) (desk : Desk) → Own key → At c.phase → Opens c → Replied desk → Good (on_other site x side key m c desk)
+  on_other_row x side key m c desk a p k had =
+      if_good (is_prack m) (on_prack_of side site x key m c desk) (if is_update m then on_update site x side key m c desk else onward c (unlisted site c key m desk))
+      (prack_row side x key m c desk a p k had)
+      (if_good (is_update m) (on_update site x side key m c desk) (onward c (unlisted site c key m desk)) (update_row x side key m c desk a p k had)
+      (onward_good c (unlisted site c key m desk) p k (unlisted_in c key m desk a had)))
 
   -- ---- the way on
 
@@ -188,7 +332,7 @@ module _ (own : ℕ → Bool) (site : Site) where
   offer_good : (at : ℕ) (caller : Leg) (service : Option Service) (waiting : Bool) (aim : Aim) (c : Call) (desk : Desk) → Opens c → Replied desk → Good (offer site at caller service waiting aim c desk)
   offer_good at caller service waiting aim c desk k had =
       let third : Desk = drew (drew desk) in
-      let m : Message Start = invite_of (dialog_of c.opening aim desk) site.sip (token third) (shown_to site c.opening c.diversions service Caller aim.peer c.opening.invite) waiting c.opening.invite.heard in
+      let m : Message Start = invite_of (dialog_of c.opening aim desk) site.sip (token third) (offered_to site c.opening c.diversions service aim.peer) waiting c.opening.invite.heard in
       let asked : Desk = emitted (emit.Ask aim.peer m) (drew third) in
       good (offer site at caller service waiting aim c desk) tt k (emit_in _ asked tt (emit_in (emit.Ask aim.peer m) (drew third) tt had))
 
@@ -251,19 +395,24 @@ module _ (own : ℕ → Bool) (site : Site) where
   armed_good code at attempt c desk had =
       if_desk (rings code && not attempt.rang) (armed_in (time_of (its_sheet attempt.service)) at attempt c desk) desk (armed_in_good (time_of (its_sheet attempt.service)) at attempt c desk had) had
 
-  proceeding_good : (at : ℕ) (x : Trial) (key : TKey) (m : Said) (code : ℕ) (c : Call) (desk : Desk) → Opens c → Replied desk → Good (ringing.proceeding site at x key m code c desk)
-  proceeding_good at x key m code c desk k had =
-      good (ringing.proceeding site at x key m code c desk) tt k
+  plainly_good : (at : ℕ) (x : Trial) (key : TKey) (m : Said) (code : ℕ) (c : Call) (desk : Desk) → Opens c → Replied desk → Good (relayed_plainly site at x key m code c desk)
+  plainly_good at x key m code c desk k had =
+      good (relayed_plainly site at x key m code c desk) tt k
       (armed_good code at x.attempt c (relayed_to_caller site c x.attempt.service m desk) (relayed_in c x.attempt.service m desk k had))
 
-  -- what is armed for the session of a 2xx replies nothing
-  expiries_in : (timer : Bool) (time : Option ℕ) (at : ℕ) (c : Call) → Each (IsRepliedIn own) (if timer then expiry_in time at c else [])
-  expiries_in true None at c = tt
-  expiries_in true (Some time) at c = (tt, tt)
-  expiries_in false time at c = tt
+  relayed_if_good : (o : Option ℕ) (rseq at : ℕ) (x : Trial) (key : TKey) (m : Said) (code : ℕ) (c : Call) (desk : Desk) → Opens c → Replied desk → Good (relayed_if o rseq site at x key m code c desk)
+  relayed_if_good None rseq at x key m code c desk k had = tried_good key x c desk k had
+  relayed_if_good (Some number) rseq at x key m code c desk k had =
+      good (relayed_if (Some number) rseq site at x key m code c desk) tt k
+      (emit_in _ (armed code at x.attempt c (relayed_reliably site c x.attempt.service number m desk)) tt
+      (armed_good code at x.attempt c (relayed_reliably site c x.attempt.service number m desk) (emit_in _ desk k.0 had)))
 
-  expiry_awaited : (at : ℕ) (m : Said) (c : Call) (desk : Desk) → Replied desk → Replied (awaiting_expiry site at m c desk)
-  expiry_awaited at m c desk had = each_append (IsRepliedIn own) desk.out (expiries site.timer at m c) had (expiries_in site.timer (expiry_after m.heard.session) at c)
+  proceeding_by_good : (o : Option ℕ) (at : ℕ) (x : Trial) (key : TKey) (m : Said) (code : ℕ) (c : Call) (desk : Desk) → Opens c → Replied desk → Good (proceeding_by o site at x key m code c desk)
+  proceeding_by_good None at x key m code c desk k had = plainly_good at x key m code c desk k had
+  proceeding_by_good (Some rseq) at x key m code c desk k had = relayed_if_good (own_for rseq x m c) rseq at x key m code c desk k had
+
+  proceeding_good : (at : ℕ) (x : Trial) (key : TKey) (m : Said) (code : ℕ) (c : Call) (desk : Desk) → Opens c → Replied desk → Good (ringing.proceeding site at x key m code c desk)
+  proceeding_good at x key m code c desk k had = proceeding_by_good (reliable_number site c.opening m) at x key m code c desk k had
 
   answered_good : (at : ℕ) (x : Trial) (key : TKey) (m : Said) (c : Call) (desk : Desk) → Opens c → Replied desk → Good (answered site at x key m c desk)
   answered_good at x key m c desk k had =
@@ -293,11 +442,19 @@ module _ (own : ℕ → Bool) (site : Site) where
   timed_out_good : (now : Standing) (x : Trial) (how : End) (c : Call) (desk : Desk) → Opens c → Replied desk → Good (timed_out site now x how c desk)
   timed_out_good now x how c desk k had = goes_on_good now x how None (left x c) (cancelled_attempt site x desk) k (cancelled_in x.attempt.invitation desk had)
 
+  given_up_by_good : (cause : Cause) (at : ℕ) (x : Trial) (c : Call) (desk : Desk) → Opens c → Replied desk → Good (given_up_by cause site at x c desk)
+  given_up_by_good cause at x c desk k had =
+      let code : ℕ = of_causes.status_of cause in
+      over_good at cause x.caller.meter x.callee.leg.meter (left x c) (cancelled_attempt site x (told_caller site c code desk)) k
+      (cancelled_in x.attempt.invitation (told_caller site c code desk) (told_in c code desk k had))
+
   due_row : (now : Standing) (x : Trial) (what : DueWord) (c : Call) (desk : Desk) → Opens c → Replied desk → Good (on_due site now x what (offered_call x c) desk)
   due_row now x (due.NoReply number) c desk k had =
       if_good (number == x.attempt.number) (timed_out site now x NoReply (offered_call x c) desk) (onward (offered_call x c) desk)
       (timed_out_good now x NoReply (offered_call x c) desk k had) (onward_good (offered_call x c) desk tt k had)
-  due_row now x (due.NoPrack number) c desk k had = onward_good (offered_call x c) desk tt k had
+  due_row now x (due.NoPrack number) c desk k had =
+      if_good (has_own number c.acks.waiting) (given_up_by causes.Unacknowledged site now.at x (offered_call x c) desk) (onward (offered_call x c) desk)
+      (given_up_by_good causes.Unacknowledged now.at x (offered_call x c) desk k had) (onward_good (offered_call x c) desk tt k had)
   due_row now x (due.Cap number) c desk k had =
       if_good (number == x.attempt.number) (timed_out site now x (end_by_time x.attempt.rang) (offered_call x c) desk) (onward (offered_call x c) desk)
       (timed_out_good now x (end_by_time x.attempt.rang) (offered_call x c) desk k had) (onward_good (offered_call x c) desk tt k had)
@@ -305,9 +462,7 @@ module _ (own : ℕ → Bool) (site : Site) where
   due_row now x (due.Expired number) c desk k had = onward_good (offered_call x c) desk tt k had
 
   given_up_good : (at : ℕ) (x : Trial) (c : Call) (desk : Desk) → Opens c → Replied desk → Good (given_up site at x c desk)
-  given_up_good at x c desk k had =
-      over_good at causes.Cancelled x.caller.meter x.callee.leg.meter (left x c) (cancelled_attempt site x (told_caller site c 487 desk)) k
-      (cancelled_in x.attempt.invitation (told_caller site c 487 desk) (told_in c 487 desk k had))
+  given_up_good at x c desk k had = given_up_by_good causes.Cancelled at x c desk k had
 
   cancel_row : (at : ℕ) (x : Trial) (key : TKey) (m : Said) (invite : TKey) (c : Call) (desk : Desk) → Own key → Opens c → Replied desk → Good (on_cancel site at x key m invite (offered_call x c) desk)
   cancel_row at x key m invite c desk a k had =
@@ -318,10 +473,10 @@ module _ (own : ℕ → Bool) (site : Site) where
 
   heard_row : (at : ℕ) (x : Trial) (side : Side) (key : TKey) (m : Said) (c : Call) (desk : Desk) → Own key → Opens c → Replied desk → Good (on_heard site at x side key m (offered_call x c) desk)
   heard_row at x Caller key m c desk a k had =
-      if_good (is_bye m) (given_up site at x (offered_call x c) (replied_to site (offered_call x c) key m 200 desk)) (onward (offered_call x c) (unlisted site (offered_call x c) key m desk))
+      if_good (is_bye m) (given_up site at x (offered_call x c) (replied_to site (offered_call x c) key m 200 desk)) (on_other site x Caller key m (offered_call x c) desk)
       (given_up_good at x (offered_call x c) (replied_to site (offered_call x c) key m 200 desk) k (replied_in (offered_call x c) key m 200 desk a had))
-      (onward_good (offered_call x c) (unlisted site (offered_call x c) key m desk) tt k (unlisted_in (offered_call x c) key m desk a had))
-  heard_row at x Callee key m c desk a k had = onward_good (offered_call x c) (unlisted site (offered_call x c) key m desk) tt k (unlisted_in (offered_call x c) key m desk a had)
+      (on_other_row x Caller key m (offered_call x c) desk a tt k had)
+  heard_row at x Callee key m c desk a k had = on_other_row x Callee key m (offered_call x c) desk a tt k had
 
   request_if_row : (r : Result (Unit {0}) DialogueFault) (at : ℕ) (x : Trial) (side : Side) (key : TKey) (m : Said) (c : Call) (desk : Desk) →
       Own key → Opens c → Replied desk → Good (on_request_if r site at x side key m (offered_call x c) desk)
@@ -452,13 +607,28 @@ module _ (own : ℕ → Bool) (site : Site) where
       (staged_good x stage c (replied_to site (stood x stage c) key m 481 desk) e k (replied_in (stood x stage c) key m 481 desk a had))
       (left_row stage at x side m (stood x stage c) (replied_to site (stood x stage c) key m 200 desk) e k (replied_in (stood x stage c) key m 200 desk a had))
 
+  update_at_row : (stage : Stage) (x : Pair) (side : Side) (key : TKey) (m : Said) (c : Call) (desk : Desk) → Own key → AtStage stage → Opens c → Replied desk →
+      Good (on_update_at stage site x side key m (stood x stage c) desk)
+  update_at_row (Answered waiting success) x side key m c desk a e k had = crossing_row key m (stood x (Answered waiting success) c) desk a e k had
+  update_at_row (Parting waiting success) x side key m c desk a e k had = crossing_row key m (stood x (Parting waiting success) c) desk a e k had
+  update_at_row Talking x side key m c desk a e k had =
+      unless_row (updating c.flights) (updated_across site x side key m) side key m (stood x Talking c) desk a tt k had
+      (asked_on_row x.service side (leg_of (other_of side) x) key m _ desk a tt k had)
+  update_at_row (Asking asking q) x side key m c desk a e k had = crossing_row key m (stood x (Asking asking q) c) desk a e k had
+
   heard_at_row : (stage : Stage) (at : ℕ) (x : Pair) (side : Side) (key : TKey) (m : Said) (c : Call) (desk : Desk) → Own key → AtStage stage → Opens c → Replied desk → Good (on_heard_at stage site at x side key m (stood x stage c) desk)
   heard_at_row stage at x side key m c desk a e k had =
-      if_good (is_invite m) (on_invite stage site x side key m (stood x stage c) desk) (if is_bye m then on_bye stage site at x side key m (stood x stage c) desk else onward (stood x stage c) (unlisted site (stood x stage c) key m desk))
+      let now : Call = stood x stage c in
+      let rest : Step = if is_prack m then prack_refused site key m now desk else onward now (unlisted site now key m desk) in
+      if_good (is_invite m) (on_invite stage site x side key m now desk) (if is_bye m then on_bye stage site at x side key m now desk else if is_update m then on_update_at stage site x side key m now desk else rest)
       (invite_row stage x side key m c desk a e k had)
-      (if_good (is_bye m) (on_bye stage site at x side key m (stood x stage c) desk) (onward (stood x stage c) (unlisted site (stood x stage c) key m desk))
+      (if_good (is_bye m) (on_bye stage site at x side key m now desk) (if is_update m then on_update_at stage site x side key m now desk else rest)
       (bye_row stage at x side key m c desk a e k had)
-      (staged_good x stage c (unlisted site (stood x stage c) key m desk) e k (unlisted_in (stood x stage c) key m desk a had)))
+      (if_good (is_update m) (on_update_at stage site x side key m now desk) rest
+      (update_at_row stage x side key m c desk a e k had)
+      (if_good (is_prack m) (prack_refused site key m now desk) (onward now (unlisted site now key m desk))
+      (prack_refused_row key m now desk a e k had)
+      (staged_good x stage c (unlisted site now key m desk) e k (unlisted_in now key m desk a had)))))
 
   request_at_if_row : (r : Result (Unit {0}) DialogueFault) (stage : Stage) (at : ℕ) (x : Pair) (side : Side) (key : TKey) (m : Said) (c : Call) (desk : Desk) →
       Own key → AtStage stage → Opens c → Replied desk → Good (on_request_at_if r stage site at x side key m (stood x stage c) desk)
@@ -522,7 +692,7 @@ module _ (own : ℕ → Bool) (site : Site) where
   success_rest : (l : Loose) (remote : Remote) (o : Option Dialogue) (desk : Desk) → Replied desk → Replied (on_success_in site.sip l remote o desk).desk
   success_rest l remote (Some d) desk had = acked_in d desk had
   success_rest l remote None desk had =
-      let d : Dialogue = left_ones.made_from l.within l.invitation.early l.invitation.dialogue remote in
+      let d : Dialogue = left_ones.made_from l.within l.invitation.early l.invitation.asked l.invitation.dialogue remote in
       bye_in d (acked site.sip d desk) (acked_in d desk had)
 
   late_response : (key : TKey) (m : HeardMessage) (l : Loose) (desk : Desk) → Replied desk → Replied (left_ones.on_response site.sip key m l desk).desk
@@ -555,20 +725,24 @@ module _ (own : ℕ → Bool) (site : Site) where
       (onward_good c (if is_talking c.phase then acked_again t t.invitation.ack desk else desk) p k
       (if_desk (is_talking c.phase) (acked_again t t.invitation.ack desk) desk (acked_again_in t t.invitation.ack desk had) had)))
 
-  taken_at_row : (key : TKey) (m : Said) (o : Option ℕ) (c : Call) (desk : Desk) → At c.phase → Opens c → Replied desk → Good (answered_taken_at site key m o c desk)
-  taken_at_row key m None c desk p k had = onward_good c desk p k had
-  taken_at_row key m (Some at) c desk p k had = taken_row key m at (slice_get c.taken at) c desk p k had
+  taken_at_row : (at : ℕ) (key : TKey) (m : Said) (branch : List ℕ) (o : Option ℕ) (c : Call) (desk : Desk) → At c.phase → Opens c → Replied desk → Good (answered_taken_at site at key m branch o c desk)
+  taken_at_row at key m branch None c desk p k had = in_flight_row at m (position (is_in_flight branch) c.flights) c desk p k had
+  taken_at_row at key m branch (Some place) c desk p k had = taken_row key m place (slice_get c.taken place) c desk p k had
 
-  at_row : (key : TKey) (m : Said) (branch : List ℕ) (o : Option ℕ) (c : Call) (desk : Desk) → At c.phase → Opens c → Replied desk → Good (answered_at site key m branch o c desk)
-  at_row key m branch None c desk p k had = taken_at_row key m (position (is_taken branch) c.taken) c desk p k had
-  at_row key m branch (Some at) c desk p k had = loose_row key m at (slice_get c.loose at) c desk p k had
+  at_row : (at : ℕ) (key : TKey) (m : Said) (branch : List ℕ) (o : Option ℕ) (c : Call) (desk : Desk) → At c.phase → Opens c → Replied desk → Good (answered_at site at key m branch o c desk)
+  at_row at key m branch None c desk p k had = taken_at_row at key m branch (position (is_taken branch) c.taken) c desk p k had
+  at_row at key m branch (Some place) c desk p k had = loose_row key m place (slice_get c.loose place) c desk p k had
 
-  other_row : (key : TKey) (m : Said) (branch : List ℕ) (c : Call) (desk : Desk) → At c.phase → Opens c → Replied desk → Good (answered_other site key m branch c desk)
+  other_row : (at : ℕ) (key : TKey) (m : Said) (branch : List ℕ) (c : Call) (desk : Desk) → At c.phase → Opens c → Replied desk → Good (answered_other site at key m branch c desk)
   unfolding answered_other
-  other_row key m branch c desk p k had = at_row key m branch (position (is_of branch) c.loose) c desk p k had
+  other_row at key m branch c desk p k had = at_row at key m branch (position (is_of branch) c.loose) c desk p k had
 
-  silent_row : (branch : List ℕ) (c : Call) (desk : Desk) → At c.phase → Opens c → Replied desk → Good (onward (without_silent branch c) desk)
-  silent_row branch c desk p k had = good (onward (without_silent branch c) desk) p k had
+  silent_at_row : (branch : List ℕ) (o : Option ℕ) (c : Call) (desk : Desk) → At c.phase → Opens c → Replied desk → Good (silent_other_at site branch o c desk)
+  silent_at_row branch None c desk p k had = silent_in_flight_row (position (is_in_flight branch) c.flights) c desk p k had
+  silent_at_row branch (Some place) c desk p k had = good (onward (without_silent branch c) desk) p k had
+
+  silent_row : (branch : List ℕ) (c : Call) (desk : Desk) → At c.phase → Opens c → Replied desk → Good (silent_other site branch c desk)
+  silent_row branch c desk p k had = silent_at_row branch (position (is_of branch) c.loose) c desk p k had
 
   key_row : (key : TKey) (c : Call) (desk : Desk) → At c.phase → Opens c → Replied desk → Good (onward (without_key key c) desk)
   key_row key c desk p k had = good (onward (without_key key c) desk) p k had
@@ -618,24 +792,30 @@ module _ (own : ℕ → Bool) (site : Site) where
   answer_good : (branch : Option (List ℕ)) (now : Standing) (key : TKey) (m : Said) (c : Call) (desk : Desk) → At c.phase → Opens c → Replied desk → Good (answer_to branch site now key m c desk)
   answer_good None now key m c desk p k had = onward_good c desk p k had
   answer_good (Some branch) now key m c desk p k had =
-      if_good (is_current branch c) (response_in c.phase site now key m c desk) (answered_other site key m branch c desk)
-      (response_good c.phase now key m c desk p k had) (other_row key m branch c desk p k had)
+      if_good (is_current branch c) (response_in c.phase site now key m c desk) (answered_other site now.at key m branch c desk)
+      (response_good c.phase now key m c desk p k had) (other_row now.at key m branch c desk p k had)
 
   silence_of_good : (branch : Option (List ℕ)) (now : Standing) (c : Call) (desk : Desk) → At c.phase → Opens c → Replied desk → Good (silence_of branch site now c desk)
   silence_of_good None now c desk p k had = onward_good c desk p k had
   silence_of_good (Some branch) now c desk p k had =
-      if_good (is_current branch c) (silence_in c.phase site now c desk) (onward (without_silent branch c) desk)
+      if_good (is_current branch c) (silence_in c.phase site now c desk) (silent_other site branch c desk)
       (silence_good c.phase now c desk p k had) (silent_row branch c desk p k had)
+
+  pub row_good : (now : Standing) (heard : Signal) (c : Call) (desk : Desk) → SignalIsOf own heard → At c.phase → Opens c → Replied desk → Good (row site now heard c desk)
+  unfolding row
+  row_good now (signal.Request side key request) c desk a p k had = request_good c.phase now.at side key request c desk a p k had
+  row_good now (signal.Ack side ack) c desk a p k had = ack_good c.phase now.at side ack c desk p k had
+  row_good now (signal.Cancel key cancel invite) c desk a p k had = cancel_good c.phase now.at key cancel invite c desk a p k had
+  row_good now (signal.Answer key response) c desk a p k had = answer_good (invite_answered response) now key response c desk p k had
+  row_good now (signal.Silent branch method) c desk a p k had = silence_of_good (invite_silent branch method) now c desk p k had
+  row_good now (signal.Due what) c desk a p k had = due_good c.phase now what c desk p k had
+  row_good now (signal.Ended key) c desk a p k had = key_row key c desk p k had
 
   pub step_good : (now : Standing) (heard : Signal) (c : Call) (desk : Desk) → SignalIsOf own heard → At c.phase → Opens c → Replied desk → Good (step site now heard c desk)
   unfolding step
-  step_good now (signal.Request side key request) c desk a p k had = request_good c.phase now.at side key request c desk a p k had
-  step_good now (signal.Ack side ack) c desk a p k had = ack_good c.phase now.at side ack c desk p k had
-  step_good now (signal.Cancel key cancel invite) c desk a p k had = cancel_good c.phase now.at key cancel invite c desk a p k had
-  step_good now (signal.Answer key response) c desk a p k had = answer_good (invite_answered response) now key response c desk p k had
-  step_good now (signal.Silent branch method) c desk a p k had = silence_of_good (invite_silent branch method) now c desk p k had
-  step_good now (signal.Due what) c desk a p k had = due_good c.phase now what c desk p k had
-  step_good now (signal.Ended key) c desk a p k had = key_row key c desk p k had
+  step_good now heard c desk a p k had =
+      if_good (leaves heard c) (row site now heard (dismissed c) (dismissing site c desk)) (row site now heard c desk)
+      (row_good now heard (dismissed c) (dismissing site c desk) a p (k.0, tt) (dismissing_in c desk k had)) (row_good now heard c desk a p k had)
 
   -- ---- as it opens
 
@@ -647,7 +827,7 @@ module _ (own : ℕ → Bool) (site : Site) where
   unfolding opened
   opened_good now a desk k had =
       let c : Call = new_call site (opening_of site now (token desk) a) in
-      unless_refused_good (refusal_of site now.at c.opening) now (caller_of now.at c) c (told_caller site c 100 (drew desk)) k (told_in c 100 (drew desk) k had)
+      unless_refused_good (refusal_of site now.at c.opening) now (caller_of now.at c) c (told_caller site c 100 (drew desk)) (k, tt) (told_in c 100 (drew desk) (k, tt) had)
 
   -- ---- without a leg
 
@@ -655,7 +835,9 @@ module _ (own : ℕ → Bool) (site : Site) where
   finished_in_good (Offered x) at c desk p k had = onward_good (at_phase (Offered x) c) desk p k had
   finished_in_good (Stood x stage) at c desk p k had = onward_good (at_phase (Stood x stage) c) desk p k had
   finished_in_good (Lent loan) at c desk p k had =
-      over_good at causes.Ended _ _ (at_phase (Lent loan) c) (bye site.sip (released_leg loan.left).dialogue desk) k (bye_in (released_leg loan.left).dialogue desk had)
+      let left : Call = at_phase (Lent loan) c in
+      let told : Desk = dismissing site left desk in
+      over_good at causes.Ended _ _ (dismissed left) (bye site.sip (released_leg loan.left).dialogue told) (k.0, tt) (bye_in (released_leg loan.left).dialogue told (dismissing_in left desk k had))
   finished_in_good (Over cause) at c desk p k had = onward_good (at_phase (Over cause) c) desk p k had
 
   pub finished_good : (at : ℕ) (c : Call) (desk : Desk) → At c.phase → Opens c → Replied desk → Good (finished site at c desk)

@@ -24,7 +24,7 @@ use Rattle.mmtel_call.specs.declared.calls.Stage.{Stage}
 use Rattle.mmtel_call.specs.declared.calls.Success.{Success}
 use Rattle.mmtel_call.specs.declared.calls.Taken.{Taken}
 use Rattle.mmtel_call.specs.declared.calls.Stage.TheVariants.{Answered, Asking, Parting, Talking}
-use Rattle.mmtel_call.specs.Closing.{Step, onward}
+use Rattle.mmtel_call.specs.Closing.{onward}
 use Rattle.mmtel_call.specs.Leaving.{is_taken}
 use Rattle.mmtel_call.specs.Stages.{on_ack_at}
 use Rattle.mmtel_call_laws.specs.Secret.Parts.{nobody, public_call, public_dialog_by, public_diverted, public_opening, public_pair, public_part, public_stage, public_taken}
@@ -34,7 +34,7 @@ use Rattle.mmtel_call_laws.specs.Secret.Rows.{AcksOnceAnswered}
 use Rattle.mmtel_call_laws.specs.Secret.Seen.{AlikeDesks, AlikeSteps, Trust, seen_all, trust_of, with_out}
 use Rattle.mmtel_call_laws.proofs.Secret.Offering.{step-brings}
 use Rattle.mmtel_call_laws.proofs.Secret.Once.{call_once, taken_again}
-use Rattle.mmtel_call_laws.proofs.Secret.Rows.{bye-alike, ended-alike, on-alike, step-if}
+use Rattle.mmtel_call_laws.proofs.Secret.Rows.{bye-alike, ended-alike, on-alike, step-if, step-where}
 use Rattle.mmtel_call_laws.proofs.Secret.Sent.{Heads, acked_for-alike, relayed_bytes}
 use Rattle.mmtel_call_laws.proofs.Secret.Shown.{shown-same}
 
@@ -103,14 +103,10 @@ module _ (heads : Heads) (site : Site) (keys : TKey → Bool) where
   parts-alike : (who : Identities2) (at : ℕ) (x : Pair) (side : Side) (c : Call) (one other : Desk) → AlikeDesks T one other → AlikeSteps T (parted site at (public_pair known x) side (public_call known who c) one) (parted site at x side c other)
   parts-alike who at x side c one other a = ended-alike heads site keys who at x c (bye_to site (public_pair known x) side one) (bye_to site x side other) (bye-alike heads site keys x side one other a)
 
-  pub step-where : (b : Bool) (p q v w : Step) → (b ≡ true → AlikeSteps T p v) → (b ≡ false → AlikeSteps T q w) → AlikeSteps T (cond b p q) (cond b v w)
-  step-where true p q v w x y = x refl
-  step-where false p q v w x y = y refl
-
   ack_at-alike : (stage : Stage) (who : Identities2) (at : ℕ) (x : Pair) (side : Side) (role : Role) (m : Said) (c : Call) (one other : Desk) → Fits c.opening x.service side m role → stage_is_sent T c x side m stage → AlikeDesks T one other →
       AlikeSteps T (on_ack_at (public_stage known stage) site at (public_pair known x) side (without_private role m) (public_call known who c) one) (on_ack_at stage site at x side m c other)
   ack_at-alike (Answered waiting success) who at x side role m c one other fits sent a =
-      step-where (acknowledges waiting success side m) (acked_across site (public_pair known x) side success (without_private role m) (public_call known who c) one) (onward (public_call known who c) one) (acked_across site x side success m c other) (onward c other)
+      step-where T (acknowledges waiting success side m) (acked_across site (public_pair known x) side success (without_private role m) (public_call known who c) one) (onward (public_call known who c) one) (acked_across site x side success m c other) (onward c other)
       (λ is. across-alike who x side success role m c one other fits (sent is) a) (λ is. on-alike heads site keys who c one other a)
   ack_at-alike (Parting waiting success) who at x side role m c one other fits sent a =
       step-if T (acknowledges waiting success side m) (parted site at (public_pair known x) side (public_call known who c) one) (onward (public_call known who c) one) (parted site at x side c other) (onward c other)

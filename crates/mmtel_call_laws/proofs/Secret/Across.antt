@@ -30,22 +30,25 @@ use Rattle.mmtel_call.specs.declared.calls.Stage.{Stage}
 use Rattle.mmtel_call.specs.declared.calls.Taken.{Taken}
 use Rattle.mmtel_call.specs.declared.calls.Phase.TheVariants.{Stood}
 use Rattle.mmtel_call.specs.declared.calls.Stage.TheVariants.{Answered, Asking, Parting, Talking}
-use Rattle.mmtel_call.specs.Closing.{onward, over_stood}
+use Rattle.mmtel_call.specs.Closing.{Step, onward, over_stood}
 use Rattle.mmtel_call.specs.Reinvites.{agreed, bye_to_both, cancelled_across, cancelled_if_due, cancelling, ends_dialog, having_invited, held_by, invited, on_response_across, proceeding, proceeding_across, refused_back, reinvite_of, relayed_back}
-use Rattle.mmtel_call.specs.Requests.{having_heard, is_bye, is_invite, says, unheard, unlisted}
+use Rattle.mmtel_call.specs.Reliable.{prack_refused}
+use Rattle.mmtel_call.specs.Requests.{having_heard, is_bye, is_invite, is_prack, is_update, says, unheard, unlisted}
 use Rattle.mmtel_call.specs.Ringing.{ack_time, awaiting_ack, next_success, success_of, taken_by, expiry_in, awaiting_expiry}
 use Rattle.mmtel_call.specs.Sending.{replied_to}
 use Rattle.mmtel_call.specs.Stages.{busy_in, has_left, is_due_at, left_by, on_bye, on_cancel_at, on_due_at, on_heard_at, on_invite, on_request_at, on_request_at_if, on_silence_at, rung_out}
+use Rattle.mmtel_call.specs.Updates.{on_update_at}
 use Rattle.mmtel_call_laws.specs.Secret.Parts.{everything, nobody, public_call, public_dialog_by, public_diverted, public_invitation, public_opening, public_pair, public_part, public_reinvite, public_request, public_stage, public_taken}
 use Rattle.mmtel_call_laws.specs.Secret.Premises.{Fits, IsAnswer, IsAsked, stage_is_asked}
 use Rattle.mmtel_call_laws.specs.Secret.Roles.{Role, private_places, without_private}
 use Rattle.mmtel_call_laws.specs.Secret.Rows.{AnswersAcross, CancelsOnceAnswered, DeadlinesOnceAnswered, RequestsOnceAnswered, SilenceOnceAnswered}
 use Rattle.mmtel_call_laws.specs.Secret.Seen.{AlikeDesks, AlikeSteps, Trust, trust_of}
 use Rattle.mmtel_call_laws.proofs.Secret.Absorbing.{request_absorbs}
+use Rattle.mmtel_call_laws.proofs.Secret.Flights.{prack_refused-alike, token_same, update_at-alike}
 use Rattle.mmtel_call_laws.proofs.Secret.Once.{call_once, request_again}
 use Rattle.mmtel_call_laws.proofs.Secret.Rows.{across-alike, both-alike, bye-alike, cancelled-alike, ended-alike, leaves-alike, left_by-alike, on-alike, on-alike-by, once_public, own-reply, step-if, unheard-alike, unlisted-alike, expired_asking-alike}
 use Rattle.mmtel_call_laws.proofs.Secret.Sent.{Heads, emitted-alike, final_acked-alike, if-alike, relayed-alike, untouched}
-use Rattle.mmtel_call_laws.proofs.Secret.Shown.{shown-foreign, shown-same}
+use Rattle.mmtel_call_laws.proofs.Secret.Shown.{shown-foreign, shown-number, shown-same}
 use Rattle.mmtel_session.specs.Intervals.{expiry_after}
 
 module _ (heads : Heads) (site : Site) (keys : TKey → Bool) where
@@ -70,17 +73,16 @@ module _ (heads : Heads) (site : Site) (keys : TKey → Bool) where
       ∙ (ap (λ (r : Said). record (public_part known (public_call known who c)) { phase = Stood (public_pair known (public_pair known x)) (Asking side (record { key = key; request = r; invitation = public_invitation known (public_invitation known i); cancel_due = false })) }) (e ∙ sym (request_again m))
       ∙ call_once known nobody who (at_stage x (Asking side (record { key = key; request = m; invitation = i; cancel_due = false })) c))
 
-  token_same : (one other : Desk) → AlikeDesks T one other → token one ≡ token other
-  token_same one other a = rw a.tokens refl
-
   invites-alike : (who : Identities2) (x : Pair) (side : Side) (key : TKey) (role : Role) (m : Said) (c : Call) (one other : Desk) → IsAsked T key m → Fits c.opening x.service side m role → AlikeDesks T one other →
       AlikeSteps T (invited site (public_pair known x) side key (without_private role m) (public_call known who c) one) (invited site x side key m c other)
   invites-alike who x Caller key role m c one other asked fits a = record {
-    call = across_call who (with_leg Callee (having_invited x.callee) x) Caller m (without_private role m) (reinvite_of key m (having_invited x.callee) other).invitation (token one) key c (token_same one other a) (request_absorbs role m);
+    call =
+        across_call who (with_leg Callee (having_invited x.callee) x) Caller m (without_private role m) (reinvite_of key m (having_invited x.callee) other).invitation (token one) key c (token_same heads site keys one other a) (request_absorbs role m);
     desk = across-alike heads site keys who (codes "INVITE") c x Caller role m (replied_to site (public_call known who c) key (without_private role m) 100 one) (replied_to site c key m 100 other) fits (own-reply heads site keys c key (private_places role m.heard) m 100 one other asked a);
   }
   invites-alike who x Callee key role m c one other asked fits a = record {
-    call = across_call who (with_leg Caller (having_invited x.caller) x) Callee m (without_private role m) (reinvite_of key m (having_invited x.caller) other).invitation (token one) key c (token_same one other a) (request_absorbs role m);
+    call =
+        across_call who (with_leg Caller (having_invited x.caller) x) Callee m (without_private role m) (reinvite_of key m (having_invited x.caller) other).invitation (token one) key c (token_same heads site keys one other a) (request_absorbs role m);
     desk = across-alike heads site keys who (codes "INVITE") c x Callee role m (replied_to site (public_call known who c) key (without_private role m) 100 one) (replied_to site c key m 100 other) fits (own-reply heads site keys c key (private_places role m.heard) m 100 one other asked a);
   }
 
@@ -116,12 +118,22 @@ module _ (heads : Heads) (site : Site) (keys : TKey → Bool) where
       let n : Said = without_private role m in
       let s : Stage = public_stage known stage in
       let z : Pair = public_pair known x in
-      step-if T (is_invite m) (on_invite s site z side key n d one) (cond (is_bye m) (on_bye s site at z side key n d one) (onward d (unlisted site d key n one)))
-      (on_invite stage site x side key m c other) (cond (is_bye m) (on_bye stage site at x side key m c other) (onward c (unlisted site c key m other)))
+      let unlisted_one : Step = onward d (unlisted site d key n one) in
+      let unlisted_other : Step = onward c (unlisted site c key m other) in
+      let acks_one : Step = cond (is_prack m) (prack_refused site key n d one) unlisted_one in
+      let acks_other : Step = cond (is_prack m) (prack_refused site key m c other) unlisted_other in
+      let updates_one : Step = cond (is_update m) (on_update_at s site z side key n d one) acks_one in
+      let updates_other : Step = cond (is_update m) (on_update_at stage site x side key m c other) acks_other in
+      step-if T (is_invite m) (on_invite s site z side key n d one) (cond (is_bye m) (on_bye s site at z side key n d one) updates_one)
+      (on_invite stage site x side key m c other) (cond (is_bye m) (on_bye stage site at x side key m c other) updates_other)
       (invite_at-alike stage who x side key role m c one other asked fits a)
-      (step-if T (is_bye m) (on_bye s site at z side key n d one) (onward d (unlisted site d key n one)) (on_bye stage site at x side key m c other) (onward c (unlisted site c key m other))
+      (step-if T (is_bye m) (on_bye s site at z side key n d one) updates_one (on_bye stage site at x side key m c other) updates_other
       (bye_at-alike stage who at x side key role m c one other asked fits kept a)
-      (on-alike heads site keys who c (unlisted site d key n one) (unlisted site c key m other) (unlisted-alike heads site keys who c key role m one other asked a)))
+      (step-if T (is_update m) (on_update_at s site z side key n d one) acks_one (on_update_at stage site x side key m c other) acks_other
+      (update_at-alike heads site keys stage who x side key role m c one other asked fits a)
+      (step-if T (is_prack m) (prack_refused site key n d one) unlisted_one (prack_refused site key m c other) unlisted_other
+      (prack_refused-alike heads site keys who key role m c one other asked a)
+      (on-alike heads site keys who c (unlisted site d key n one) (unlisted site c key m other) (unlisted-alike heads site keys who c key role m one other asked a)))))
 
   request_at_by : (r : Result (Unit {0}) DialogueFault) (stage : Stage) (who : Identities2) (at : ℕ) (x : Pair) (side : Side) (key : TKey) (role : Role) (m : Said) (c : Call) (one other : Desk) → IsAsked T key m → Fits c.opening x.service side m role → stage_is_asked T stage → AlikeDesks T one other →
       AlikeSteps T (on_request_at_if r (public_stage known stage) site at (public_pair known x) side key (without_private role m) (public_call known who c) one) (on_request_at_if r stage site at x side key m c other)
@@ -212,6 +224,7 @@ module _ (heads : Heads) (site : Site) (keys : TKey → Bool) where
       (shown_to site (public_opening who c.opening) (public_diverted (masks_all c.opening) c.diversions) x.service (other_of side) q.request.peer (without_private role m)) (shown_to site c.opening c.diversions x.service (other_of side) q.request.peer m) m one other
       asked.request (asked.told ∙ sym asked.known)
       (shown-foreign site (public_opening who c.opening) (public_diverted (masks_all c.opening) c.diversions) x.service (other_of side) q.request.peer (without_private role m)) (shown-foreign site c.opening c.diversions x.service (other_of side) q.request.peer m)
+      (shown-number site (public_opening who c.opening) c.opening (public_diverted (masks_all c.opening) c.diversions) c.diversions x.service (other_of side) q.request.peer (without_private role m) m)
       (λ strange. shown-same site who c.opening c.diversions x.service (other_of side) q.request.peer role m fits (sym asked.known ∙ strange)) a
 
   pub acked-final : (key : TKey) (i : Invitation) (role : Role) (m : Said) (one other : Desk) → IsAnswer T key i.dialogue.peer role m → AlikeDesks T one other →

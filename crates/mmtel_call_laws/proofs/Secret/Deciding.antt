@@ -2,7 +2,7 @@
 use Rattle.std.proofs.Common.{◌≡◌, ℕ, Bool, true, false, refl, ap, sym, ◌∙◌, List, Option, Some, None}
 use Rattle.std.specs.Option.{option_map}
 use Rattle.mmtel_diversion.specs.Diversion.{Chosen, diversion_of}
-use Rattle.mmtel_precedence.specs.Calls.{Answer, Cancel, Deflection, End, NoReply, NotReachable, Other, Reach, UserBusy}
+use Rattle.mmtel_precedence.specs.Calls.{Answer, Cancel, Deflection, End, NoReply, NotReachable, Other, Reach, Unacknowledged, UserBusy}
 use Rattle.mmtel_precedence.specs.Laws.{VerdictsSeeAnswersAlone}
 use Rattle.mmtel_precedence.specs.Moves.{account_at}
 use Rattle.mmtel_precedence.specs.Services.{AccountState, due_of, own_bound}
@@ -55,6 +55,7 @@ module _ (law : VerdictsSeeAnswersAlone) (records : List Sheet) (one other : Ide
   pub turn_on_same : (sheet : Option Sheet) (how : End) → ((s : Sheet) → sheet ≡ Some s → IsAmong records s) → turn_on (circumstances one o at diverted false) sheet how ≡ turn_on (circumstances other o at diverted false) sheet how
   turn_on_same sheet Answer is = refl
   turn_on_same sheet Cancel is = refl
+  turn_on_same sheet Unacknowledged is = refl
   turn_on_same None (UserBusy code) is = refl
   turn_on_same (Some s) (UserBusy code) is =
       sym (after_forwards (own_bound s) (diversion_of (circumstances one o at diverted false) event.Busy s) (causes.Relayed code))

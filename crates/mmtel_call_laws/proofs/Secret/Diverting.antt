@@ -48,6 +48,7 @@ use Rattle.mmtel_call_laws.specs.Secret.Roles.{Role, opening_role, private_place
 use Rattle.mmtel_call_laws.specs.Secret.Rows.{EndsOfAttempts}
 use Rattle.mmtel_call_laws.specs.Secret.Seen.{AlikeDesks, AlikeSteps, Trust, trust_of}
 use Rattle.mmtel_call_laws.proofs.Secret.Deciding.{turn_on_same, turn_same}
+use Rattle.mmtel_call_laws.proofs.Secret.Numbers.{history_none}
 use Rattle.mmtel_call_laws.proofs.Secret.Offering.{offer-alike}
 use Rattle.mmtel_call_laws.proofs.Secret.Once.{call_once, leg_again}
 use Rattle.mmtel_call_laws.proofs.Secret.Ringing.{to_caller-alike}
@@ -160,6 +161,7 @@ module _ (heads : Heads) (law : VerdictsSeeAnswersAlone) (records : List Sheet) 
         (history_lines all (known i.peer) (told_list masked_made.diversions)) (history_lines all (known i.peer) (told_list whole_made.diversions)) [] [] one other
         asked.request (asked.told ∙ sym asked.known)
         (λ name own. own_history name all (known i.peer) (told_list masked_made.diversions) own) (λ name own. own_history name all (known i.peer) (told_list whole_made.diversions) own)
+        (history_none all (known i.peer) (told_list masked_made.diversions) ∙ sym (history_none all (known i.peer) (told_list whole_made.diversions)))
         (λ strange. lines_if (known i.peer) (sym asked.known ∙ strange)) a)
         a
 

@@ -10,6 +10,7 @@ use Rattle.mmtel_lex.specs.declared.values.Uri.{Uri}
 use Rattle.mmtel_precedence.specs.Attempts.{end_by_final, end_by_time}
 use Rattle.mmtel_precedence.specs.Calls.{End, NoReply, NotReachable, Standing}
 use Rattle.mmtel_precedence.specs.Laws.{VerdictsSeeAnswersAlone}
+use Rattle.mmtel_reliable.specs.Acks.{has_own}
 use Rattle.mmtel_rules.specs.declared.values.Identities2.{Identities2}
 use Rattle.mmtel_sheet_values.specs.declared.values.Sheet.{Sheet}
 use Rattle.mmtel_transaction.specs.declared.words.DueWord.{DueWord}
@@ -17,6 +18,7 @@ use Rattle.mmtel_transaction.specs.declared.words.DueWord.TheVariants as due
 use Rattle.mmtel_transaction.specs.declared.words.TKey.{TKey}
 use Rattle.mmtel_trust.specs.Asserted.{or_no_uri}
 use Rattle.mmtel_trust.specs.Mask.{hidden_uri}
+use Rattle.mmtel_types.specs.declared.causes.Cause.TheVariants as causes
 use Rattle.mmtel_types.specs.declared.numbers.Peer.{Peer}
 use Rattle.mmtel_types.specs.declared.sides.Side.TheVariants.{Callee}
 use Rattle.mmtel_call_decisions.specs.Decisions.{redirect_of}
@@ -25,7 +27,7 @@ use Rattle.mmtel_call.specs.declared.calls.Call.{Call}
 use Rattle.mmtel_call.specs.declared.calls.Trial.{Trial}
 use Rattle.mmtel_call.specs.Closing.{onward}
 use Rattle.mmtel_call.specs.Diverting.{goes_on}
-use Rattle.mmtel_call.specs.Ringing.{answered, cancelled_attempt, failed, left, on_due, on_response, proceeding, silenced, timed_out, tried}
+use Rattle.mmtel_call.specs.Ringing.{answered, cancelled_attempt, failed, given_up_by, left, on_due, on_response, proceeding, silenced, timed_out, tried}
 use Rattle.mmtel_call_laws.specs.Secret.Parts.{public_call, public_invitation, public_trial}
 use Rattle.mmtel_call_laws.specs.Secret.Premises.{CanGoOn, Fits, IsTargets, ServiceIsAsked}
 use Rattle.mmtel_call_laws.specs.Secret.Roles.{Plain, Role, private_places, without_private}
@@ -33,6 +35,7 @@ use Rattle.mmtel_call_laws.specs.Secret.Rows.{AnswersWhileOffered, DeadlinesWhil
 use Rattle.mmtel_call_laws.specs.Secret.Seen.{AlikeDesks, AlikeSteps, Trust, trust_of}
 use Rattle.mmtel_call_laws.proofs.Secret.Across.{acked-final}
 use Rattle.mmtel_call_laws.proofs.Secret.Diverting.{ends_of_attempts}
+use Rattle.mmtel_call_laws.proofs.Secret.Offered.{gives-up}
 use Rattle.mmtel_call_laws.proofs.Secret.Ringing.{answers_to_attempt, proceeds-alike, tries-alike}
 use Rattle.mmtel_call_laws.proofs.Secret.Rows.{cancelled-alike, left_public, on-alike, step-if}
 use Rattle.mmtel_call_laws.proofs.Secret.Sent.{Heads}
@@ -106,7 +109,9 @@ module _ (heads : Heads) (law : VerdictsSeeAnswersAlone) (records : List Sheet) 
   dues-alike who x (due.NoReply number) c one other can its a =
       step-if T (number == x.attempt.number) (timed_out site now (public_trial known x) NoReply (public_call known who c) one) (onward (public_call known who c) one) (timed_out site now x NoReply c other) (onward c other)
       (times-alike who x NoReply c one other can its a) (on-alike heads site keys who c one other a)
-  dues-alike who x (due.NoPrack number) c one other can its a = on-alike heads site keys who c one other a
+  dues-alike who x (due.NoPrack own) c one other can its a =
+      step-if T (has_own own c.acks.waiting) (given_up_by causes.Unacknowledged site now.at (public_trial known x) (public_call known who c) one) (onward (public_call known who c) one) (given_up_by causes.Unacknowledged site now.at x c other) (onward c other)
+      (gives-up heads site keys causes.Unacknowledged who now.at x c one other can.opening a) (on-alike heads site keys who c one other a)
   dues-alike who x (due.Cap number) c one other can its a =
       step-if T (number == x.attempt.number) (timed_out site now (public_trial known x) (end_by_time x.attempt.rang) (public_call known who c) one) (onward (public_call known who c) one) (timed_out site now x (end_by_time x.attempt.rang) c other) (onward c other)
       (times-alike who x (end_by_time x.attempt.rang) c one other can its a) (on-alike heads site keys who c one other a)

@@ -1,7 +1,6 @@
--- Rows of INVITEs that the call does not wait on see public parts alone.
-use Rattle.std.proofs.Common.{◌≡◌, ℕ, zero, suc, ◌+◌, ◌==◌, ◌||◌, Bool, true, false, not, List, [], ◌∷◌, ◌++◌, refl, ap, sym, ◌∙◌, map, cond, codes, length, subst, take, drop, Option, Some, None}
-use Rattle.std.specs.List.{prefix_len}
-use Rattle.std.proofs.lemmas.List.{drop-map, map-append, take-map}
+-- Rows of requests that the call does not wait on see public parts alone.
+use Rattle.std.proofs.Common.{◌≡◌, ℕ, ◌==◌, ◌||◌, Bool, true, false, not, List, [], ◌∷◌, ◌++◌, refl, ap, sym, ◌∙◌, map, cond, codes, length, subst, Option, Some, None}
+use Rattle.std.proofs.lemmas.List.{map-append}
 use Rattle.std.specs.Option.{option_map}
 use Rattle.std.specs.Str.{bytes_eq}
 use Rattle.std.specs.Prelude.{nat_lt, option_to_list, position, slice_get}
@@ -23,64 +22,44 @@ use Rattle.mmtel_transaction.specs.Alike.{blank_if, blank_maybe}
 use Rattle.mmtel_transaction.specs.declared.words.Emit.TheVariants as emit
 use Rattle.mmtel_transaction.specs.declared.words.TKey.{TKey}
 use Rattle.mmtel_trust.specs.Mask.{places_in}
+use Rattle.mmtel_types.specs.Sides.{other_of}
 use Rattle.mmtel_types.specs.declared.numbers.Peer.{Peer}
 use Rattle.mmtel_types.specs.declared.sides.Side.TheVariants.{Callee}
 use Rattle.mmtel_call_decisions.specs.Site.{Site, trusts}
 use Rattle.mmtel_call.specs.declared.calls.Call.{Call}
+use Rattle.mmtel_call.specs.declared.calls.Flight.{Flight}
 use Rattle.mmtel_call.specs.declared.calls.Phase.{Phase}
 use Rattle.mmtel_call.specs.declared.calls.Taken.{Taken}
 use Rattle.mmtel_call.specs.declared.calls.Phase.TheVariants.{Lent, Offered, Over, Stood}
 use Rattle.mmtel_call.specs.declared.calls.Stage.TheVariants.{Answered, Asking, Parting, Talking}
 use Rattle.mmtel_call.specs.Closing.{Step, onward}
-use Rattle.mmtel_call.specs.Leaving.{acked_again, answered_at, answered_loose, answered_other, answered_taken, answered_taken_at, as_loose, forked, is_fork, is_success, is_taken, is_talking, repeated, taken_again, with_rest, with_taken, without_at}
-use Rattle.mmtel_call_laws.specs.Secret.Parts.{nobody, public_call, public_dialog, public_invitation, public_loose, public_part, public_phase, public_said, public_taken}
-use Rattle.mmtel_call_laws.specs.Secret.Premises.{HearsOther, IsAnswer, IsWhole}
+use Rattle.mmtel_call.specs.Flights.{answered_in_flight, is_in_flight, service_in, silent_in_flight}
+use Rattle.mmtel_call.specs.Leaving.{acked_again, answered_at, answered_loose, answered_other, answered_taken, answered_taken_at, as_loose, forked, is_fork, is_success, is_taken, is_talking, repeated, silent_other, silent_other_at, taken_again, with_rest, with_taken, without, without_at, without_silent}
+use Rattle.mmtel_call_laws.specs.Secret.Parts.{nobody, public_call, public_dialog, public_flight, public_invitation, public_loose, public_part, public_phase, public_said, public_taken}
+use Rattle.mmtel_call_laws.specs.Secret.Premises.{Fits, HearsOther, IsAnswer, IsWhole, flights_are_asked}
 use Rattle.mmtel_call_laws.specs.Secret.Roles.{Role, private_places, without_private}
-use Rattle.mmtel_call_laws.specs.Secret.Rows.{AnswersOfOthers}
+use Rattle.mmtel_call_laws.specs.Secret.Rows.{AnswersOfOthers, SilenceOfOthers}
 use Rattle.mmtel_call_laws.specs.Secret.Seen.{AlikeDesks, AlikeSteps, Sent, Trust, trust_of}
 use Rattle.mmtel_call_laws.proofs.Secret.Across.{acked-final}
+use Rattle.mmtel_call_laws.proofs.Secret.Landing.{landed-alike, silent-alike}
 use Rattle.mmtel_call_laws.proofs.Secret.Once as once
 use Rattle.mmtel_call_laws.proofs.Secret.Once.{call_once, dialog_again, invitation_told, loose_again, map_again}
+pub use Rattle.mmtel_call_laws.proofs.Secret.Places.{found, got, listed, long, rest_of}
 use Rattle.mmtel_call_laws.proofs.Secret.Ringing.{met_alike, said_if}
-use Rattle.mmtel_call_laws.proofs.Secret.Rows.{on-alike, step-if}
+use Rattle.mmtel_call_laws.proofs.Secret.Rows.{on-alike, on-alike-by, step-if}
 use Rattle.mmtel_call_laws.proofs.Secret.Sent.{Heads, acked-alike, asked-alike, cancel-alike, emitted-alike, same_desk}
 use Rattle.mmtel_call_laws.proofs.Secret.Shown.{met_public, tag_by}
 
--- ---- places in a list
+-- ---- a list of which one item is taken out
 
-tried : {A : Type 0} (f : A → A) (p : A → Bool) → ((x : A) → p (f x) ≡ p x) → (xs : List A) → prefix_len (λ x. not (p x)) (map f xs) ≡ prefix_len (λ x. not (p x)) xs
-tried f p same [] = refl
-tried f p same (x ∷ xs) = rw (same x, tried f p same xs) refl
+without_map : {A : Type 0} (f : A → A) (o : Option ℕ) (xs : List A) → without o (map f xs) ≡ map f (without o xs)
+without_map f None xs = refl
+without_map f (Some at) xs = rest_of f at xs
 
-pub long : {A : Type 0} (f : A → A) (xs : List A) → length (map f xs) ≡ length xs
-long f [] = refl
-long f (x ∷ xs) = ap suc (long f xs)
+pub without_found : {A : Type 0} (f : A → A) (p : A → Bool) → ((x : A) → p (f x) ≡ p x) → (xs : List A) → without (position p (map f xs)) (map f xs) ≡ map f (without (position p xs) xs)
+without_found f p same xs = ap (λ o. without o (map f xs)) (found f p same xs) ∙ without_map f (position p xs) xs
 
--- where one is found, if so many are tried of so many
-abbrev found_at : (tried long : ℕ) → Option ℕ
-found_at tried long = cond (nat_lt tried long) (Some tried) None
-
-pub found : {A : Type 0} (f : A → A) (p : A → Bool) → ((x : A) → p (f x) ≡ p x) → (xs : List A) → position p (map f xs) ≡ position p xs
-found f p same xs =
-    ap (λ (n : ℕ). found_at n (length (map f xs))) (tried f p same xs)
-    ∙ ap (λ (n : ℕ). found_at (prefix_len (λ x. not (p x)) xs) n) (long f xs)
-
-pub got : {A : Type 0} (f : A → A) (xs : List A) (i : ℕ) → slice_get (map f xs) i ≡ option_map f (slice_get xs i)
-got f [] i = refl
-got f (x ∷ xs) zero = refl
-got f (x ∷ xs) (suc i) = got f xs i
-
-pub rest_of : {A : Type 0} (f : A → A) (at : ℕ) (xs : List A) → without_at at (map f xs) ≡ map f (without_at at xs)
-rest_of f at xs =
-    ap (λ l. l ++ drop (at + 1) (map f xs)) (take-map f at xs)
-    ∙ (ap (λ l. map f (take at xs) ++ l) (drop-map f (at + 1) xs)
-    ∙ sym (map-append f (take at xs) (drop (at + 1) xs)))
-
-pub listed : {A : Type 0} (f : A → A) (o : Option A) → map f (option_to_list o) ≡ option_to_list (option_map f o)
-listed f None = refl
-listed f (Some x) = refl
-
--- a list of which one item is taken out, and perhaps another one stands last
+-- and perhaps another one stands last
 pub left_over : {A : Type 0} (f : A → A) → ((x : A) → f (f x) ≡ f x) → (at : ℕ) (xs : List A) (o p : Option A) → option_map f o ≡ option_map f p →
     map f (without_at at (map f xs) ++ option_to_list o) ≡ map f (without_at at xs ++ option_to_list p)
 left_over f again at xs o p e =
@@ -134,23 +113,23 @@ module _ (heads : Heads) (site : Site) (keys : TKey → Bool) where
   tag_same role m = tag_by m.heard.trusted (places_in m.heard.start (private_places role m.heard)) m.heard.lines
 
   -- the early dialog, or what the INVITE began
-  begun_if : (b : Bool) (said : Remote) (d : Dialogue) (role : Role) (m : Said) → (known d.peer ≡ false → IsWhole role m) →
-      public_dialog known (met (cond b (met (called (public_dialog known d)) (public_said (known d.peer) said)) (called (public_dialog known d))) (remote_of Callee (without_private role m).heard.lines))
-      ≡ public_dialog known (met (cond b (met (called d) said) (called d)) (remote_of Callee m.heard.lines))
-  begun_if true said d role m told =
-      ap (λ (z : Dialogue). public_dialog known (met z (remote_of Callee (without_private role m).heard.lines))) (met_public (known d.peer) (called d) said)
-      ∙ met_alike heads site keys (met (called d) said) role m told
-  begun_if false said d role m told = met_alike heads site keys (called d) role m told
+  begun_if : (b : Bool) (asked : ℕ) (said : Remote) (d : Dialogue) (role : Role) (m : Said) → (known d.peer ≡ false → IsWhole role m) →
+      public_dialog known (met (cond b (met (record (called (public_dialog known d)) { own = asked }) (public_said (known d.peer) said)) (called (public_dialog known d))) (remote_of Callee (without_private role m).heard.lines))
+      ≡ public_dialog known (met (cond b (met (record (called d) { own = asked }) said) (called d)) (remote_of Callee m.heard.lines))
+  begun_if true asked said d role m told =
+      ap (λ (z : Dialogue). public_dialog known (met z (remote_of Callee (without_private role m).heard.lines))) (met_public (known d.peer) (record (called d) { own = asked }) said)
+      ∙ met_alike heads site keys (met (record (called d) { own = asked }) said) role m told
+  begun_if false asked said d role m told = met_alike heads site keys (called d) role m told
 
-  made_same : (within : Bool) (early : Option Remote) (d : Dialogue) (role : Role) (m : Said) → (known d.peer ≡ false → IsWhole role m) →
-      public_dialog known (made_from within (option_map (public_said (known d.peer)) early) (public_dialog known d) (remote_of Callee (without_private role m).heard.lines))
-      ≡ public_dialog known (made_from within early d (remote_of Callee m.heard.lines))
-  made_same true early d role m told = dialog_again known d
-  made_same false None d role m told = met_alike heads site keys (called d) role m told
-  made_same false (Some said) d role m told =
-      ap (λ (tag : List ℕ). public_dialog known (met (cond (bytes_eq said.tag tag) (met (called (public_dialog known d)) (public_said (known d.peer) said)) (called (public_dialog known d))) (remote_of Callee (without_private role m).heard.lines)))
+  made_same : (within : Bool) (early : Option Remote) (asked : ℕ) (d : Dialogue) (role : Role) (m : Said) → (known d.peer ≡ false → IsWhole role m) →
+      public_dialog known (made_from within (option_map (public_said (known d.peer)) early) asked (public_dialog known d) (remote_of Callee (without_private role m).heard.lines))
+      ≡ public_dialog known (made_from within early asked d (remote_of Callee m.heard.lines))
+  made_same true early asked d role m told = dialog_again known d
+  made_same false None asked d role m told = met_alike heads site keys (called d) role m told
+  made_same false (Some said) asked d role m told =
+      ap (λ (tag : List ℕ). public_dialog known (met (cond (bytes_eq said.tag tag) (met (record (called (public_dialog known d)) { own = asked }) (public_said (known d.peer) said)) (called (public_dialog known d))) (remote_of Callee (without_private role m).heard.lines)))
       (tag_same role m)
-      ∙ begun_if (bytes_eq said.tag (remote_of Callee m.heard.lines).tag) said d role m told
+      ∙ begun_if (bytes_eq said.tag (remote_of Callee m.heard.lines).tag) asked said d role m told
 
   ends-alike : (l : Loose) (d e : Dialogue) (one other : Desk) → public_dialog known d ≡ public_dialog known e → AlikeDesks T one other →
       RestsAlike T (loose_ones.acked_and_ended site.sip (public_loose known l) d one) (loose_ones.acked_and_ended site.sip l e other)
@@ -171,8 +150,8 @@ module _ (heads : Heads) (site : Site) (keys : TKey → Bool) where
       RestsAlike T (on_success_in site.sip (public_loose known l) (remote_of Callee (without_private role m).heard.lines) (option_map (public_dialog known) o) one) (on_success_in site.sip l (remote_of Callee m.heard.lines) o other)
   success-by None l role m one other told a =
       let i : Invitation = l.invitation in
-      ends-alike l (made_from l.within (public_invitation known i).early (public_dialog known i.dialogue) (remote_of Callee (without_private role m).heard.lines)) (made_from l.within i.early i.dialogue (remote_of Callee m.heard.lines)) one other
-      (made_same l.within i.early i.dialogue role m told) a
+      ends-alike l (made_from l.within (public_invitation known i).early i.asked (public_dialog known i.dialogue) (remote_of Callee (without_private role m).heard.lines)) (made_from l.within i.early i.asked i.dialogue (remote_of Callee m.heard.lines)) one other
+      (made_same l.within i.early i.asked i.dialogue role m told) a
   success-by (Some d) l role m one other told a = record {
     left = ap (λ (x : Loose). Some x) (loose_again known l);
     desk = acked-alike heads T site.sip d one other a;
@@ -327,30 +306,66 @@ module _ (heads : Heads) (site : Site) (keys : TKey → Bool) where
 
   -- ---- by the branch
 
-  taken_at-alike : (o : Option ℕ) (who : Identities2) (key : TKey) (role : Role) (m : Said) (c : Call) (one other : Desk) → ((at : ℕ) (t : Taken) → o ≡ Some at → slice_get c.taken at ≡ Some t → IsAnswer T key t.invitation.dialogue.peer role m) → AlikeDesks T one other →
-      AlikeSteps T (answered_taken_at site key (without_private role m) o (public_call known who c) one) (answered_taken_at site key m o c other)
-  taken_at-alike None who key role m c one other answer a = on-alike heads site keys who c one other a
-  taken_at-alike (Some at) who key role m c one other answer a =
-      subst (λ (o : Option Taken). AlikeSteps T (answered_taken site key (without_private role m) at o (public_call known who c) one) (answered_taken site key m at (slice_get c.taken at) c other)) (sym (got (public_taken known) c.taken at))
-      (taken-alike at (slice_get c.taken at) who key role m c one other (λ t e. answer at t refl e) a)
+  -- what is in flight with this branch is answered by the other side of the one that asked
+  abbrev FitsInFlight : (branch : List ℕ) → Role → Said → Call → Type 0
+  FitsInFlight branch role m c =
+      (place : ℕ) (flight : Flight) → position (is_in_flight branch) c.flights ≡ Some place → slice_get c.flights place ≡ Some flight → Fits c.opening (service_in c.phase) (other_of flight.side) m role
 
-  at-alike : (o : Option ℕ) (who : Identities2) (key : TKey) (role : Role) (m : Said) (branch : List ℕ) (c : Call) (one other : Desk) →
-      ((at : ℕ) (l : Loose) → o ≡ Some at → slice_get c.loose at ≡ Some l → IsAnswer T key l.invitation.dialogue.peer role m) →
-      ((at : ℕ) (t : Taken) → position (is_taken branch) c.taken ≡ Some at → slice_get c.taken at ≡ Some t → IsAnswer T key t.invitation.dialogue.peer role m) → AlikeDesks T one other →
-      AlikeSteps T (answered_at site key (without_private role m) branch o (public_call known who c) one) (answered_at site key m branch o c other)
-  at-alike None who key role m branch c one other loose taken a =
-      subst (λ (o : Option ℕ). AlikeSteps T (answered_taken_at site key (without_private role m) o (public_call known who c) one) (answered_taken_at site key m (position (is_taken branch) c.taken) c other)) (sym (found (public_taken known) (is_taken branch) (λ t. refl) c.taken))
-      (taken_at-alike (position (is_taken branch) c.taken) who key role m c one other taken a)
-  at-alike (Some at) who key role m branch c one other loose taken a =
-      subst (λ (o : Option Loose). AlikeSteps T (answered_loose site key (without_private role m) at o (public_call known who c) one) (answered_loose site key m at (slice_get c.loose at) c other)) (sym (got (public_loose known) c.loose at))
-      (loose-alike at (slice_get c.loose at) who key role m c one other (λ l e. loose at l refl e) a)
+  taken_at-alike : (o : Option ℕ) (who : Identities2) (at : ℕ) (key : TKey) (role : Role) (m : Said) (branch : List ℕ) (c : Call) (one other : Desk) → flights_are_asked T c.flights →
+      ((place : ℕ) (t : Taken) → o ≡ Some place → slice_get c.taken place ≡ Some t → IsAnswer T key t.invitation.dialogue.peer role m) → (o ≡ None → FitsInFlight branch role m c) → AlikeDesks T one other →
+      AlikeSteps T (answered_taken_at site at key (without_private role m) branch o (public_call known who c) one) (answered_taken_at site at key m branch o c other)
+  taken_at-alike None who at key role m branch c one other asked answer fits a =
+      subst (λ (o : Option ℕ). AlikeSteps T (answered_in_flight site at (without_private role m) o (public_call known who c) one) (answered_in_flight site at m (position (is_in_flight branch) c.flights) c other))
+      (sym (found (public_flight known) (is_in_flight branch) (λ flight. refl) c.flights))
+      (landed-alike heads site keys (position (is_in_flight branch) c.flights) who at role m c one other asked (fits refl) a)
+  taken_at-alike (Some place) who at key role m branch c one other asked answer fits a =
+      subst (λ (o : Option Taken). AlikeSteps T (answered_taken site key (without_private role m) place o (public_call known who c) one) (answered_taken site key m place (slice_get c.taken place) c other)) (sym (got (public_taken known) c.taken place))
+      (taken-alike place (slice_get c.taken place) who key role m c one other (λ t e. answer place t refl e) a)
 
-  other-alike : (who : Identities2) (key : TKey) (role : Role) (m : Said) (branch : List ℕ) (c : Call) (one other : Desk) → HearsOther T key branch role m c → AlikeDesks T one other →
-      AlikeSteps T (answered_other site key (without_private role m) branch (public_call known who c) one) (answered_other site key m branch c other)
+  at-alike : (o : Option ℕ) (who : Identities2) (at : ℕ) (key : TKey) (role : Role) (m : Said) (branch : List ℕ) (c : Call) (one other : Desk) → flights_are_asked T c.flights →
+      ((place : ℕ) (l : Loose) → o ≡ Some place → slice_get c.loose place ≡ Some l → IsAnswer T key l.invitation.dialogue.peer role m) →
+      ((place : ℕ) (t : Taken) → position (is_taken branch) c.taken ≡ Some place → slice_get c.taken place ≡ Some t → IsAnswer T key t.invitation.dialogue.peer role m) →
+      (o ≡ None → position (is_taken branch) c.taken ≡ None → FitsInFlight branch role m c) → AlikeDesks T one other →
+      AlikeSteps T (answered_at site at key (without_private role m) branch o (public_call known who c) one) (answered_at site at key m branch o c other)
+  at-alike None who at key role m branch c one other asked loose taken fits a =
+      subst (λ (o : Option ℕ). AlikeSteps T (answered_taken_at site at key (without_private role m) branch o (public_call known who c) one) (answered_taken_at site at key m branch (position (is_taken branch) c.taken) c other))
+      (sym (found (public_taken known) (is_taken branch) (λ t. refl) c.taken))
+      (taken_at-alike (position (is_taken branch) c.taken) who at key role m branch c one other asked taken (fits refl) a)
+  at-alike (Some place) who at key role m branch c one other asked loose taken fits a =
+      subst (λ (o : Option Loose). AlikeSteps T (answered_loose site key (without_private role m) place o (public_call known who c) one) (answered_loose site key m place (slice_get c.loose place) c other)) (sym (got (public_loose known) c.loose place))
+      (loose-alike place (slice_get c.loose place) who key role m c one other (λ l e. loose place l refl e) a)
+
+  other-alike : (who : Identities2) (at : ℕ) (key : TKey) (role : Role) (m : Said) (branch : List ℕ) (c : Call) (one other : Desk) → flights_are_asked T c.flights → HearsOther T key branch role m c →
+      AlikeDesks T one other →
+      AlikeSteps T (answered_other site at key (without_private role m) branch (public_call known who c) one) (answered_other site at key m branch c other)
   unfolding answered_other
-  other-alike who key role m branch c one other hears a =
-      subst (λ (o : Option ℕ). AlikeSteps T (answered_at site key (without_private role m) branch o (public_call known who c) one) (answered_at site key m branch (position (is_of branch) c.loose) c other)) (sym (found (public_loose known) (is_of branch) (λ l. refl) c.loose))
-      (at-alike (position (is_of branch) c.loose) who key role m branch c one other hears.loose hears.taken a)
+  other-alike who at key role m branch c one other asked hears a =
+      subst (λ (o : Option ℕ). AlikeSteps T (answered_at site at key (without_private role m) branch o (public_call known who c) one) (answered_at site at key m branch (position (is_of branch) c.loose) c other))
+      (sym (found (public_loose known) (is_of branch) (λ l. refl) c.loose))
+      (at-alike (position (is_of branch) c.loose) who at key role m branch c one other asked hears.loose hears.taken hears.flights a)
+
+  -- ---- silence
+
+  silent_public : (branch : List ℕ) (who : Identities2) (c : Call) → without_silent branch (public_call known who c) ≡ public_call known who (without_silent branch c)
+  silent_public branch who c = ap (λ (ls : List Loose). record (public_call known who c) { loose = ls }) (without_found (public_loose known) (is_of branch) (λ l. refl) c.loose)
+
+  silent_at-alike : (o : Option ℕ) (who : Identities2) (branch : List ℕ) (c : Call) (one other : Desk) → flights_are_asked T c.flights → AlikeDesks T one other →
+      AlikeSteps T (silent_other_at site branch o (public_call known who c) one) (silent_other_at site branch o c other)
+  silent_at-alike None who branch c one other asked a =
+      subst (λ (o : Option ℕ). AlikeSteps T (silent_in_flight site o (public_call known who c) one) (silent_in_flight site (position (is_in_flight branch) c.flights) c other))
+      (sym (found (public_flight known) (is_in_flight branch) (λ flight. refl) c.flights))
+      (silent-alike heads site keys (position (is_in_flight branch) c.flights) who c one other asked a)
+  silent_at-alike (Some place) who branch c one other asked a = on-alike-by heads site keys who (without_silent branch (public_call known who c)) (without_silent branch c) one other (silent_public branch who c) a
+
+  silences-alike : (who : Identities2) (branch : List ℕ) (c : Call) (one other : Desk) → flights_are_asked T c.flights → AlikeDesks T one other →
+      AlikeSteps T (silent_other site branch (public_call known who c) one) (silent_other site branch c other)
+  silences-alike who branch c one other asked a =
+      subst (λ (o : Option ℕ). AlikeSteps T (silent_other_at site branch o (public_call known who c) one) (silent_other_at site branch (position (is_of branch) c.loose) c other))
+      (sym (found (public_loose known) (is_of branch) (λ l. refl) c.loose))
+      (silent_at-alike (position (is_of branch) c.loose) who branch c one other asked a)
 
 pub answers_of_others : Heads → AnswersOfOthers
-answers_of_others heads site keys who key role m branch c one other hears a = other-alike heads site keys who key role m branch c one other hears a
+answers_of_others heads site keys who at key role m branch c one other asked hears a = other-alike heads site keys who at key role m branch c one other asked hears a
+
+pub silence_of_others : Heads → SilenceOfOthers
+silence_of_others heads site keys who branch c one other asked a = silences-alike heads site keys who branch c one other asked a

@@ -24,13 +24,16 @@ use Rattle.mmtel_call.specs.declared.calls.Phase.TheVariants.{Lent, Offered, Ove
 use Rattle.mmtel_call.specs.declared.calls.Stage.TheVariants.{Answered, Asking, Parting, Talking}
 use Rattle.mmtel_call.specs.Answered.{at_stage}
 use Rattle.mmtel_call.specs.Closing.{Step, over}
+use Rattle.mmtel_call.specs.Flights.{dismissed, dismissing}
 use Rattle.mmtel_call.specs.Lending.{finished, finished_in, first_of, last_of, lent_in, put_back_in, taken_out_in, with_meter}
 use Rattle.mmtel_call_laws.specs.Secret.Alike.{AlikeCalls}
 use Rattle.mmtel_call_laws.specs.Secret.Lending.{LendingKeepsAlike}
 use Rattle.mmtel_call_laws.specs.Secret.Parts.{nobody, public_call, public_leg, public_loan, public_part, public_phase, public_released}
-use Rattle.mmtel_call_laws.specs.Secret.Premises.{DecideAlike}
+use Rattle.mmtel_call_laws.specs.Secret.Premises.{DecideAlike, flights_are_asked}
 use Rattle.mmtel_call_laws.specs.Secret.Seen.{AlikeDesks, AlikeSteps, Trust, trust_of}
 use Rattle.mmtel_call_laws.proofs.Secret.Diverting.{steps-back, steps-then}
+use Rattle.mmtel_call_laws.proofs.Secret.Landing.{dismissals}
+use Rattle.mmtel_call_laws.proofs.Secret.Once.{call_once}
 use Rattle.mmtel_call_laws.proofs.Secret.Rows.{on-alike, over-alike}
 use Rattle.mmtel_call_laws.proofs.Secret.Sent.{Heads, asked-alike, same_desk}
 
@@ -145,26 +148,42 @@ module _ (heads : Heads) (site : Site) (keys : TKey → Bool) where
   without-alike (released.Callee leg) meter who at c one other a =
       over-alike heads site keys who at Ended meter leg.meter c (bye site.sip (public_leg known2 leg).dialogue one) (bye site.sip leg.dialogue other) (asked-alike heads T site.sip (codes "BYE") leg.dialogue [] [] one other a)
 
-  ends-alike : (p : Phase) (who : Identities2) (at : ℕ) (c : Call) (one other : Desk) → AlikeDesks T one other → AlikeSteps T (finished_in (public_phase known2 p) site at (public_call known2 who c) one) (finished_in p site at c other)
-  ends-alike (Offered x) who at c one other a = on-alike heads site keys who c one other a
-  ends-alike (Stood x stage) who at c one other a = on-alike heads site keys who c one other a
-  ends-alike (Lent loan) who at c one other a = without-alike loan.left loan.meter who at c one other a
-  ends-alike (Over cause) who at c one other a = on-alike heads site keys who c one other a
+  ends-alike : (p : Phase) (who : Identities2) (at : ℕ) (c : Call) (one other : Desk) → flights_are_asked T c.flights → AlikeDesks T one other →
+      AlikeSteps T (finished_in (public_phase known2 p) site at (public_call known2 who c) one) (finished_in p site at c other)
+  ends-alike (Offered x) who at c one other asked a = on-alike heads site keys who c one other a
+  ends-alike (Stood x stage) who at c one other asked a = on-alike heads site keys who c one other a
+  ends-alike (Lent loan) who at c one other asked a =
+      without-alike loan.left loan.meter who at (dismissed c) (dismissing site (public_call known2 who c) one) (dismissing site c other) (dismissals heads site keys who c one other asked a)
+  ends-alike (Over cause) who at c one other asked a = on-alike heads site keys who c one other a
 
-  finishes-alike : (who : Identities2) (at : ℕ) (c : Call) (one other : Desk) → AlikeDesks T one other → AlikeSteps T (finished site at (public_call known2 who c) one) (finished site at c other)
+  finishes-alike : (who : Identities2) (at : ℕ) (c : Call) (one other : Desk) → flights_are_asked T c.flights → AlikeDesks T one other →
+      AlikeSteps T (finished site at (public_call known2 who c) one) (finished site at c other)
   unfolding finished
-  finishes-alike who at c one other a = ends-alike c.phase who at c one other a
+  finishes-alike who at c one other asked a = ends-alike c.phase who at c one other asked a
 
-  both-end : (records : List Sheet) (at : ℕ) (c d : Call) (one other : Desk) → AlikeCalls records known2 c d → AlikeDesks T one other → AlikeSteps T (finished site at c one) (finished site at d other)
-  both-end records at c d one other alike a =
+  -- the call that is left does not rest on what went out
+  end_same : (p : Phase) (who : Identities2) (at : ℕ) (c : Call) (one other : Desk) →
+      public_part known2 (finished_in (public_phase known2 p) site at (public_call known2 who c) one).call ≡ public_part known2 (finished_in p site at c other).call
+  end_same (Offered x) who at c one other = call_once known2 nobody who c
+  end_same (Stood x stage) who at c one other = call_once known2 nobody who c
+  end_same (Lent loan) who at c one other = call_once known2 nobody who (finished_in (Lent loan) site at c other).call
+  end_same (Over cause) who at c one other = call_once known2 nobody who c
+
+  finish_same : (who : Identities2) (at : ℕ) (c : Call) (one other : Desk) → public_part known2 (finished site at (public_call known2 who c) one).call ≡ public_part known2 (finished site at c other).call
+  unfolding finished
+  finish_same who at c one other = end_same c.phase who at c one other
+
+  both-end : (records : List Sheet) (at : ℕ) (c d : Call) (one other : Desk) → AlikeCalls records known2 c d → flights_are_asked T c.flights → flights_are_asked T d.flights → AlikeDesks T one other →
+      AlikeSteps T (finished site at c one) (finished site at d other)
+  both-end records at c d one other alike first then a =
       let q : Step = finished site at (public_part known2 d) one in
       let moved : AlikeSteps T q (finished site at c one) =
-      subst (λ (z : Call). AlikeSteps T (finished site at z one) (finished site at c one)) alike.same (finishes-alike nobody at c one one (same_desk T one)) in
-      steps-then T (finished site at c one) q (finished site at d other) (steps-back T q (finished site at c one) moved) (finishes-alike nobody at d one other a)
+      subst (λ (z : Call). AlikeSteps T (finished site at z one) (finished site at c one)) alike.same (finishes-alike nobody at c one one first (same_desk T one)) in
+      steps-then T (finished site at c one) q (finished site at d other) (steps-back T q (finished site at c one) moved) (finishes-alike nobody at d one other then a)
 
-  both-ended : (records : List Sheet) (at : ℕ) (c d : Call) (one other : Desk) → AlikeCalls records known2 c d → AlikeDesks T one other → AlikeCalls records known2 (finished site at c one).call (finished site at d other).call
-  both-ended records at c d one other alike a = record {
-    same = (both-end records at c d one other alike a).call;
+  both-ended : (records : List Sheet) (at : ℕ) (c d : Call) (one other : Desk) → AlikeCalls records known2 c d → AlikeCalls records known2 (finished site at c one).call (finished site at d other).call
+  both-ended records at c d one other alike = record {
+    same = sym (finish_same nobody at c one one) ∙ (ap (λ (z : Call). public_part known2 (finished site at z one).call) alike.same ∙ finish_same nobody at d one other);
     callers = callers_stay known2 records c d (finished site at c one).call (finished site at d other).call (finished_stays site at c one) (finished_stays site at d other) alike.callers;
   }
 
@@ -173,6 +192,6 @@ lending_keeps_alike heads = record {
   legs = λ records known side c d alike. legs_alike known records side c d alike;
   out = λ records known side c d alike. out_alike known records side c d alike;
   back = λ records known leg other c d e alike. back_alike known records leg other c d e alike;
-  ends = λ records site keys at c d one other alike a. both-end heads site keys records at c d one other alike a;
-  ended = λ records site keys at c d one other alike a. both-ended heads site keys records at c d one other alike a;
+  ends = λ records site keys at c d one other alike first then a. both-end heads site keys records at c d one other alike first then a;
+  ended = λ records site keys at c d one other alike a. both-ended heads site keys records at c d one other alike;
 }

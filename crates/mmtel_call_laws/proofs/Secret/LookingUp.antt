@@ -1,6 +1,7 @@
 -- Of the URIs of accounts a step of a call sees the answers to its look-ups alone: under two configurations that are equal but for these it comes to the same, where the answers are the same.
-use Rattle.std.proofs.Common.{◌≡◌, ℕ, zero, suc, ◌==◌, Bool, true, false, not, List, refl, ap, ◌∙◌, cond, subst, Option, Some, None}
+use Rattle.std.proofs.Common.{◌≡◌, ℕ, zero, suc, ◌==◌, Bool, true, false, not, List, [], ◌∷◌, refl, ap, ◌∙◌, cond, subst, Option, Some, None}
 use Rattle.std.specs.Prelude.{◌&&◌, Result, Ok, Err, nat_lt, position, slice_get}
+use Rattle.std.specs.List.{filter}
 use Rattle.std.specs.Option.{option_map, option_or}
 use Rattle.mmtel_answers.specs.Said.{Said, status_of}
 use Rattle.mmtel_answers.specs.declared.attempts.Aim.{Aim}
@@ -14,12 +15,13 @@ use Rattle.mmtel_leg.specs.Legs.{Leg}
 use Rattle.mmtel_leg.specs.declared.dialogues.DialogueFault.{DialogueFault}
 use Rattle.mmtel_lex.specs.declared.values.Uri.{Uri}
 use Rattle.mmtel_precedence.specs.Attempts.{end_by_final, end_by_redirection, end_by_time, is_redirection, is_success, is_unreachable, is_user_busy}
-use Rattle.mmtel_precedence.specs.Calls.{Answer, Cancel, Deflection, End, NoReply, NotReachable, Other, Reach, Standing, UserBusy}
+use Rattle.mmtel_precedence.specs.Calls.{Answer, Cancel, Deflection, End, NoReply, NotReachable, Other, Reach, Standing, Unacknowledged, UserBusy}
 use Rattle.mmtel_precedence.specs.Moves.{account_at}
 use Rattle.mmtel_precedence.specs.Services.{DueDiversion, due_on, own_bound}
 use Rattle.mmtel_precedence.specs.Targets.{deflected_to}
 use Rattle.mmtel_precedence.specs.Turns.{AfterEnd, EndAnswered, EndDivert, EndRefuse, Turn, TurnDivert, TurnOffer, TurnRefuse, divert_or_refuse, turn_at, turn_on}
 use Rattle.mmtel_precedence.specs.Verdicts.{too_many}
+use Rattle.mmtel_reliable.specs.declared.racks.Rack.{Rack}
 use Rattle.mmtel_rules.specs.Circumstances.{Circumstances}
 use Rattle.mmtel_rules.specs.declared.values.When.TheVariants as event
 use Rattle.mmtel_sheet_values.specs.declared.values.Sheet.{Sheet}
@@ -32,7 +34,6 @@ use Rattle.mmtel_transaction.specs.declared.words.TKey.{TKey}
 use Rattle.mmtel_trust.specs.Accounts.{account_of}
 use Rattle.mmtel_trust.specs.declared.accounts.AccountIdentity.{AccountIdentity}
 use Rattle.mmtel_types.specs.declared.causes.Cause.{Cause}
-use Rattle.mmtel_types.specs.declared.causes.Cause.TheVariants as causes
 use Rattle.mmtel_types.specs.declared.numbers.Account.{Account}
 use Rattle.mmtel_types.specs.declared.numbers.Peer.{Peer}
 use Rattle.mmtel_types.specs.declared.sides.Side.{Side}
@@ -40,13 +41,17 @@ use Rattle.mmtel_types.specs.declared.sides.Side.TheVariants.{Caller, Callee}
 use Rattle.mmtel_call_decisions.specs.Decisions.{account_by, aim_at, decided_after, its_sheet, of_caller, peer_for, redirect_of, service_of, target_of, told_at}
 use Rattle.mmtel_desk.specs.Invites.{invite_answered, invite_silent}
 use Rattle.mmtel_call_decisions.specs.Opening.{first_of, opening_of, refusal_of}
-use Rattle.mmtel_call_decisions.specs.Showing.{shown_to}
+use Rattle.mmtel_call_decisions.specs.Reliable.{reliable_number}
+use Rattle.mmtel_call_decisions.specs.Showing.{offered_to, shown_to}
 use Rattle.mmtel_call_decisions.specs.Site.{Site}
 use Rattle.mmtel_call_decisions.specs.declared.openings.Arrival.{Arrival}
 use Rattle.mmtel_call_decisions.specs.declared.openings.Opening.{Opening}
 use Rattle.mmtel_call_decisions.specs.declared.openings.Service.{Service}
 use Rattle.mmtel_call.specs.Answered.{at_stage, leg_of, with_leg}
 use Rattle.mmtel_call.specs.declared.calls.Call.{Call}
+use Rattle.mmtel_call.specs.declared.calls.Flight.{Flight}
+use Rattle.mmtel_call.specs.declared.calls.FlightKind.{FlightKind}
+use Rattle.mmtel_call.specs.declared.calls.FlightKind.TheVariants.{Prack, Update}
 use Rattle.mmtel_call.specs.declared.calls.Pair.{Pair}
 use Rattle.mmtel_call.specs.declared.calls.Phase.{Phase}
 use Rattle.mmtel_call.specs.declared.calls.Stage.{Stage}
@@ -56,14 +61,19 @@ use Rattle.mmtel_call.specs.declared.calls.Phase.TheVariants.{Lent, Offered, Ove
 use Rattle.mmtel_call.specs.declared.calls.Stage.TheVariants.{Answered, Asking, Parting, Talking}
 use Rattle.mmtel_call.specs.Closing.{Step, onward}
 use Rattle.mmtel_call.specs.Diverting.{at_target, divert, diverted, goes_on, is_diverted, made, made_unless, on_end, on_turn, passed_by, refusal_by, refused, refused_by, told_of}
-use Rattle.mmtel_call.specs.Leaving.{answered_at, answered_loose, answered_other, answered_taken, answered_taken_at, is_taken, without_silent}
-use Rattle.mmtel_call.specs.Lending.{finished, finished_in}
+use Rattle.mmtel_call.specs.Flights.{agreed, answered_flight, answered_in_flight, dismissed, dismissed_all, dismissed_each, dismissed_flight, dismissing, final_of_flight, is_in_flight, is_updating}
+use Rattle.mmtel_call.specs.Flights.{relayed_back_to, settled_in, silent_flight, silent_in_flight, updating, without_flight}
+use Rattle.mmtel_call.specs.Leaving.{answered_at, answered_loose, answered_other, answered_taken, answered_taken_at, is_success as succeeds, is_taken, silent_other, silent_other_at}
+use Rattle.mmtel_call.specs.Lending.{finished, finished_by, finished_in}
 use Rattle.mmtel_call.specs.Opening.{caller_of, new_call, opened, unless_refused}
-use Rattle.mmtel_call.specs.Ringing.{answered, heard_by, left, cancelled_attempt, on_due, on_heard, on_request_if, on_response, proceeding, says_offered, silenced, timed_out, tried}
-use Rattle.mmtel_call.specs.Requests.{having_heard, is_bye, is_invite, says, unlisted}
+use Rattle.mmtel_call.specs.Reliable.{acknowledged_by, acknowledging, answer_named, on_rack, own_for, prack_refused}
+use Rattle.mmtel_call.specs.Ringing.{answered, given_up, heard_by, left, cancelled_attempt, on_due, on_heard, on_other, on_prack_of, on_request_if, on_response, proceeding, proceeding_by}
+use Rattle.mmtel_call.specs.Ringing.{relayed_if, says_offered, silenced, timed_out, tried}
+use Rattle.mmtel_call.specs.Requests.{having_heard, is_bye, is_invite, is_prack, is_update, says, unlisted}
 use Rattle.mmtel_call.specs.Sending.{replied_to, told_caller}
 use Rattle.mmtel_call.specs.Stages.{busy_in, has_left, is_due_at, left_by, on_ack_at, on_bye, on_cancel_at, on_heard_at, on_invite, on_request_at_if, on_response_at, on_silence_at, rung_out}
-use Rattle.mmtel_call.specs.Table.{ack_in, answer_to, cancel_in, due_in, is_current, request_in, response_in, silence_in, silence_of, step}
+use Rattle.mmtel_call.specs.Updates.{later, on_update, on_update_at, takes_updates, unless_updating, updated_across, updated_early}
+use Rattle.mmtel_call.specs.Table.{ack_in, answer_to, cancel_in, due_in, is_current, leaves, request_in, response_in, row, silence_in, silence_of, step}
 use Rattle.mmtel_call.specs.declared.signals.Signal.{Signal}
 use Rattle.mmtel_call.specs.declared.signals.Signal.TheVariants as signal
 use Rattle.mmtel_call.specs.Offering.{offer}
@@ -81,6 +91,30 @@ if-where : (b : Bool) (p q v w : Step) → (b ≡ true → p ≡ v) → q ≡ w 
 if-where true p q v w e f = e refl
 if-where false p q v w e f = f
 
+-- ---- what is in flight is dismissed
+
+module _ (site : Site) (accounts : List AccountIdentity) where
+  abbrev far1 : Site
+  far1 = record site { accounts = accounts }
+
+  each-same : (fs : List Flight) (c : Call) (desk : Desk) → dismissed_each site c fs desk ≡ dismissed_each far1 c fs desk
+  each-same [] c desk = refl
+  each-same (flight ∷ fs) c desk = each-same fs c (dismissed_flight site c flight desk)
+
+  settled-same : (p : Phase) (c : Call) (desk : Desk) → settled_in p site c desk ≡ settled_in p far1 c desk
+  settled-same (Offered x) c desk = refl
+  settled-same (Stood x stage) c desk = refl
+  settled-same (Lent loan) c desk = refl
+  settled-same (Over cause) c desk = refl
+
+  all-same : (c : Call) (desk : Desk) → dismissed_all site c desk ≡ dismissed_all far1 c desk
+  all-same c desk =
+      let pracks : List Flight = filter (λ (flight : Flight). not (is_updating flight)) c.flights in
+      each-same (filter is_updating c.flights) c (dismissed_each site c pracks desk) ∙ ap (λ (d : Desk). dismissed_each far1 c (filter is_updating c.flights) d) (each-same pracks c desk)
+
+  pub dismissing-same : (c : Call) (desk : Desk) → dismissing site c desk ≡ dismissing far1 c desk
+  dismissing-same c desk = settled-same c.phase c (dismissed_all site c desk) ∙ ap (λ (d : Desk). settled_in c.phase far1 c d) (all-same c desk)
+
 -- ---- rows that look no account up
 
 module _ (site : Site) (accounts : List AccountIdentity) (now : Standing) where
@@ -93,7 +127,7 @@ module _ (site : Site) (accounts : List AccountIdentity) (now : Standing) where
 
   pub offer-same : (caller : Leg) (service : Option Service) (waiting : Bool) (aim : Aim) (c : Call) (desk : Desk) →
       offer site now.at caller service waiting aim c desk ≡ offer far now.at caller service waiting aim c desk
-  unfolding shown_to
+  unfolding offered_to
   offer-same caller service waiting aim c desk = refl
 
   pub refused_by-same : (caller : Leg) (service : Option Service) (m : Option Said) (cause : Cause) (c : Call) (desk : Desk) →
@@ -102,10 +136,70 @@ module _ (site : Site) (accounts : List AccountIdentity) (now : Standing) where
   refused_by-same caller service None cause c desk = refl
   refused_by-same caller service (Some m) cause c desk = refl
 
+  -- PRACK and UPDATE
+  named-same : (answer : Option ℕ) (x : Trial) (key : TKey) (m : Said) (rack : Rack) (c : Call) (desk : Desk) → acknowledging site x key m rack answer c desk ≡ acknowledging far x key m rack answer c desk
+  unfolding shown_to
+  named-same None x key m rack c desk = refl
+  named-same (Some answer) x key m rack c desk = refl
+
+  rack-same : (o : Option Rack) (x : Trial) (key : TKey) (m : Said) (c : Call) (desk : Desk) → on_rack site x key m o c desk ≡ on_rack far x key m o c desk
+  rack-same None x key m c desk = refl
+  rack-same (Some rack) x key m c desk = named-same (answer_named x c rack) x key m rack c desk
+
+  prack-same : (side : Side) (x : Trial) (key : TKey) (m : Said) (c : Call) (desk : Desk) → on_prack_of side site x key m c desk ≡ on_prack_of side far x key m c desk
+  prack-same Caller x key m c desk = rack-same (acknowledged_by m) x key m c desk
+  prack-same Callee x key m c desk = refl
+
+  unless-flies : (o : Option Side) (f g : Call → Desk → Step) (side : Side) (key : TKey) (m : Said) (c : Call) (desk : Desk) → f c desk ≡ g c desk →
+      unless_updating o f site side key m c desk ≡ unless_updating o g far side key m c desk
+  unless-flies None f g side key m c desk e = e
+  unless-flies (Some flies) f g side key m c desk e = refl
+
+  early-same : (x : Trial) (side : Side) (key : TKey) (m : Said) (c : Call) (desk : Desk) → updated_early site x side key m c desk ≡ updated_early far x side key m c desk
+  unfolding shown_to
+  early-same x side key m c desk = refl
+
+  update-same : (x : Trial) (side : Side) (key : TKey) (m : Said) (c : Call) (desk : Desk) → on_update site x side key m c desk ≡ on_update far x side key m c desk
+  update-same x side key m c desk =
+      if-same (takes_updates x) (unless_updating (updating c.flights) (updated_early site x side key m) site side key m c desk) (later site key m c desk)
+      (unless_updating (updating c.flights) (updated_early far x side key m) far side key m c desk) (later far key m c desk)
+      (unless-flies (updating c.flights) (updated_early site x side key m) (updated_early far x side key m) side key m c desk (early-same x side key m c desk)) refl
+
+  across-same : (x : Pair) (side : Side) (key : TKey) (m : Said) (c : Call) (desk : Desk) → updated_across site x side key m c desk ≡ updated_across far x side key m c desk
+  unfolding shown_to
+  across-same x side key m c desk = refl
+
+  update_at-same : (stage : Stage) (x : Pair) (side : Side) (key : TKey) (m : Said) (c : Call) (desk : Desk) → on_update_at stage site x side key m c desk ≡ on_update_at stage far x side key m c desk
+  update_at-same (Answered waiting success) x side key m c desk = refl
+  update_at-same (Parting waiting success) x side key m c desk = refl
+  update_at-same Talking x side key m c desk = unless-flies (updating c.flights) (updated_across site x side key m) (updated_across far x side key m) side key m c desk (across-same x side key m c desk)
+  update_at-same (Asking asking q) x side key m c desk = refl
+
   -- while it is offered
+  offered-other : (x : Trial) (side : Side) (key : TKey) (m : Said) (c : Call) (desk : Desk) → on_other site x side key m c desk ≡ on_other far x side key m c desk
+  offered-other x side key m c desk =
+      if-same (is_prack m) (on_prack_of side site x key m c desk) (cond (is_update m) (on_update site x side key m c desk) (onward c (unlisted site c key m desk)))
+      (on_prack_of side far x key m c desk) (cond (is_update m) (on_update far x side key m c desk) (onward c (unlisted far c key m desk)))
+      (prack-same side x key m c desk)
+      (if-same (is_update m) (on_update site x side key m c desk) (onward c (unlisted site c key m desk)) (on_update far x side key m c desk) (onward c (unlisted far c key m desk)) (update-same x side key m c desk) refl)
+
   offered-heard : (x : Trial) (side : Side) (key : TKey) (m : Said) (c : Call) (desk : Desk) → on_heard site now.at x side key m c desk ≡ on_heard far now.at x side key m c desk
-  offered-heard x Caller key m c desk = refl
-  offered-heard x Callee key m c desk = refl
+  offered-heard x Caller key m c desk =
+      if-same (is_bye m) (given_up site now.at x c (replied_to site c key m 200 desk)) (on_other site x Caller key m c desk) (given_up far now.at x c (replied_to far c key m 200 desk)) (on_other far x Caller key m c desk)
+      refl (offered-other x Caller key m c desk)
+  offered-heard x Callee key m c desk = offered-other x Callee key m c desk
+
+  -- a provisional response of the target
+  numbered-same : (own : Option ℕ) (rseq : ℕ) (x : Trial) (key : TKey) (m : Said) (code : ℕ) (c : Call) (desk : Desk) →
+      relayed_if own rseq site now.at x key m code c desk ≡ relayed_if own rseq far now.at x key m code c desk
+  unfolding shown_to
+  numbered-same None rseq x key m code c desk = refl
+  numbered-same (Some own) rseq x key m code c desk = refl
+
+  proceeding-same : (rseq : Option ℕ) (x : Trial) (key : TKey) (m : Said) (code : ℕ) (c : Call) (desk : Desk) → proceeding_by rseq site now.at x key m code c desk ≡ proceeding_by rseq far now.at x key m code c desk
+  unfolding shown_to
+  proceeding-same None x key m code c desk = refl
+  proceeding-same (Some rseq) x key m code c desk = numbered-same (own_for rseq x m c) rseq x key m code c desk
 
   offered-request : (r : Result (Unit {0}) DialogueFault) (x : Trial) (side : Side) (key : TKey) (m : Said) (c : Call) (desk : Desk) →
       on_request_if r site now.at x side key m c desk ≡ on_request_if r far now.at x side key m c desk
@@ -134,11 +228,15 @@ module _ (site : Site) (accounts : List AccountIdentity) (now : Standing) where
 
   heard-same : (stage : Stage) (x : Pair) (side : Side) (key : TKey) (m : Said) (c : Call) (desk : Desk) → on_heard_at stage site now.at x side key m c desk ≡ on_heard_at stage far now.at x side key m c desk
   heard-same stage x side key m c desk =
-      if-same (is_invite m) (on_invite stage site x side key m c desk) (cond (is_bye m) (on_bye stage site now.at x side key m c desk) (onward c (unlisted site c key m desk)))
-      (on_invite stage far x side key m c desk) (cond (is_bye m) (on_bye stage far now.at x side key m c desk) (onward c (unlisted far c key m desk)))
+      let acks : Step = cond (is_prack m) (prack_refused site key m c desk) (onward c (unlisted site c key m desk)) in
+      let far_acks : Step = cond (is_prack m) (prack_refused far key m c desk) (onward c (unlisted far c key m desk)) in
+      let updates : Step = cond (is_update m) (on_update_at stage site x side key m c desk) acks in
+      let far_updates : Step = cond (is_update m) (on_update_at stage far x side key m c desk) far_acks in
+      if-same (is_invite m) (on_invite stage site x side key m c desk) (cond (is_bye m) (on_bye stage site now.at x side key m c desk) updates)
+      (on_invite stage far x side key m c desk) (cond (is_bye m) (on_bye stage far now.at x side key m c desk) far_updates)
       (invite-same stage x side key m c desk)
-      (if-same (is_bye m) (on_bye stage site now.at x side key m c desk) (onward c (unlisted site c key m desk)) (on_bye stage far now.at x side key m c desk) (onward c (unlisted far c key m desk))
-      (bye-same stage x side key m c desk) refl)
+      (if-same (is_bye m) (on_bye stage site now.at x side key m c desk) updates (on_bye stage far now.at x side key m c desk) far_updates (bye-same stage x side key m c desk)
+      (if-same (is_update m) (on_update_at stage site x side key m c desk) acks (on_update_at stage far x side key m c desk) far_acks (update_at-same stage x side key m c desk) refl))
 
   request-same : (r : Result (Unit {0}) DialogueFault) (stage : Stage) (x : Pair) (side : Side) (key : TKey) (m : Said) (c : Call) (desk : Desk) →
       on_request_at_if r stage site now.at x side key m c desk ≡ on_request_at_if r stage far now.at x side key m c desk
@@ -187,17 +285,55 @@ module _ (site : Site) (accounts : List AccountIdentity) (now : Standing) where
   taken-same at None key m c desk = refl
   taken-same at (Some t) key m c desk = refl
 
-  taken_at-same : (o : Option ℕ) (key : TKey) (m : Said) (c : Call) (desk : Desk) → answered_taken_at site key m o c desk ≡ answered_taken_at far key m o c desk
-  taken_at-same None key m c desk = refl
-  taken_at-same (Some at) key m c desk = taken-same at (slice_get c.taken at) key m c desk
+  agreed-same : (kind : FlightKind) (flight : Flight) (m : Said) (c : Call) (desk : Desk) →
+      agreed kind site now.at flight.side flight.asked.request m c (relayed_back_to site flight m c desk) ≡ agreed kind far now.at flight.side flight.asked.request m c (relayed_back_to far flight m c desk)
+  unfolding shown_to
+  agreed-same Prack flight m c desk = refl
+  agreed-same Update flight m c desk = refl
 
-  at-same : (o : Option ℕ) (key : TKey) (m : Said) (branch : List ℕ) (c : Call) (desk : Desk) → answered_at site key m branch o c desk ≡ answered_at far key m branch o c desk
-  at-same None key m branch c desk = taken_at-same (position (is_taken branch) c.taken) key m c desk
+  back-same : (flight : Flight) (m : Said) (c : Call) (desk : Desk) → onward c (relayed_back_to site flight m c desk) ≡ onward c (relayed_back_to far flight m c desk)
+  unfolding shown_to
+  back-same flight m c desk = refl
+
+  flight-same : (place : ℕ) (o : Option Flight) (m : Said) (code : ℕ) (c : Call) (desk : Desk) → answered_flight site now.at m code place o c desk ≡ answered_flight far now.at m code place o c desk
+  flight-same place None m code c desk = refl
+  flight-same place (Some flight) m code c desk =
+      let d : Call = without_flight place c in
+      if-same (nat_lt code 200) (onward c desk) (final_of_flight site now.at flight m code d desk) (onward c desk) (final_of_flight far now.at flight m code d desk) refl
+      (if-same (succeeds code) (agreed flight.kind site now.at flight.side flight.asked.request m d (relayed_back_to site flight m d desk)) (onward d (relayed_back_to site flight m d desk))
+      (agreed flight.kind far now.at flight.side flight.asked.request m d (relayed_back_to far flight m d desk)) (onward d (relayed_back_to far flight m d desk))
+      (agreed-same flight.kind flight m d desk) (back-same flight m d desk))
+
+  flying-same : (o : Option ℕ) (m : Said) (c : Call) (desk : Desk) → answered_in_flight site now.at m o c desk ≡ answered_in_flight far now.at m o c desk
+  flying-same None m c desk = refl
+  flying-same (Some place) m c desk = flight-same place (slice_get c.flights place) m (status_of m.heard.start) c desk
+
+  taken_at-same : (o : Option ℕ) (key : TKey) (m : Said) (branch : List ℕ) (c : Call) (desk : Desk) → answered_taken_at site now.at key m branch o c desk ≡ answered_taken_at far now.at key m branch o c desk
+  taken_at-same None key m branch c desk = flying-same (position (is_in_flight branch) c.flights) m c desk
+  taken_at-same (Some at) key m branch c desk = taken-same at (slice_get c.taken at) key m c desk
+
+  at-same : (o : Option ℕ) (key : TKey) (m : Said) (branch : List ℕ) (c : Call) (desk : Desk) → answered_at site now.at key m branch o c desk ≡ answered_at far now.at key m branch o c desk
+  at-same None key m branch c desk = taken_at-same (position (is_taken branch) c.taken) key m branch c desk
   at-same (Some at) key m branch c desk = loose-same at (slice_get c.loose at) key m c desk
 
-  pub other-same : (key : TKey) (m : Said) (branch : List ℕ) (c : Call) (desk : Desk) → answered_other site key m branch c desk ≡ answered_other far key m branch c desk
+  pub other-same : (key : TKey) (m : Said) (branch : List ℕ) (c : Call) (desk : Desk) → answered_other site now.at key m branch c desk ≡ answered_other far now.at key m branch c desk
   unfolding answered_other
   other-same key m branch c desk = at-same (position (is_of branch) c.loose) key m branch c desk
+
+  silent-flight-same : (place : ℕ) (o : Option Flight) (c : Call) (desk : Desk) → silent_flight site place o c desk ≡ silent_flight far place o c desk
+  silent-flight-same place None c desk = refl
+  silent-flight-same place (Some flight) c desk = refl
+
+  silent-flying-same : (o : Option ℕ) (c : Call) (desk : Desk) → silent_in_flight site o c desk ≡ silent_in_flight far o c desk
+  silent-flying-same None c desk = refl
+  silent-flying-same (Some place) c desk = silent-flight-same place (slice_get c.flights place) c desk
+
+  silent-at-same : (o : Option ℕ) (branch : List ℕ) (c : Call) (desk : Desk) → silent_other_at site branch o c desk ≡ silent_other_at far branch o c desk
+  silent-at-same None branch c desk = silent-flying-same (position (is_in_flight branch) c.flights) c desk
+  silent-at-same (Some at) branch c desk = refl
+
+  pub silent-same : (branch : List ℕ) (c : Call) (desk : Desk) → silent_other site branch c desk ≡ silent_other far branch c desk
+  silent-same branch c desk = silent-at-same (position (is_of branch) c.loose) branch c desk
 
   -- by phase
   pub in-request : (p : Phase) (side : Side) (key : TKey) (m : Said) (c : Call) (desk : Desk) → request_in p site now.at side key m c desk ≡ request_in p far now.at side key m c desk
@@ -312,6 +448,7 @@ module _ (records : List Sheet) (site : Site) (accounts : List AccountIdentity) 
   abbrev HowSame : End → Type 0
   HowSame Answer = Unit {0}
   HowSame Cancel = Unit {0}
+  HowSame Unacknowledged = Unit {0}
   HowSame (UserBusy code) = Unit {0}
   HowSame (NotReachable code) = Unit {0}
   HowSame NoReply = Unit {0}
@@ -329,6 +466,7 @@ module _ (records : List Sheet) (site : Site) (accounts : List AccountIdentity) 
   after-looks : (k : Circumstances) (sheet : Option Sheet) (how : End) → ((s : Sheet) → sheet ≡ Some s → IsAmong records s) → HowSame how → AfterSame (turn_on k sheet how)
   after-looks k sheet Answer is e = tt
   after-looks k sheet Cancel is e = tt
+  after-looks k sheet Unacknowledged is e = tt
   after-looks k None (UserBusy code) is e = tt
   after-looks k (Some s) (UserBusy code) is e = due-looks s (is s refl) (due_on k event.Busy s) _ (due-leads s k event.Busy)
   after-looks k None (NotReachable code) is e = tt
@@ -375,8 +513,14 @@ module _ (records : List Sheet) (site : Site) (accounts : List AccountIdentity) 
       on_response site now x key m code c desk ≡ on_response far2 now x key m code c desk
   unfolding shown_to
   offered-response x key m code c desk its e =
-      ap (λ (s : Step). cond (nat_lt code 101) (tried key x c desk) (cond (nat_lt code 200) (proceeding site now.at x key m code c desk) (cond (nat_lt code 300) (answered site now.at x key m c desk) s)))
-      (goes-same x (end_by_final code (redirect_of m) x.attempt.rang) (Some m) c (final_acked site.sip key x.attempt.invitation m.heard desk) its (final-looks code (redirect_of m) x.attempt.rang e))
+      let failed_one : Step = goes_on site now x (end_by_final code (redirect_of m) x.attempt.rang) (Some m) c (final_acked site.sip key x.attempt.invitation m.heard desk) in
+      let failed_other : Step = goes_on far2 now x (end_by_final code (redirect_of m) x.attempt.rang) (Some m) c (final_acked site.sip key x.attempt.invitation m.heard desk) in
+      if-same (nat_lt code 101) (tried key x c desk) (cond (nat_lt code 200) (proceeding site now.at x key m code c desk) (cond (nat_lt code 300) (answered site now.at x key m c desk) failed_one))
+      (tried key x c desk) (cond (nat_lt code 200) (proceeding far2 now.at x key m code c desk) (cond (nat_lt code 300) (answered far2 now.at x key m c desk) failed_other)) refl
+      (if-same (nat_lt code 200) (proceeding site now.at x key m code c desk) (cond (nat_lt code 300) (answered site now.at x key m c desk) failed_one)
+      (proceeding far2 now.at x key m code c desk) (cond (nat_lt code 300) (answered far2 now.at x key m c desk) failed_other) (proceeding-same site accounts now (reliable_number site c.opening m) x key m code c desk)
+      (ap (λ (s : Step). cond (nat_lt code 300) (answered site now.at x key m c desk) s)
+      (goes-same x (end_by_final code (redirect_of m) x.attempt.rang) (Some m) c (final_acked site.sip key x.attempt.invitation m.heard desk) its (final-looks code (redirect_of m) x.attempt.rang e))))
 
   offered-silence : (x : Trial) (c : Call) (desk : Desk) → ServiceIsAsked records x.attempt.service → silenced site now x c desk ≡ silenced far2 now x c desk
   offered-silence x c desk its = ap (λ (s : Step). cond x.attempt.rang (onward c desk) s) (goes-same x (NotReachable 408) None c desk its tt)
@@ -414,22 +558,45 @@ module _ (records : List Sheet) (site : Site) (accounts : List AccountIdentity) 
   to-answer : (o : Option (List ℕ)) (key : TKey) (m : Said) (c : Call) (desk : Desk) → ServedIn c.phase records → AnswerLeads o site far2 m c → answer_to o site now key m c desk ≡ answer_to o far2 now key m c desk
   to-answer None key m c desk its e = refl
   to-answer (Some branch) key m c desk its e =
-      if-where (is_current branch c) (response_in c.phase site now key m c desk) (answered_other site key m branch c desk) (response_in c.phase far2 now key m c desk) (answered_other far2 key m branch c desk)
+      if-where (is_current branch c) (response_in c.phase site now key m c desk) (answered_other site now.at key m branch c desk) (response_in c.phase far2 now key m c desk) (answered_other far2 now.at key m branch c desk)
       (λ current. in-response c.phase key m c desk its (e current)) (other-same site accounts now key m branch c desk)
 
   to-silence : (o : Option (List ℕ)) (c : Call) (desk : Desk) → ServedIn c.phase records → silence_of o site now c desk ≡ silence_of o far2 now c desk
   to-silence None c desk its = refl
-  to-silence (Some branch) c desk its = ap (λ (s : Step). cond (is_current branch c) s (onward (without_silent branch c) desk)) (in-silence c.phase c desk its)
+  to-silence (Some branch) c desk its =
+      if-same (is_current branch c) (silence_in c.phase site now c desk) (silent_other site branch c desk) (silence_in c.phase far2 now c desk) (silent_other far2 branch c desk)
+      (in-silence c.phase c desk its) (silent-same site accounts now branch c desk)
+
+  row-same : (x : Signal) (c : Call) (desk : Desk) → ServedIn c.phase records → StepLeads site far2 x c → row site now x c desk ≡ row far2 now x c desk
+  unfolding row
+  row-same (signal.Request side key request) c desk its e = in-request site accounts now c.phase side key request c desk
+  row-same (signal.Ack side ack) c desk its e = in-ack site accounts now c.phase side ack c desk
+  row-same (signal.Cancel key cancel invite) c desk its e = in-cancel site accounts now c.phase key cancel invite c desk
+  row-same (signal.Answer key response) c desk its e = to-answer (invite_answered response) key response c desk its e
+  row-same (signal.Silent branch method) c desk its e = to-silence (invite_silent branch method) c desk its
+  row-same (signal.Due what) c desk its e = in-due c.phase what c desk its
+  row-same (signal.Ended key) c desk its e = refl
+
+  -- where nothing is in flight
+  leads-still : (x : Signal) (c : Call) → StepLeads site far2 x c → StepLeads site far2 x (dismissed c)
+  leads-still (signal.Request side key request) c e = tt
+  leads-still (signal.Ack side ack) c e = tt
+  leads-still (signal.Cancel key cancel invite) c e = tt
+  leads-still (signal.Answer key response) c e = answer-still (invite_answered response) e
+    where
+      answer-still : (o : Option (List ℕ)) → AnswerLeads o site far2 response c → AnswerLeads o site far2 response (dismissed c)
+      answer-still None a = tt
+      answer-still (Some branch) a = a
+  leads-still (signal.Silent branch method) c e = tt
+  leads-still (signal.Due what) c e = tt
+  leads-still (signal.Ended key) c e = tt
 
   step-same : (x : Signal) (c : Call) (desk : Desk) → ServedIn c.phase records → StepLeads site far2 x c → step site now x c desk ≡ step far2 now x c desk
   unfolding step
-  step-same (signal.Request side key request) c desk its e = in-request site accounts now c.phase side key request c desk
-  step-same (signal.Ack side ack) c desk its e = in-ack site accounts now c.phase side ack c desk
-  step-same (signal.Cancel key cancel invite) c desk its e = in-cancel site accounts now c.phase key cancel invite c desk
-  step-same (signal.Answer key response) c desk its e = to-answer (invite_answered response) key response c desk its e
-  step-same (signal.Silent branch method) c desk its e = to-silence (invite_silent branch method) c desk its
-  step-same (signal.Due what) c desk its e = in-due c.phase what c desk its
-  step-same (signal.Ended key) c desk its e = refl
+  step-same x c desk its e =
+      if-same (leaves x c) (row site now x (dismissed c) (dismissing site c desk)) (row site now x c desk) (row far2 now x (dismissed c) (dismissing far2 c desk)) (row far2 now x c desk)
+      (row-same x (dismissed c) (dismissing site c desk) its (leads-still x c e) ∙ ap (λ (d : Desk). row far2 now x (dismissed c) d) (dismissing-same site accounts c desk))
+      (row-same x c desk its e)
 
   -- ---- the opening
 
@@ -492,7 +659,7 @@ openings_see_look_ups_alone records one other now a desk equal lead stand e =
 finish_in : (site : Site) (accounts : List AccountIdentity) (at : ℕ) (p : Phase) (c : Call) (desk : Desk) → finished_in p site at c desk ≡ finished_in p (record site { accounts = accounts }) at c desk
 finish_in site accounts at (Offered x) c desk = refl
 finish_in site accounts at (Stood x stage) c desk = refl
-finish_in site accounts at (Lent loan) c desk = refl
+finish_in site accounts at (Lent loan) c desk = ap (λ (d : Desk). finished_by site at loan (dismissed c) d) (dismissing-same site accounts c desk)
 finish_in site accounts at (Over cause) c desk = refl
 
 pub ends_look_up_none : EndsLookUpNone

@@ -1,6 +1,5 @@
 -- How a call is offered to a target sees public parts alone.
 use Rattle.std.proofs.Common.{◌≡◌, ℕ, Bool, true, false, List, [], ◌∷◌, ◌++◌, refl, ap, sym, ◌∙◌, codes, subst}
-use Rattle.std.proofs.lemmas.List.Elements.{filter-append}
 use Rattle.std.specs.Prelude.{◌+◌, Option}
 use Rattle.mmtel_answers.specs.Attempts.{alert_lines, called, calling, invite_of}
 use Rattle.mmtel_answers.specs.Requests.{relaying}
@@ -16,24 +15,20 @@ use Rattle.mmtel_leg.specs.declared.dialogues.Dialogue.{Dialogue}
 use Rattle.mmtel_masks.proofs.RequestLaws.{shown_head}
 use Rattle.mmtel_masks.specs.Requests.{bringing}
 use Rattle.mmtel_masks.specs.Responses.{AreForeign}
-use Rattle.mmtel_message.specs.Message.{Line, is_line, named}
-use Rattle.mmtel_message.specs.declared.messages.Start.TheVariants.{Status}
+use Rattle.mmtel_message.specs.Message.{Line}
+use Rattle.mmtel_reliable.specs.Acks as Acks
 use Rattle.mmtel_rules.specs.declared.values.Identities2.{Identities2}
 use Rattle.mmtel_transaction.specs.declared.words.DueWord.TheVariants as due
 use Rattle.mmtel_transaction.specs.declared.words.Emit.{Emit}
 use Rattle.mmtel_transaction.specs.declared.words.Emit.TheVariants as emit
 use Rattle.mmtel_transaction.specs.declared.words.TKey.{TKey}
 use Rattle.mmtel_trust.proofs.Kept.{from-entries}
-use Rattle.mmtel_trust.proofs.TableLaws.{own_shown}
 use Rattle.mmtel_trust.specs.Digest.{HeardMessage}
-use Rattle.mmtel_trust.specs.Kinds.{kind_of}
 use Rattle.mmtel_trust.specs.Mask.{Places, masked_lines}
 use Rattle.mmtel_trust.specs.MaskedMessages.{private_entries}
-use Rattle.mmtel_trust.specs.Passed.{attempt_from, is_shown, shown_lines}
-use Rattle.mmtel_trust.specs.declared.showing.Facing.{Facing}
+use Rattle.mmtel_trust.specs.Passed.{attempt_from}
 use Rattle.mmtel_types.specs.declared.numbers.Peer.{Peer}
-use Rattle.mmtel_types.specs.declared.sides.Side.TheVariants.{Caller}
-use Rattle.mmtel_call_decisions.specs.Showing.{masks_all, shown_to}
+use Rattle.mmtel_call_decisions.specs.Showing.{masks_all, offered_to}
 use Rattle.mmtel_call_decisions.specs.Site.{Site, trusts}
 use Rattle.mmtel_call_decisions.specs.declared.openings.Opening.{Opening}
 use Rattle.mmtel_call_decisions.specs.declared.openings.Service.{Service}
@@ -46,25 +41,16 @@ use Rattle.mmtel_call.specs.Offering.{dialog_of, longest_time, next_attempt, off
 use Rattle.mmtel_call_laws.specs.Secret.Parts.{nobody, public_attempt, public_call, public_diverted, public_leg, public_opening, public_part, public_tried}
 use Rattle.mmtel_call_laws.specs.Secret.Roles.{Plain, hides, hidden_by, opening_role, private_places, without_private}
 use Rattle.mmtel_call_laws.specs.Secret.Seen.{AlikeDesks, AlikeSteps, Trust, seen, seen_all, trust_of, with_out}
+use Rattle.mmtel_call_laws.proofs.Secret.Numbers.{both_foreign, line_foreign}
 use Rattle.mmtel_call_laws.proofs.Secret.Once.{call_once, leg_again}
 use Rattle.mmtel_call_laws.proofs.Secret.Sent.{Heads, as_with, one_more, text_if}
-use Rattle.mmtel_call_laws.proofs.Secret.Shown.{entries_placed, shown-foreign, shown-same}
+use Rattle.mmtel_call_laws.proofs.Secret.Shown.{entries_placed, offered-foreign, offered-same}
 
 -- ---- the line of a call that waits is none of the server's own
 
-abbrev open_facing : Facing
-open_facing = record { from_trusted = false; restricted = false; present = false; mask_all = false; reliable = false; timer = false }
-
-alert_shown : (v : List ℕ) → shown_lines open_facing false [] (Status 200 []) ((codes "Alert-Info", v) ∷ []) ≡ (codes "Alert-Info", v) ∷ []
-unfolding is_shown kind_of
-alert_shown v = refl
-
 alert_foreign : (waiting : Bool) → AreForeign (alert_lines waiting)
-alert_foreign true name own = ap (named name) (sym (alert_shown (codes "<urn:alert:service:call-waiting>"))) ∙ own_shown open_facing false name [] (Status 200 []) (alert_lines true) own
+alert_foreign true name own = line_foreign (codes "Alert-Info") (codes "<urn:alert:service:call-waiting>") refl name own
 alert_foreign false name own = refl
-
-both_foreign : (ls ks : List Line) → AreForeign ls → AreForeign ks → AreForeign (ls ++ ks)
-both_foreign ls ks f g name own = filter-append (λ x. is_line name x) ls ks ∙ (ap (λ (l : List Line). l ++ named name ks) (f name own) ∙ g name own)
 
 -- ---- From of the attempt
 
@@ -115,28 +101,28 @@ module _ (heads : Heads) (site : Site) (keys : TKey → Bool) where
     attempt_with d = record { number = next_attempt c; service = service; rang = false; invitation = sent d 1 branch }
 
     abbrev offered_with : Call → Leg → Dialogue → Call
-    offered_with z l d = record z { attempts = next_attempt c; phase = Offered (record { caller = l; callee = callee_with d; attempt = attempt_with d }) }
+    offered_with z l d = record z { attempts = next_attempt c; acks = Acks.next_attempt c.acks; phase = Offered (record { caller = l; callee = callee_with d; attempt = attempt_with d }) }
 
     abbrev hidden_lines : List Line
-    hidden_lines = shown_to site (public_opening who c.opening) (public_diverted (masks_all c.opening) c.diversions) service Caller aim.peer (without_private (opening_role c.opening.restricted) c.opening.invite)
+    hidden_lines = offered_to site (public_opening who c.opening) (public_diverted (masks_all c.opening) c.diversions) service aim.peer
 
     abbrev whole_lines : List Line
-    whole_lines = shown_to site c.opening c.diversions service Caller aim.peer c.opening.invite
+    whole_lines = offered_to site c.opening c.diversions service aim.peer
 
     offer_call : public_part known (offered_with (public_call known who c) (public_leg known caller) (dialog_of (public_opening who c.opening) aim y)) ≡ public_part known (offered_with c caller (dialog_of c.opening aim y))
     offer_call =
         let d : Dialogue = dialog_of c.opening aim y in
         ap (λ (e : Dialogue). public_part known (offered_with (public_call known who c) (public_leg known caller) e)) (dialog_same who c.opening aim y)
-        ∙ (ap (λ (z : Call). record z { attempts = next_attempt c; phase = Offered (record { caller = public_leg known (public_leg known caller); callee = public_tried known (callee_with d); attempt = public_attempt known (attempt_with d) }) }) (call_once known nobody who c)
-        ∙ ap (λ (l : Leg). record (public_part known c) { attempts = next_attempt c; phase = Offered (record { caller = l; callee = public_tried known (callee_with d); attempt = public_attempt known (attempt_with d) }) }) (leg_again known caller))
+        ∙ (ap (λ (z : Call). record z { attempts = next_attempt c; acks = Acks.next_attempt c.acks; phase = Offered (record { caller = public_leg known (public_leg known caller); callee = public_tried known (callee_with d); attempt = public_attempt known (attempt_with d) }) }) (call_once known nobody who c)
+        ∙ ap (λ (l : Leg). record (public_part known c) { attempts = next_attempt c; acks = Acks.next_attempt c.acks; phase = Offered (record { caller = l; callee = public_tried known (callee_with d); attempt = public_attempt known (attempt_with d) }) }) (leg_again known caller))
 
     offer_seen : seen T (emit.Ask aim.peer (invite_of (dialog_of (public_opening who c.opening) aim y) site.sip branch hidden_lines waiting c.opening.invite.heard)) ≡ seen T (emit.Ask aim.peer (invite_of (dialog_of c.opening aim y) site.sip branch whole_lines waiting c.opening.invite.heard))
     offer_seen =
         ap (λ (e : Dialogue). seen T (emit.Ask aim.peer (invite_of e site.sip branch hidden_lines waiting c.opening.invite.heard))) (dialog_same who c.opening aim y)
         ∙ tell-seen (dialog_of c.opening aim y) 1 (codes "INVITE") (relaying site.sip branch [] c.opening.invite.heard) (hidden_lines ++ alert_lines waiting) (whole_lines ++ alert_lines waiting)
-        (both_foreign hidden_lines (alert_lines waiting) (shown-foreign site (public_opening who c.opening) (public_diverted (masks_all c.opening) c.diversions) service Caller aim.peer (without_private (opening_role c.opening.restricted) c.opening.invite)) (alert_foreign waiting))
-        (both_foreign whole_lines (alert_lines waiting) (shown-foreign site c.opening c.diversions service Caller aim.peer c.opening.invite) (alert_foreign waiting))
-        (λ strange. ap (λ (l : List Line). l ++ alert_lines waiting) (shown-same site who c.opening c.diversions service Caller aim.peer (opening_role c.opening.restricted) c.opening.invite (opens_fit c.opening.restricted) strange))
+        (both_foreign hidden_lines (alert_lines waiting) (offered-foreign site (public_opening who c.opening) (public_diverted (masks_all c.opening) c.diversions) service aim.peer) (alert_foreign waiting))
+        (both_foreign whole_lines (alert_lines waiting) (offered-foreign site c.opening c.diversions service aim.peer) (alert_foreign waiting))
+        (λ strange. ap (λ (l : List Line). l ++ alert_lines waiting) (offered-same site who c.opening c.diversions service aim.peer (opens_fit c.opening.restricted) strange))
 
     offer-by : (out : List Emit) → seen_all T out ≡ seen_all T y.out → AlikeSteps T (offer site at (public_leg known caller) service waiting aim (public_call known who c) (with_out out y)) (offer site at caller service waiting aim c y)
     offer-by out s =

@@ -28,6 +28,7 @@ use Rattle.mmtel_call_decisions.specs.declared.openings.Opening.{Opening}
 use Rattle.mmtel_call.specs.Tried.{TriedView}
 use Rattle.mmtel_call.specs.declared.calls.Attempt.{Attempt}
 use Rattle.mmtel_call.specs.declared.calls.Call.{Call}
+use Rattle.mmtel_call.specs.declared.calls.Flight.{Flight}
 use Rattle.mmtel_call.specs.declared.calls.Pair.{Pair}
 use Rattle.mmtel_call.specs.declared.calls.Phase.{Phase}
 use Rattle.mmtel_call.specs.declared.calls.Reinvite.{Reinvite}
@@ -37,7 +38,7 @@ use Rattle.mmtel_call.specs.declared.calls.Trial.{Trial}
 use Rattle.mmtel_call.specs.declared.calls.Phase.TheVariants.{Lent, Offered, Over, Stood}
 use Rattle.mmtel_call.specs.declared.calls.Stage.TheVariants.{Answered, Asking, Parting, Talking}
 use Rattle.mmtel_call_laws.specs.Secret.Common.{PublicPartsAreOnce}
-use Rattle.mmtel_call_laws.specs.Secret.Parts.{everything, public_attempt, public_call, public_dialog, public_dialog_by, public_invitation, public_leg, public_loose, public_opening, public_pair, public_phase, public_reinvite, public_released, public_remote, public_request, public_said, public_stage, public_taken, public_trial, public_tried}
+use Rattle.mmtel_call_laws.specs.Secret.Parts.{everything, public_attempt, public_call, public_dialog, public_dialog_by, public_flight, public_invitation, public_leg, public_loose, public_opening, public_pair, public_phase, public_reinvite, public_released, public_remote, public_request, public_said, public_stage, public_taken, public_trial, public_tried}
 use Rattle.mmtel_call_laws.specs.Secret.Roles.{Role, hidden_by, opening_role, private_places, without_private}
 
 -- ---- messages
@@ -151,6 +152,9 @@ module _ (t : Peer → Bool) where
       ap (λ (m : Said). record q { request = m; invitation = public_invitation t (public_invitation t q.invitation) }) (request_again q.request)
       ∙ ap (λ (i : Invitation). record (public_reinvite t q) { invitation = i }) (invitation_again q.invitation)
 
+  pub flight_again : (flight : Flight) → public_flight t (public_flight t flight) ≡ public_flight t flight
+  flight_again flight = ap (λ (q : Reinvite). record flight { asked = q }) (reinvite_again flight.asked)
+
   -- ---- phases
 
   pub tried_again : (x : TriedView) → public_tried t (public_tried t x) ≡ public_tried t x
@@ -187,22 +191,25 @@ module _ (t : Peer → Bool) where
 
   -- ---- calls
 
-  abbrev pub call_with : Call → Opening → List Entry → List Loose → List Taken → Phase → Call
-  call_with c o h loose taken phase = record c { opening = o; diversions = record c.diversions { history = h }; loose = loose; taken = taken; phase = phase }
+  abbrev pub call_with : Call → Opening → List Entry → List Flight → List Loose → List Taken → Phase → Call
+  call_with c o h flights loose taken phase =
+      record c { opening = o; diversions = record c.diversions { history = h }; flights = flights; loose = loose; taken = taken; phase = phase }
 
   pub call_once : (one other : Identities2) (c : Call) → public_call t one (public_call t other c) ≡ public_call t one c
   call_once one other c =
       let o : Opening = public_opening one c.opening in
       let all : Bool = masks_all c.opening in
       let h : List Entry = masked_list all c.diversions.history in
+      let fs : List Flight = map (public_flight t) c.flights in
       let ls : List Loose = map (public_loose t) c.loose in
       let ts : List Taken = map (public_taken t) c.taken in
       let p : Phase = public_phase t c.phase in
-      ap (λ (m : Said). call_with c (record o { invite = m }) (masked_list all h) (map (public_loose t) ls) (map (public_taken t) ts) (public_phase t p)) (said_again (opening_role c.opening.restricted) c.opening.invite)
-      ∙ (ap (λ (x : List Entry). call_with c o x (map (public_loose t) ls) (map (public_taken t) ts) (public_phase t p)) (masked_once all c.diversions.history)
-      ∙ (ap (λ (x : List Loose). call_with c o h x (map (public_taken t) ts) (public_phase t p)) (map_again (public_loose t) loose_again c.loose)
-      ∙ (ap (λ (x : List Taken). call_with c o h ls x (public_phase t p)) (map_again (public_taken t) taken_again c.taken)
-      ∙ ap (λ (x : Phase). call_with c o h ls ts x) (phase_again c.phase))))
+      ap (λ (m : Said). call_with c (record o { invite = m }) (masked_list all h) (map (public_flight t) fs) (map (public_loose t) ls) (map (public_taken t) ts) (public_phase t p)) (said_again (opening_role c.opening.restricted) c.opening.invite)
+      ∙ (ap (λ (x : List Entry). call_with c o x (map (public_flight t) fs) (map (public_loose t) ls) (map (public_taken t) ts) (public_phase t p)) (masked_once all c.diversions.history)
+      ∙ (ap (λ (x : List Flight). call_with c o h x (map (public_loose t) ls) (map (public_taken t) ts) (public_phase t p)) (map_again (public_flight t) flight_again c.flights)
+      ∙ (ap (λ (x : List Loose). call_with c o h fs x (map (public_taken t) ts) (public_phase t p)) (map_again (public_loose t) loose_again c.loose)
+      ∙ (ap (λ (x : List Taken). call_with c o h fs ls x (public_phase t p)) (map_again (public_taken t) taken_again c.taken)
+      ∙ ap (λ (x : Phase). call_with c o h fs ls ts x) (phase_again c.phase)))))
 
 pub call_again : PublicPartsAreOnce
 call_again t one other c = call_once t one other c

@@ -1,5 +1,5 @@
 -- Rows of an offered call see public parts alone: what the target says before it refuses.
-use Rattle.std.proofs.Common.{◌≡◌, ℕ, Bool, true, false, ◌==◌, ◌&&◌, ◌||◌, not, List, [], ◌∷◌, ◌++◌, refl, ap, sym, ◌∙◌, cond, length, Option, Some, None}
+use Rattle.std.proofs.Common.{◌≡◌, ℕ, Bool, true, false, ◌==◌, ◌&&◌, ◌||◌, not, List, [], ◌∷◌, ◌++◌, refl, ap, sym, ◌∙◌, codes, cond, decimal, length, Option, Some, None}
 use Rattle.std.specs.Option.{option_map}
 use Rattle.std.specs.Prelude.{◌+◌, nat_lt}
 use Rattle.mmtel_answers.specs.Said.{Said}
@@ -10,7 +10,10 @@ use Rattle.mmtel_leg.specs.Legs.{Leg, with_dialogue}
 use Rattle.mmtel_leg.specs.Remotes.{remote_of}
 use Rattle.mmtel_leg.specs.declared.dialogues.Dialogue.{Dialogue}
 use Rattle.mmtel_leg.specs.declared.remotes.Remote.{Remote}
+use Rattle.mmtel_masks.specs.Responses.{AreForeign}
+use Rattle.mmtel_message.specs.Message.{Line}
 use Rattle.mmtel_precedence.specs.Attempts.{rings}
+use Rattle.mmtel_reliable.specs.Acks.{after_relay}
 use Rattle.mmtel_rules.specs.declared.values.Identities2.{Identities2}
 use Rattle.mmtel_transaction.specs.declared.words.DueWord.TheVariants as due
 use Rattle.mmtel_transaction.specs.declared.words.Emit.TheVariants as emit
@@ -19,8 +22,10 @@ use Rattle.mmtel_trust.specs.Digest.{HeardMessage}
 use Rattle.mmtel_types.specs.declared.numbers.Peer.{Peer}
 use Rattle.mmtel_types.specs.declared.sides.Side.TheVariants.{Caller, Callee}
 use Rattle.mmtel_call_decisions.specs.Decisions.{its_sheet, time_of}
+use Rattle.mmtel_call_decisions.specs.Reliable.{reliable_lines, reliable_number}
 use Rattle.mmtel_call_decisions.specs.Showing.{masks_all, shown_to}
 use Rattle.mmtel_call_decisions.specs.Site.{Site, trusts}
+use Rattle.mmtel_call_decisions.specs.declared.openings.Opening.{Opening}
 use Rattle.mmtel_call_decisions.specs.declared.openings.Service.{Service}
 use Rattle.mmtel_call.specs.Tried.{TriedView}
 use Rattle.mmtel_call.specs.declared.calls.Attempt.{Attempt}
@@ -29,7 +34,8 @@ use Rattle.mmtel_call.specs.declared.calls.Taken.{Taken}
 use Rattle.mmtel_call.specs.declared.calls.Trial.{Trial}
 use Rattle.mmtel_call.specs.declared.calls.Phase.TheVariants.{Offered, Stood}
 use Rattle.mmtel_call.specs.declared.calls.Stage.TheVariants.{Answered}
-use Rattle.mmtel_call.specs.Ringing.{armed_in, early_said, having_met, met_by, next_success, noted, pair_of, proceeding, ringing, success_of, tag_given, taken_by, tried, answered, callee_after}
+use Rattle.mmtel_call.specs.Ringing.{armed_in, early_said, having_met, met_by, next_success, noted, pair_of, proceeding, proceeding_by, relayed_if, relayed_plainly, ringing, success_of, tag_given, taken_by, tried, answered, callee_after}
+use Rattle.mmtel_call.specs.Reliable.{own_for, prack_time, relayed_reliably}
 use Rattle.mmtel_call.specs.Sending.{relayed_to_caller}
 use Rattle.mmtel_call_laws.specs.Secret.Parts.{nobody, public_attempt, public_call, public_dialog, public_diverted, public_leg, public_opening, public_pair, public_part, public_said, public_tried, public_trial}
 use Rattle.mmtel_call_laws.specs.Secret.Premises.{Fits, IsAsked, IsWhole}
@@ -37,10 +43,15 @@ use Rattle.mmtel_call_laws.specs.Secret.Roles.{Role, opening_role, private_place
 use Rattle.mmtel_call_laws.specs.Secret.Rows.{AnswersToAttempt, ProvisionalToAttempt}
 use Rattle.mmtel_call_laws.specs.Secret.Seen.{AlikeDesks, AlikeSteps, Trust, trust_of}
 use Rattle.mmtel_call_laws.proofs.Secret.Across.{awaits-alike, taken_more, expiry-alike}
+use Rattle.mmtel_call_laws.proofs.Secret.Numbers.{behind_none, both_foreign, line_foreign}
 use Rattle.mmtel_call_laws.proofs.Secret.Once.{call_once, invitation_told, leg_again, tried_again}
 use Rattle.mmtel_call_laws.proofs.Secret.Rows.{on-alike, step-if}
 use Rattle.mmtel_call_laws.proofs.Secret.Sent.{Heads, emitted-alike, relayed-alike}
-use Rattle.mmtel_call_laws.proofs.Secret.Shown.{met-same, said-same, shown-foreign, shown-same}
+use Rattle.mmtel_call_laws.proofs.Secret.Shown.{met-same, said-same, shown-foreign, shown-none, shown-number, shown-same}
+
+-- the lines of a reliable answer are none that the server writes in each message
+own_foreign : (own : ℕ) → AreForeign (reliable_lines own)
+own_foreign own = both_foreign ((codes "Require", codes "100rel") ∷ []) ((codes "RSeq", decimal own) ∷ []) (line_foreign (codes "Require") _ refl) (line_foreign (codes "RSeq") _ refl)
 
 module _ (heads : Heads) (site : Site) (keys : TKey → Bool) where
   abbrev T : Trust
@@ -59,7 +70,26 @@ module _ (heads : Heads) (site : Site) (keys : TKey → Bool) where
       (shown_to site (public_opening who c.opening) (public_diverted (masks_all c.opening) c.diversions) service Callee i.peer (without_private role m)) (shown_to site c.opening c.diversions service Callee i.peer m) m one other
       asked.request (asked.told ∙ sym asked.known)
       (shown-foreign site (public_opening who c.opening) (public_diverted (masks_all c.opening) c.diversions) service Callee i.peer (without_private role m)) (shown-foreign site c.opening c.diversions service Callee i.peer m)
+      (shown-number site (public_opening who c.opening) c.opening (public_diverted (masks_all c.opening) c.diversions) c.diversions service Callee i.peer (without_private role m) m)
       (λ strange. shown-same site who c.opening c.diversions service Callee i.peer role m fits (sym asked.known ∙ strange)) a
+
+  -- the same under a number of the server's own
+  reliably-alike : (who : Identities2) (service : Option Service) (own : ℕ) (role : Role) (m : Said) (c : Call) (one other : Desk) → IsAsked T c.opening.key c.opening.invite → Fits c.opening service Callee m role →
+      AlikeDesks T one other →
+      AlikeDesks T (relayed_reliably site (public_call known who c) service own (without_private role m) one) (relayed_reliably site c service own m other)
+  reliably-alike who service own role m c one other asked fits a =
+      let i : Said = c.opening.invite in
+      let o : Opening = public_opening who c.opening in
+      let v = public_diverted (masks_all c.opening) c.diversions in
+      let n : Said = without_private role m in
+      let lines : List Line = reliable_lines own in
+      let hidden : List Line = shown_to site o v service Callee i.peer n in
+      let whole : List Line = shown_to site c.opening c.diversions service Callee i.peer m in
+      relayed-alike heads T site.sip c.opening.key i.heard.trusted (private_places (opening_role c.opening.restricted) i.heard) i c.opening.tag (hidden ++ lines) (whole ++ lines) m one other
+      asked.request (asked.told ∙ sym asked.known)
+      (both_foreign hidden lines (shown-foreign site o v service Callee i.peer n) (own_foreign own)) (both_foreign whole lines (shown-foreign site c.opening c.diversions service Callee i.peer m) (own_foreign own))
+      (behind_none hidden whole lines (shown-none site o v service Callee i.peer n) (shown-none site c.opening c.diversions service Callee i.peer m))
+      (λ strange. ap (λ (l : List Line). l ++ lines) (shown-same site who c.opening c.diversions service Callee i.peer role m fits (sym asked.known ∙ strange))) a
 
   -- ---- the target's dialog
 
@@ -108,9 +138,10 @@ module _ (heads : Heads) (site : Site) (keys : TKey → Bool) where
       ap (λ (i : Invitation). ringing code (record attempt { invitation = i }))
       (invitation_told known key attempt.invitation (cond b None (Some (remote_of Callee (without_private role m).heard.lines))) (cond b None (Some (remote_of Callee m.heard.lines))) (said_if b (known attempt.invitation.dialogue.peer) role m told))
 
-  pub proceeds-alike : (who : Identities2) (at : ℕ) (x : Trial) (key : TKey) (role : Role) (m : Said) (code : ℕ) (c : Call) (one other : Desk) → IsAsked T c.opening.key c.opening.invite → Fits c.opening x.attempt.service Callee m role → (known x.callee.leg.dialogue.peer ≡ false → IsWhole role m) → (known x.attempt.invitation.dialogue.peer ≡ false → IsWhole role m) → AlikeDesks T one other →
-      AlikeSteps T (proceeding site at (public_trial known x) key (without_private role m) code (public_call known who c) one) (proceeding site at x key m code c other)
-  proceeds-alike who at x key role m code c one other asked fits told own a = record {
+  plainly-alike : (who : Identities2) (at : ℕ) (x : Trial) (key : TKey) (role : Role) (m : Said) (code : ℕ) (c : Call) (one other : Desk) → IsAsked T c.opening.key c.opening.invite →
+      Fits c.opening x.attempt.service Callee m role → (known x.callee.leg.dialogue.peer ≡ false → IsWhole role m) → (known x.attempt.invitation.dialogue.peer ≡ false → IsWhole role m) → AlikeDesks T one other →
+      AlikeSteps T (relayed_plainly site at (public_trial known x) key (without_private role m) code (public_call known who c) one) (relayed_plainly site at x key m code c other)
+  plainly-alike who at x key role m code c one other asked fits told own a = record {
     call = trial_call who c x.caller (callee_after (public_tried known x.callee) (without_private role m)) (callee_after x.callee m)
         (ringing code (having_met (early_said (public_tried known x.callee) (without_private role m)) (noted key (public_attempt known x.attempt)))) (ringing code (having_met (early_said x.callee m) (noted key x.attempt)))
         (tried_if (x.callee.is_early || length (tag_given m) == 0) x.callee role m told)
@@ -119,6 +150,35 @@ module _ (heads : Heads) (site : Site) (keys : TKey → Bool) where
         (relayed_to_caller site (public_call known who c) x.attempt.service (without_private role m) one) (relayed_to_caller site c x.attempt.service m other)
         (to_caller-alike who x.attempt.service role m c one other asked fits a);
   }
+
+  -- a reliable answer, if it gets this number
+  numbered-alike : (number : Option ℕ) (rseq : ℕ) (who : Identities2) (at : ℕ) (x : Trial) (key : TKey) (role : Role) (m : Said) (code : ℕ) (c : Call) (one other : Desk) → IsAsked T c.opening.key c.opening.invite →
+      Fits c.opening x.attempt.service Callee m role → (known x.callee.leg.dialogue.peer ≡ false → IsWhole role m) → (known x.attempt.invitation.dialogue.peer ≡ false → IsWhole role m) → AlikeDesks T one other →
+      AlikeSteps T (relayed_if number rseq site at (public_trial known x) key (without_private role m) code (public_call known who c) one) (relayed_if number rseq site at x key m code c other)
+  numbered-alike None rseq who at x key role m code c one other asked fits told own a = tries-alike who x key c one other a
+  numbered-alike (Some number) rseq who at x key role m code c one other asked fits told own a =
+      let d : Call = public_call known who c in
+      let n : Said = without_private role m in
+      record {
+        call = trial_call who (record c { acks = after_relay rseq c.acks }) x.caller (callee_after (public_tried known x.callee) n) (callee_after x.callee m)
+            (ringing code (having_met (early_said (public_tried known x.callee) n) (noted key (public_attempt known x.attempt)))) (ringing code (having_met (early_said x.callee m) (noted key x.attempt)))
+            (tried_if (x.callee.is_early || length (tag_given m) == 0) x.callee role m told)
+            (rung_if (x.callee.is_early || length (tag_given m) == 0) code key x.attempt role m own);
+        desk = emitted-alike T (emit.Arm c.opening.number (due.NoPrack number) (at + prack_time)) (emit.Arm c.opening.number (due.NoPrack number) (at + prack_time)) _ _ refl
+            (arms-if (rings code && not x.attempt.rang) (time_of (its_sheet x.attempt.service)) at x.attempt who c
+            (relayed_reliably site d x.attempt.service number n one) (relayed_reliably site c x.attempt.service number m other)
+            (reliably-alike who x.attempt.service number role m c one other asked fits a));
+      }
+
+  by-alike : (rseq : Option ℕ) (who : Identities2) (at : ℕ) (x : Trial) (key : TKey) (role : Role) (m : Said) (code : ℕ) (c : Call) (one other : Desk) → IsAsked T c.opening.key c.opening.invite →
+      Fits c.opening x.attempt.service Callee m role → (known x.callee.leg.dialogue.peer ≡ false → IsWhole role m) → (known x.attempt.invitation.dialogue.peer ≡ false → IsWhole role m) → AlikeDesks T one other →
+      AlikeSteps T (proceeding_by rseq site at (public_trial known x) key (without_private role m) code (public_call known who c) one) (proceeding_by rseq site at x key m code c other)
+  by-alike None who at x key role m code c one other asked fits told own a = plainly-alike who at x key role m code c one other asked fits told own a
+  by-alike (Some rseq) who at x key role m code c one other asked fits told own a = numbered-alike (own_for rseq x m c) rseq who at x key role m code c one other asked fits told own a
+
+  pub proceeds-alike : (who : Identities2) (at : ℕ) (x : Trial) (key : TKey) (role : Role) (m : Said) (code : ℕ) (c : Call) (one other : Desk) → IsAsked T c.opening.key c.opening.invite → Fits c.opening x.attempt.service Callee m role → (known x.callee.leg.dialogue.peer ≡ false → IsWhole role m) → (known x.attempt.invitation.dialogue.peer ≡ false → IsWhole role m) → AlikeDesks T one other →
+      AlikeSteps T (proceeding site at (public_trial known x) key (without_private role m) code (public_call known who c) one) (proceeding site at x key m code c other)
+  proceeds-alike who at x key role m code c one other asked fits told own a = by-alike (reliable_number site c.opening m) who at x key role m code c one other asked fits told own a
 
   -- ---- 2xx
 

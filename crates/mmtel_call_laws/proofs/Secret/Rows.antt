@@ -1,7 +1,7 @@
--- Rows of the step table see public parts alone: those of a call that is offered and of one that was answered.
-use Rattle.std.proofs.Common.{◌≡◌, ℕ, Bool, true, false, ◌==◌, List, [], ◌∷◌, ◌++◌, refl, ap, sym, ◌∙◌, map, cond, codes, subst}
+-- What the rows of the step table have in common, and how a side of an answered call leaves, see public parts alone.
+use Rattle.std.proofs.Common.{◌≡◌, ℕ, Bool, true, false, List, [], ◌∷◌, ◌++◌, refl, ap, sym, ◌∙◌, map, cond, codes, subst}
 use Rattle.std.proofs.lemmas.List.{map-append}
-use Rattle.std.specs.Prelude.{Option, Result, Ok, Err}
+use Rattle.std.specs.Prelude.{Option}
 use Rattle.mmtel_answers.specs.Answers.{allowed, retry_after}
 use Rattle.mmtel_answers.specs.Said.{Said}
 use Rattle.mmtel_charging.specs.Meters.{Noted}
@@ -35,18 +35,16 @@ use Rattle.mmtel_call.specs.declared.calls.Reinvite.{Reinvite}
 use Rattle.mmtel_call.specs.declared.calls.Stage.{Stage}
 use Rattle.mmtel_call.specs.declared.calls.Success.{Success}
 use Rattle.mmtel_call.specs.declared.calls.Trial.{Trial}
-use Rattle.mmtel_call.specs.declared.calls.Phase.TheVariants.{Offered}
 use Rattle.mmtel_call.specs.declared.calls.Stage.TheVariants.{Answered, Asking, Parting, Talking}
 use Rattle.mmtel_call.specs.Closing.{Step, ending_of, filed_all, onward, over, over_stood}
 use Rattle.mmtel_call.specs.Reinvites.{bye_to_both, bye_while_asking, loose_across}
-use Rattle.mmtel_call.specs.Requests.{answered_to, is_bye, unheard, unlisted}
-use Rattle.mmtel_call.specs.Ringing.{given_up, heard_by, left, loose, on_cancel, on_heard, on_request, on_request_if, says_offered, with_loose}
+use Rattle.mmtel_call.specs.Requests.{answered_to, unheard, unlisted}
+use Rattle.mmtel_call.specs.Ringing.{left, loose, with_loose}
 use Rattle.mmtel_call.specs.Sending.{replied_to, told_caller}
 use Rattle.mmtel_call.specs.Stages.{left_by}
 use Rattle.mmtel_call_laws.specs.Secret.Parts.{everything, nobody, public_call, public_diverted, public_invitation, public_leg, public_loose, public_opening, public_pair, public_part, public_reinvite, public_request, public_stage, public_trial}
 use Rattle.mmtel_call_laws.specs.Secret.Premises.{Fits, IsAsked, stage_is_asked}
 use Rattle.mmtel_call_laws.specs.Secret.Roles.{Role, hidden_by, opening_role, private_places, without_private}
-use Rattle.mmtel_call_laws.specs.Secret.Rows.{CancelsWhileOffered, RequestsWhileOffered}
 use Rattle.mmtel_call_laws.specs.Secret.Seen.{AlikeDesks, AlikeSteps, Trust, trust_of}
 use Rattle.mmtel_call_laws.proofs.Secret.Once.{call_once}
 use Rattle.mmtel_call_laws.proofs.Secret.Sent.{Heads, acked-alike, answered-alike, asked-alike, asked_for-alike, cancel-alike, if-alike, replied-alike}
@@ -59,6 +57,10 @@ filed-alike t rows x y a = record { tokens = a.tokens; rows = ap (λ (r : List R
 pub step-if : (t : Trust) (b : Bool) (p q v w : Step) → AlikeSteps t p v → AlikeSteps t q w → AlikeSteps t (cond b p q) (cond b v w)
 step-if t true p q v w e f = e
 step-if t false p q v w e f = f
+
+pub step-where : (t : Trust) (b : Bool) (p q v w : Step) → (b ≡ true → AlikeSteps t p v) → (b ≡ false → AlikeSteps t q w) → AlikeSteps t (cond b p q) (cond b v w)
+step-where t true p q v w x y = x refl
+step-where t false p q v w x y = y refl
 
 module _ (heads : Heads) (site : Site) (keys : TKey → Bool) where
   abbrev pub T : Trust
@@ -75,7 +77,8 @@ module _ (heads : Heads) (site : Site) (keys : TKey → Bool) where
 
   pub own-answer : (c : Call) (key : TKey) (p : Places) (m : Said) (code : ℕ) (named : List Line) (x y : Desk) → IsAsked T key m → AlikeDesks T x y →
       AlikeDesks T (answered site.sip key (record m { heard = hidden_by m.heard.trusted p m.heard }) c.opening.tag code [] named [] x) (answered_to site c key m code named y)
-  own-answer c key p m code named x y asked a = answered-alike heads T site.sip key m.heard.trusted p m c.opening.tag code [] [] named [] x y asked.request (asked.told ∙ sym asked.known) (λ name own. refl) (λ name own. refl) (λ e. refl) a
+  own-answer c key p m code named x y asked a =
+      answered-alike heads T site.sip key m.heard.trusted p m c.opening.tag code [] [] named [] x y asked.request (asked.told ∙ sym asked.known) (λ name own. refl) (λ name own. refl) refl (λ e. refl) a
 
   pub told-alike : (who : Identities2) (c : Call) (code : ℕ) (x y : Desk) → IsAsked T c.opening.key c.opening.invite → AlikeDesks T x y → AlikeDesks T (told_caller site (public_call known who c) code x) (told_caller site c code y)
   told-alike who c code x y asked a = own-reply c c.opening.key (private_places (opening_role c.opening.restricted) c.opening.invite.heard) c.opening.invite code x y asked a
@@ -132,47 +135,6 @@ module _ (heads : Heads) (site : Site) (keys : TKey → Bool) where
 
   pub left_public : (who : Identities2) (x : Trial) (c : Call) → left (public_trial known x) (public_call known who c) ≡ public_call known who (left x c)
   left_public who x c = loose_public who (loose (once_cancelled (public_invitation known x.attempt.invitation))) (loose (once_cancelled x.attempt.invitation)) c (ap (λ (i : Invitation). loose i) (once_public x.attempt.invitation))
-
-  -- ---- while it is offered
-
-  gives-up : (who : Identities2) (at : ℕ) (x : Trial) (c : Call) (one other : Desk) → IsAsked T c.opening.key c.opening.invite → AlikeDesks T one other →
-      AlikeSteps T (given_up site at (public_trial known x) (public_call known who c) one) (given_up site at x c other)
-  gives-up who at x c one other asked a =
-      over-alike-by who at causes.Cancelled x.caller.meter x.callee.leg.meter (left (public_trial known x) (public_call known who c)) (left x c)
-      (cancelled site.sip (public_invitation known x.attempt.invitation) (told_caller site (public_call known who c) 487 one)) (cancelled site.sip x.attempt.invitation (told_caller site c 487 other))
-      (left_public who x c)
-      (cancelled-alike x.attempt.invitation (told_caller site (public_call known who c) 487 one) (told_caller site c 487 other) (told-alike who c 487 one other asked a))
-
-  heard-alike : (who : Identities2) (at : ℕ) (x : Trial) (side : Side) (key : TKey) (role : Role) (m : Said) (c : Call) (one other : Desk) → IsAsked T c.opening.key c.opening.invite → IsAsked T key m → AlikeDesks T one other →
-      AlikeSteps T (on_heard site at (public_trial known x) side key (without_private role m) (public_call known who c) one) (on_heard site at x side key m c other)
-  heard-alike who at x Caller key role m c one other opening asked a =
-      let d : Call = public_call known who c in
-      let n : Said = without_private role m in
-      step-if T (is_bye m) (given_up site at (public_trial known x) d (replied_to site d key n 200 one)) (onward d (unlisted site d key n one)) (given_up site at x c (replied_to site c key m 200 other)) (onward c (unlisted site c key m other))
-      (gives-up who at x c (replied_to site d key n 200 one) (replied_to site c key m 200 other) opening (own-reply c key (private_places role m.heard) m 200 one other asked a))
-      (on-alike who c (unlisted site d key n one) (unlisted site c key m other) (unlisted-alike who c key role m one other asked a))
-  heard-alike who at x Callee key role m c one other opening asked a = on-alike who c (unlisted site (public_call known who c) key (without_private role m) one) (unlisted site c key m other) (unlisted-alike who c key role m one other asked a)
-
-  request_by : (r : Result (Unit {0}) DialogueFault) (who : Identities2) (at : ℕ) (x : Trial) (side : Side) (key : TKey) (role : Role) (m : Said) (c : Call) (one other : Desk) → IsAsked T c.opening.key c.opening.invite → IsAsked T key m → AlikeDesks T one other →
-      AlikeSteps T (on_request_if r site at (public_trial known x) side key (without_private role m) (public_call known who c) one) (on_request_if r site at x side key m c other)
-  request_by (Ok heard) who at x Caller key role m c one other opening asked a = heard-alike who at (heard_by Caller m x) Caller key role m (record c { phase = Offered (heard_by Caller m x) }) one other opening asked a
-  request_by (Ok heard) who at x Callee key role m c one other opening asked a = heard-alike who at (heard_by Callee m x) Callee key role m (record c { phase = Offered (heard_by Callee m x) }) one other opening asked a
-  request_by (Err fault) who at x side key role m c one other opening asked a = on-alike who c (unheard site (public_call known who c) key (without_private role m) fault one) (unheard site c key m fault other) (unheard-alike who c key role m fault one other asked a)
-
-  said_offered : (who : Identities2) (at : ℕ) (x : Trial) (side : Side) (key : TKey) (role : Role) (m : Said) (c : Call) (one other : Desk) → IsAsked T c.opening.key c.opening.invite → IsAsked T key m → AlikeDesks T one other →
-      AlikeSteps T (on_request site at (public_trial known x) side key (without_private role m) (public_call known who c) one) (on_request site at x side key m c other)
-  said_offered who at x Caller key role m c one other opening asked a = request_by (says_offered x Caller m) who at x Caller key role m c one other opening asked a
-  said_offered who at x Callee key role m c one other opening asked a = request_by (says_offered x Callee m) who at x Callee key role m c one other opening asked a
-
-  cancels_offered : (who : Identities2) (at : ℕ) (x : Trial) (key : TKey) (role : Role) (m : Said) (invite : TKey) (c : Call) (one other : Desk) → IsAsked T c.opening.key c.opening.invite → IsAsked T key m → AlikeDesks T one other →
-      AlikeSteps T (on_cancel site at (public_trial known x) key (without_private role m) invite (public_call known who c) one) (on_cancel site at x key m invite c other)
-  cancels_offered who at x key role m invite c one other opening asked a =
-      let d : Call = public_call known who c in
-      let n : Said = without_private role m in
-      let b : AlikeDesks T (replied_to site d key n 200 one) (replied_to site c key m 200 other) = own-reply c key (private_places role m.heard) m 200 one other asked a in
-      step-if T (invite.0 == c.opening.key.0) (given_up site at (public_trial known x) d (replied_to site d key n 200 one)) (onward d (replied_to site d key n 200 one)) (given_up site at x c (replied_to site c key m 200 other)) (onward c (replied_to site c key m 200 other))
-      (gives-up who at x c (replied_to site d key n 200 one) (replied_to site c key m 200 other) opening b)
-      (on-alike who c (replied_to site d key n 200 one) (replied_to site c key m 200 other) b)
 
   -- ---- both sides of an answered call
 
@@ -252,9 +214,3 @@ module _ (heads : Heads) (site : Site) (keys : TKey → Bool) where
       (asked_for site.sip (codes "BYE") (leg_of (other_of side) x).dialogue (shown_across site c x side m) m.heard other)
       (across-alike who (codes "BYE") c x side role m one other fits a)
   left_by-alike (Asking asking q) who at x side role m c one other fits kept a = while_asking-alike who at x asking q side c one other kept a
-
-pub requests_while_offered : Heads → RequestsWhileOffered
-requests_while_offered heads site keys who at x side key role m c one other opening asked a = said_offered heads site keys who at x side key role m c one other opening asked a
-
-pub cancels_while_offered : Heads → CancelsWhileOffered
-cancels_while_offered heads site keys who at x key role m invite c one other opening asked a = cancels_offered heads site keys who at x key role m invite c one other opening asked a

@@ -42,6 +42,7 @@ use Rattle.mmtel_types.specs.declared.sides.Side.TheVariants.{Caller, Callee}
 use Rattle.mmtel_call_laws.specs.Secret.Parts.{public_dialog_by, public_remote}
 use Rattle.mmtel_call_laws.specs.Secret.Roles.{hidden_by}
 use Rattle.mmtel_call_laws.specs.Secret.Seen.{Acked, AlikeDesks, Seen, Sent, Trust, seen, seen_all, with_out}
+use Rattle.mmtel_call_laws.proofs.Secret.Numbers.{number_same, numbers_in}
 
 -- on what heads rest
 pub record Heads : Type 0 where
@@ -106,11 +107,13 @@ module _ (heads : Heads) where
   response_head b p h r ls ks asked f g = responses.relayed (lines_keep heads.fields) heads.five p p (message_of (hidden_by b p h)) (message_of h) r ls ks asked (masked_twice b p h) f g
 
   -- a response to a request without its private places, with lines that are the same towards an untrusted peer
-  pub reply-seen : (t : Trust) (key : TKey) (b : Bool) (p : Places) (h : HeardMessage) (r : Reply) (ls ks : List Line) → is_request h.start ≡ true → b ≡ t.key key → AreForeign ls → AreForeign ks → (t.key key ≡ false → ls ≡ ks) →
+  pub reply-seen : (t : Trust) (key : TKey) (b : Bool) (p : Places) (h : HeardMessage) (r : Reply) (ls ks : List Line) → is_request h.start ≡ true → b ≡ t.key key → AreForeign ls → AreForeign ks →
+      numbers_in ls ≡ numbers_in ks → (t.key key ≡ false → ls ≡ ks) →
       seen t (emit.Reply key (response h.start (hidden_by b p h).lines (passing ls r))) ≡ seen t (emit.Reply key (response h.start h.lines (passing ks r)))
-  reply-seen t key b p h r ls ks asked is f g same =
+  reply-seen t key b p h r ls ks asked is f g number same =
       rw (
         response_head b p h r ls ks asked f g,
+        number_same h.start (hidden_by b p h).lines h.lines r ls ks number,
         text_if (t.key key) (response h.start (hidden_by b p h).lines (passing ls r)) (response h.start h.lines (passing ks r))
             (λ e. ap (λ (x : HeardMessage). response h.start x.lines (passing ls r)) (whole b p h (is ∙ e)) ∙ ap (λ (l : List Line). response h.start h.lines (passing l r)) (same e)),
       )
@@ -243,22 +246,24 @@ module _ (heads : Heads) (t : Trust) where
   abbrev without : Bool → Places → Said → Said
   without b p m = record m { heard = hidden_by b p m.heard }
 
-  pub answered-alike : (sip : Addr) (key : TKey) (b : Bool) (p : Places) (m : Said) (tag : List ℕ) (code : ℕ) (ls ks named : List Line) (body : List ℕ) (x y : Desk) → is_request m.heard.start ≡ true → b ≡ t.key key → AreForeign ls → AreForeign ks → (t.key key ≡ false → ls ≡ ks) → AlikeDesks t x y →
+  pub answered-alike : (sip : Addr) (key : TKey) (b : Bool) (p : Places) (m : Said) (tag : List ℕ) (code : ℕ) (ls ks named : List Line) (body : List ℕ) (x y : Desk) → is_request m.heard.start ≡ true →
+      b ≡ t.key key → AreForeign ls → AreForeign ks → numbers_in ls ≡ numbers_in ks → (t.key key ≡ false → ls ≡ ks) → AlikeDesks t x y →
       AlikeDesks t (answered sip key (without b p m) tag code ls named body x) (answered sip key m tag code ks named body y)
-  answered-alike sip key b p m tag code ls ks named body x y asked is f g same a =
+  answered-alike sip key b p m tag code ls ks named body x y asked is f g number same a =
       emitted-alike t (emit.Reply key (own_answer (contact_text sip) (without b p m) tag code ls named body)) (emit.Reply key (own_answer (contact_text sip) m tag code ks named body)) x y
-      (reply-seen heads t key b p m.heard (own_reply (contact_text sip) m.source tag code ls named body) ls ks asked is f g same) a
+      (reply-seen heads t key b p m.heard (own_reply (contact_text sip) m.source tag code ls named body) ls ks asked is f g number same) a
 
   pub replied-alike : (sip : Addr) (key : TKey) (b : Bool) (p : Places) (m : Said) (tag : List ℕ) (code : ℕ) (x y : Desk) → is_request m.heard.start ≡ true → b ≡ t.key key → AlikeDesks t x y →
       AlikeDesks t (replied sip key (without b p m) tag code x) (replied sip key m tag code y)
-  replied-alike sip key b p m tag code x y asked is a = answered-alike sip key b p m tag code [] [] [] [] x y asked is (λ name own. refl) (λ name own. refl) (λ e. refl) a
+  replied-alike sip key b p m tag code x y asked is a = answered-alike sip key b p m tag code [] [] [] [] x y asked is (λ name own. refl) (λ name own. refl) refl (λ e. refl) a
 
   -- the response is read alike, with other lines of it
-  pub relayed-alike : (sip : Addr) (key : TKey) (b : Bool) (p : Places) (m : Said) (tag : List ℕ) (ls ks : List Line) (r : Said) (x y : Desk) → is_request m.heard.start ≡ true → b ≡ t.key key → AreForeign ls → AreForeign ks → (t.key key ≡ false → ls ≡ ks) → AlikeDesks t x y →
+  pub relayed-alike : (sip : Addr) (key : TKey) (b : Bool) (p : Places) (m : Said) (tag : List ℕ) (ls ks : List Line) (r : Said) (x y : Desk) → is_request m.heard.start ≡ true → b ≡ t.key key → AreForeign ls →
+      AreForeign ks → numbers_in ls ≡ numbers_in ks → (t.key key ≡ false → ls ≡ ks) → AlikeDesks t x y →
       AlikeDesks t (relayed sip key (without b p m) tag ls r x) (relayed sip key m tag ks r y)
-  relayed-alike sip key b p m tag ls ks r x y asked is f g same a =
+  relayed-alike sip key b p m tag ls ks r x y asked is f g number same a =
       emitted-alike t (emit.Reply key (relayed_answer (contact_text sip) (without b p m) tag ls r)) (emit.Reply key (relayed_answer (contact_text sip) m tag ks r)) x y
-      (reply-seen heads t key b p m.heard (relayed_reply (contact_text sip) m.source tag ls r.heard) ls ks asked is f g same) a
+      (reply-seen heads t key b p m.heard (relayed_reply (contact_text sip) m.source tag ls r.heard) ls ks asked is f g number same) a
 
   -- the ACK of a final from 300, by its client transaction
   pub final_acked-alike : (sip : Addr) (key : TKey) (i : Invitation) (h k : HeardMessage) (d : Dialogue) (x y : Desk) → (t.key key ≡ false → (d ≡ i.dialogue) × (field (codes "To") h.lines ≡ field (codes "To") k.lines)) → AlikeDesks t x y →

@@ -1,5 +1,5 @@
 -- What the other side is shown of a message without its private places: the same, where its peer is not trusted; and what a dialog takes of it.
-use Rattle.std.proofs.Common.{◌≡◌, ℕ, Bool, true, false, ◌==◌, List, refl, ap, sym, ◌∙◌, cond, codes}
+use Rattle.std.proofs.Common.{◌≡◌, ℕ, Bool, true, false, ◌==◌, List, [], refl, ap, sym, ◌∙◌, cond, codes}
 use Rattle.mmtel_answers.specs.Said.{Said, status_of}
 use Rattle.mmtel_history.proofs.ListLaws.{masked_once}
 use Rattle.mmtel_history.proofs.ToldLaws.{told_masked}
@@ -29,14 +29,15 @@ use Rattle.mmtel_types.specs.declared.numbers.Peer.{Peer}
 use Rattle.mmtel_types.specs.declared.sides.Side.{Side}
 use Rattle.mmtel_types.specs.declared.sides.Side.TheVariants.{Caller, Callee}
 use Rattle.mmtel_call_decisions.specs.Diverted.{Diverted}
-use Rattle.mmtel_call_decisions.specs.Showing.{facing, facing_at, list_for, masks_all, shown_to, told_list}
+use Rattle.mmtel_call_decisions.specs.Showing.{facing, facing_at, facing_offered, list_for, masks_all, offered_to, shown_to, told_list}
 use Rattle.mmtel_call_decisions.specs.Site.{Site, trusts}
 use Rattle.mmtel_call_decisions.specs.declared.openings.Opening.{Opening}
 use Rattle.mmtel_call_decisions.specs.declared.openings.Service.{Service}
 use Rattle.std.specs.Prelude.{Option}
 use Rattle.mmtel_call_laws.specs.Secret.Parts.{public_dialog_by, public_diverted, public_opening, public_remote, public_said}
 use Rattle.mmtel_call_laws.specs.Secret.Premises.{Fits}
-use Rattle.mmtel_call_laws.specs.Secret.Roles.{Opens, Plain, Role, Says, hidden_by, hides, private_places, without_private}
+use Rattle.mmtel_call_laws.specs.Secret.Roles.{Opens, Plain, Role, Says, hidden_by, hides, opening_role, private_places, without_private}
+use Rattle.mmtel_call_laws.proofs.Secret.Numbers.{numbers_in, shown_none}
 use Rattle.mmtel_call_laws.proofs.Secret.Once.{remote_again}
 
 pub true_false : true ≡ false → ⊥
@@ -92,6 +93,31 @@ shown-same site who o d service side peer role m fits strange =
 pub shown-foreign : (site : Site) (o : Opening) (d : Diverted) (service : Option Service) (side : Side) (peer : Peer) (m : Said) → AreForeign (shown_to site o d service side peer m)
 unfolding shown_to
 shown-foreign site o d service side peer m name own = own_shown (facing_at site o service side m) (trusts site peer) name (list_for d m) m.heard.start m.heard.lines own
+
+-- no number of a reliable answer
+pub shown-none : (site : Site) (o : Opening) (d : Diverted) (service : Option Service) (side : Side) (peer : Peer) (m : Said) → numbers_in (shown_to site o d service side peer m) ≡ []
+unfolding shown_to
+shown-none site o d service side peer m = shown_none (facing_at site o service side m) (trusts site peer) (list_for d m) m.heard.start m.heard.lines
+
+-- so the same of what one is shown with and without private places
+pub shown-number : (site : Site) (o p : Opening) (d e : Diverted) (service : Option Service) (side : Side) (peer : Peer) (m n : Said) →
+    numbers_in (shown_to site o d service side peer m) ≡ numbers_in (shown_to site p e service side peer n)
+shown-number site o p d e service side peer m n = shown-none site o d service side peer m ∙ sym (shown-none site p e service side peer n)
+
+-- ---- what the target of an attempt is shown of the INVITE that opened the call
+
+pub offered-same : (site : Site) (who : Identities2) (o : Opening) (d : Diverted) (service : Option Service) (peer : Peer) → Fits o service Caller o.invite (opening_role o.restricted) → trusts site peer ≡ false →
+    offered_to site (public_opening who o) (public_diverted (masks_all o) d) service peer ≡ offered_to site o d service peer
+unfolding offered_to
+offered-same site who o d service peer fits strange =
+    shown_by (trusts site peer) strange o.invite.heard.trusted (opening_role o.restricted) o.invite.heard (facing_offered site o service)
+    (list_for (public_diverted (masks_all o) d) (without_private (opening_role o.restricted) o.invite)) (list_for d o.invite) fits
+    (list_if (masks_all o) (status_of o.invite.heard.start == 181) d)
+
+pub offered-foreign : (site : Site) (o : Opening) (d : Diverted) (service : Option Service) (peer : Peer) → AreForeign (offered_to site o d service peer)
+unfolding offered_to
+offered-foreign site o d service peer name own =
+    own_shown (facing_offered site o service) (trusts site peer) name (list_for d o.invite) o.invite.heard.start o.invite.heard.lines own
 
 -- ---- what a dialog takes
 

@@ -13,23 +13,27 @@ use Rattle.mmtel_precedence.specs.Calls.{End, NoReply, NotReachable, Standing}
 use Rattle.mmtel_precedence.specs.Services.{DueDiversion}
 use Rattle.mmtel_precedence.specs.Turns.{AfterEnd, EndAnswered, EndDivert, EndRefuse, Turn, TurnDivert, TurnOffer, TurnRefuse}
 use Rattle.mmtel_precedence.specs.Verdicts.{too_many}
+use Rattle.mmtel_reliable.specs.declared.racks.Rack.{Rack}
 use Rattle.mmtel_targets.specs.declared.targets.Target.{Target}
 use Rattle.mmtel_transaction.specs.declared.words.DueWord.{DueWord}
 use Rattle.mmtel_transaction.specs.declared.words.DueWord.TheVariants as due
 use Rattle.mmtel_transaction.specs.declared.words.TKey.{TKey}
 use Rattle.mmtel_types.specs.declared.causes.Cause.{Cause}
-use Rattle.mmtel_types.specs.declared.causes.Cause.TheVariants as causes
 use Rattle.mmtel_types.specs.declared.sides.Side.{Side}
 use Rattle.mmtel_types.specs.declared.sides.Side.TheVariants.{Caller, Callee}
 use Rattle.mmtel_call_decisions.specs.Decisions.{decided_after, decided_at, peer_for, service_at, target_of}
 use Rattle.mmtel_desk.specs.Invites.{invite_answered, invite_silent}
 use Rattle.mmtel_call_decisions.specs.Opening.{first_of, opening_of, refusal_of}
+use Rattle.mmtel_call_decisions.specs.Reliable.{reliable_number}
 use Rattle.mmtel_call_decisions.specs.Site.{Site}
 use Rattle.mmtel_call_decisions.specs.declared.openings.Arrival.{Arrival}
 use Rattle.mmtel_call_decisions.specs.declared.openings.Opening.{Opening}
 use Rattle.mmtel_call_decisions.specs.declared.openings.Service.{Service}
 use Rattle.mmtel_call.specs.Answered.{at_stage, leg_of, with_leg}
 use Rattle.mmtel_call.specs.declared.calls.Call.{Call}
+use Rattle.mmtel_call.specs.declared.calls.Flight.{Flight}
+use Rattle.mmtel_call.specs.declared.calls.FlightKind.{FlightKind}
+use Rattle.mmtel_call.specs.declared.calls.FlightKind.TheVariants.{Prack, Update}
 use Rattle.mmtel_call.specs.declared.calls.Pair.{Pair}
 use Rattle.mmtel_call.specs.declared.calls.Phase.{Phase}
 use Rattle.mmtel_call.specs.declared.calls.Reinvite.{Reinvite}
@@ -40,14 +44,19 @@ use Rattle.mmtel_call.specs.declared.calls.Phase.TheVariants.{Lent, Offered, Ove
 use Rattle.mmtel_call.specs.declared.calls.Stage.TheVariants.{Answered, Asking, Parting, Talking}
 use Rattle.mmtel_call.specs.Closing.{Step, onward, over_stood}
 use Rattle.mmtel_call.specs.Diverting.{at_target, divert, diverted, goes_on, is_diverted, made, made_unless, on_end, on_turn, passed_by, refusal_by, refused, refused_by, told_of}
-use Rattle.mmtel_call.specs.Leaving.{answered_at, answered_loose, answered_other, answered_taken, answered_taken_at, forked, is_fork, is_success, is_taken, repeated, without_silent}
+use Rattle.mmtel_call.specs.Flights.{agreed as agreed_to, answered_flight, answered_in_flight, dismissed, dismissing, final_of_flight, is_in_flight, relayed_back_to}
+use Rattle.mmtel_call.specs.Flights.{silent_flight, silent_in_flight, updating, without_flight}
+use Rattle.mmtel_call.specs.Leaving.{answered_at, answered_loose, answered_other, answered_taken, answered_taken_at, forked, is_fork, is_success, is_taken, repeated, silent_other, silent_other_at}
 use Rattle.mmtel_call.specs.Opening.{caller_of, new_call, opened, unless_refused}
 use Rattle.mmtel_call.specs.Reinvites.{agreed, bye_to_both, ends_dialog, on_response_across, proceeding_across, refused_back}
-use Rattle.mmtel_call.specs.Ringing.{heard_by, on_due, on_heard, on_request_if, on_response, says_offered}
-use Rattle.mmtel_call.specs.Requests.{having_heard, is_bye, is_invite, says, unlisted}
+use Rattle.mmtel_call.specs.Reliable.{acknowledged_by, acknowledging, answer_named, on_rack, own_for, prack_refused}
+use Rattle.mmtel_call.specs.Ringing.{heard_by, on_due, on_heard, on_other, on_prack_of, on_request_if, on_response, proceeding, proceeding_by, relayed_if, says_offered}
+use Rattle.mmtel_call.specs.Requests.{having_heard, is_bye, is_invite, is_prack, is_update, says, unlisted}
 use Rattle.mmtel_call.specs.Sending.{replied_to, told_caller}
 use Rattle.mmtel_call.specs.Stages.{busy_in, has_left, is_due_at, left_by, on_ack_at, on_bye, on_cancel_at, on_heard_at, on_invite, on_request_at_if, on_response_at, on_silence_at, rung_out}
-use Rattle.mmtel_call.specs.Table.{ack_in, answer_to, cancel_in, due_in, is_current, request_in, response_in, silence_in, silence_of, step}
+use Rattle.mmtel_call.specs.Updates.{later, on_update, on_update_at, takes_updates, unless_updating, updated_across, updated_early}
+use Rattle.mmtel_call.specs.Table.{ack_in, answer_to, cancel_in, due_in, is_current, leaves, request_in, response_in, row, silence_in, silence_of, step}
+use Rattle.mmtel_call.specs.declared.signals.Signal.{Signal}
 use Rattle.mmtel_call.specs.declared.signals.Signal.TheVariants as signal
 use Rattle.mmtel_call_laws.specs.Secret.Alike.{OpeningsStay}
 
@@ -101,12 +110,57 @@ module _ (site : Site) (now : Standing) where
 
   -- ---- while it is offered
 
+  numbered-stays : (own : Option ℕ) (rseq : ℕ) (x : Trial) (key : TKey) (m : Said) (code : ℕ) (c : Call) (desk : Desk) → Keeps c.opening (relayed_if own rseq site now.at x key m code c desk)
+  numbered-stays None rseq x key m code c desk = refl
+  numbered-stays (Some own) rseq x key m code c desk = refl
+
+  proceeding-stays : (rseq : Option ℕ) (x : Trial) (key : TKey) (m : Said) (code : ℕ) (c : Call) (desk : Desk) → Keeps c.opening (proceeding_by rseq site now.at x key m code c desk)
+  proceeding-stays None x key m code c desk = refl
+  proceeding-stays (Some rseq) x key m code c desk = numbered-stays (own_for rseq x m c) rseq x key m code c desk
+
   offered-response : (x : Trial) (key : TKey) (m : Said) (code : ℕ) (c : Call) (desk : Desk) → Keeps c.opening (on_response site now x key m code c desk)
-  offered-response x key m code c desk = keep-if c.opening (nat_lt code 101) _ _ refl (keep-if c.opening (nat_lt code 200) _ _ refl (keep-if c.opening (nat_lt code 300) _ _ refl (goes-stays x _ (Some m) c _)))
+  offered-response x key m code c desk =
+      keep-if c.opening (nat_lt code 101) _ _ refl
+      (keep-if c.opening (nat_lt code 200) (proceeding site now.at x key m code c desk) _ (proceeding-stays (reliable_number site c.opening m) x key m code c desk)
+      (keep-if c.opening (nat_lt code 300) _ _ refl (goes-stays x _ (Some m) c _)))
+
+  -- ---- PRACK and UPDATE
+
+  named-stays : (answer : Option ℕ) (x : Trial) (key : TKey) (m : Said) (rack : Rack) (c : Call) (desk : Desk) → Keeps c.opening (acknowledging site x key m rack answer c desk)
+  named-stays None x key m rack c desk = refl
+  named-stays (Some answer) x key m rack c desk = refl
+
+  rack-stays : (o : Option Rack) (x : Trial) (key : TKey) (m : Said) (c : Call) (desk : Desk) → Keeps c.opening (on_rack site x key m o c desk)
+  rack-stays None x key m c desk = refl
+  rack-stays (Some rack) x key m c desk = named-stays (answer_named x c rack) x key m rack c desk
+
+  prack-stays : (side : Side) (x : Trial) (key : TKey) (m : Said) (c : Call) (desk : Desk) → Keeps c.opening (on_prack_of side site x key m c desk)
+  prack-stays Caller x key m c desk = rack-stays (acknowledged_by m) x key m c desk
+  prack-stays Callee x key m c desk = refl
+
+  unless-flies : (o : Option Side) (f : Call → Desk → Step) (side : Side) (key : TKey) (m : Said) (c : Call) (desk : Desk) → Keeps c.opening (f c desk) → Keeps c.opening (unless_updating o f site side key m c desk)
+  unless-flies None f side key m c desk h = h
+  unless-flies (Some flies) f side key m c desk h = keep-if c.opening _ _ _ refl refl
+
+  update-stays : (side : Side) (x : Trial) (key : TKey) (m : Said) (c : Call) (desk : Desk) → Keeps c.opening (on_update site x side key m c desk)
+  update-stays side x key m c desk =
+      keep-if c.opening (takes_updates x) (unless_updating (updating c.flights) (updated_early site x side key m) site side key m c desk) (later site key m c desk)
+      (unless-flies (updating c.flights) (updated_early site x side key m) side key m c desk refl) refl
+
+  update_at-stays : (stage : Stage) (side : Side) (x : Pair) (key : TKey) (m : Said) (c : Call) (desk : Desk) → Keeps c.opening (on_update_at stage site x side key m c desk)
+  update_at-stays (Answered waiting success) side x key m c desk = refl
+  update_at-stays (Parting waiting success) side x key m c desk = refl
+  update_at-stays Talking side x key m c desk = unless-flies (updating c.flights) (updated_across site x side key m) side key m c desk refl
+  update_at-stays (Asking asking q) side x key m c desk = refl
+
+  other-heard : (x : Trial) (side : Side) (key : TKey) (m : Said) (c : Call) (desk : Desk) → Keeps c.opening (on_other site x side key m c desk)
+  other-heard x side key m c desk =
+      keep-if c.opening (is_prack m) (on_prack_of side site x key m c desk) (cond (is_update m) (on_update site x side key m c desk) (onward c (unlisted site c key m desk))) (prack-stays side x key m c desk)
+      (keep-if c.opening (is_update m) (on_update site x side key m c desk) (onward c (unlisted site c key m desk)) (update-stays side x key m c desk) refl)
 
   offered-heard : (x : Trial) (side : Side) (key : TKey) (m : Said) (c : Call) (desk : Desk) → Keeps c.opening (on_heard site now.at x side key m c desk)
-  offered-heard x Caller key m c desk = keep-if c.opening _ _ _ refl refl
-  offered-heard x Callee key m c desk = refl
+  offered-heard x Caller key m c desk = keep-if c.opening (is_bye m) _ (on_other site x Caller key m c desk) refl (other-heard x Caller key m c desk)
+  offered-heard x Callee key m c desk = other-heard x Callee key m c desk
 
   offered-request : (r : Result (Unit {0}) DialogueFault) (x : Trial) (side : Side) (key : TKey) (m : Said) (c : Call) (desk : Desk) → Keeps c.opening (on_request_if r site now.at x side key m c desk)
   offered-request (Ok heard) x Caller key m c desk = offered-heard (heard_by Caller m x) Caller key m (record c { phase = Offered (heard_by Caller m x) }) desk
@@ -115,7 +169,7 @@ module _ (site : Site) (now : Standing) where
 
   offered-due : (x : Trial) (what : DueWord) (c : Call) (desk : Desk) → Keeps c.opening (on_due site now x what c desk)
   offered-due x (due.NoReply number) c desk = keep-if c.opening _ _ _ (goes-stays x NoReply None _ _) refl
-  offered-due x (due.NoPrack number) c desk = refl
+  offered-due x (due.NoPrack own) c desk = keep-if c.opening _ _ _ refl refl
   offered-due x (due.Cap number) c desk = keep-if c.opening _ _ _ (goes-stays x (end_by_time x.attempt.rang) None _ _) refl
   offered-due x (due.NoAck number) c desk = refl
   offered-due x (due.Expired number) c desk = refl
@@ -140,9 +194,14 @@ module _ (site : Site) (now : Standing) where
 
   heard-stays : (stage : Stage) (x : Pair) (side : Side) (key : TKey) (m : Said) (c : Call) (desk : Desk) → Keeps c.opening (on_heard_at stage site now.at x side key m c desk)
   heard-stays stage x side key m c desk =
-      keep-if c.opening (is_invite m) (on_invite stage site x side key m c desk) (cond (is_bye m) (on_bye stage site now.at x side key m c desk) (onward c (unlisted site c key m desk)))
+      let none : Step = onward c (unlisted site c key m desk) in
+      let acks : Step = cond (is_prack m) (prack_refused site key m c desk) none in
+      let updates : Step = cond (is_update m) (on_update_at stage site x side key m c desk) acks in
+      keep-if c.opening (is_invite m) (on_invite stage site x side key m c desk) (cond (is_bye m) (on_bye stage site now.at x side key m c desk) updates)
       (invite-stays stage x side key m c desk)
-      (keep-if c.opening (is_bye m) (on_bye stage site now.at x side key m c desk) (onward c (unlisted site c key m desk)) (bye-stays stage x side key m c desk) refl)
+      (keep-if c.opening (is_bye m) (on_bye stage site now.at x side key m c desk) updates (bye-stays stage x side key m c desk)
+      (keep-if c.opening (is_update m) (on_update_at stage site x side key m c desk) acks (update_at-stays stage side x key m c desk)
+      (keep-if c.opening (is_prack m) (prack_refused site key m c desk) none refl refl)))
 
   request-stays : (r : Result (Unit {0}) DialogueFault) (stage : Stage) (x : Pair) (side : Side) (key : TKey) (m : Said) (c : Call) (desk : Desk) → Keeps c.opening (on_request_at_if r stage site now.at x side key m c desk)
   request-stays (Ok heard) stage x side key m c desk =
@@ -201,15 +260,43 @@ module _ (site : Site) (now : Standing) where
       let q : Step = repeated t c desk in
       keep-if c.opening (not (is_success (status_of m.heard.start))) (onward c desk) (cond (is_fork t m) p q) refl (keep-if c.opening (is_fork t m) p q refl refl)
 
-  taken_at-stays : (o : Option ℕ) (key : TKey) (m : Said) (c : Call) (desk : Desk) → Keeps c.opening (answered_taken_at site key m o c desk)
-  taken_at-stays None key m c desk = refl
-  taken_at-stays (Some at) key m c desk = taken-stays at (slice_get c.taken at) key m c desk
+  agreed-stays : (kind : FlightKind) (side : Side) (request m : Said) (c : Call) (desk : Desk) → Keeps c.opening (agreed_to kind site now.at side request m c desk)
+  agreed-stays Prack side request m c desk = refl
+  agreed-stays Update side request m c desk = refl
 
-  at-stays : (o : Option ℕ) (key : TKey) (m : Said) (branch : List ℕ) (c : Call) (desk : Desk) → Keeps c.opening (answered_at site key m branch o c desk)
-  at-stays None key m branch c desk = taken_at-stays (position (is_taken branch) c.taken) key m c desk
+  flight-stays : (place : ℕ) (o : Option Flight) (m : Said) (code : ℕ) (c : Call) (desk : Desk) → Keeps c.opening (answered_flight site now.at m code place o c desk)
+  flight-stays place None m code c desk = refl
+  flight-stays place (Some flight) m code c desk =
+      let d : Call = without_flight place c in
+      let back : Desk = relayed_back_to site flight m d desk in
+      keep-if c.opening (nat_lt code 200) (onward c desk) (final_of_flight site now.at flight m code d desk) refl
+      (keep-if c.opening (is_success code) (agreed_to flight.kind site now.at flight.side flight.asked.request m d back) (onward d back) (agreed-stays flight.kind flight.side flight.asked.request m d back) refl)
+
+  flying-stays : (o : Option ℕ) (m : Said) (c : Call) (desk : Desk) → Keeps c.opening (answered_in_flight site now.at m o c desk)
+  flying-stays None m c desk = refl
+  flying-stays (Some place) m c desk = flight-stays place (slice_get c.flights place) m (status_of m.heard.start) c desk
+
+  taken_at-stays : (o : Option ℕ) (key : TKey) (m : Said) (branch : List ℕ) (c : Call) (desk : Desk) → Keeps c.opening (answered_taken_at site now.at key m branch o c desk)
+  taken_at-stays None key m branch c desk = flying-stays (position (is_in_flight branch) c.flights) m c desk
+  taken_at-stays (Some at) key m branch c desk = taken-stays at (slice_get c.taken at) key m c desk
+
+  at-stays : (o : Option ℕ) (key : TKey) (m : Said) (branch : List ℕ) (c : Call) (desk : Desk) → Keeps c.opening (answered_at site now.at key m branch o c desk)
+  at-stays None key m branch c desk = taken_at-stays (position (is_taken branch) c.taken) key m branch c desk
   at-stays (Some at) key m branch c desk = loose-stays at (slice_get c.loose at) key m c desk
 
-  other-stays : (key : TKey) (m : Said) (branch : List ℕ) (c : Call) (desk : Desk) → Keeps c.opening (answered_other site key m branch c desk)
+  silent-flight-stays : (place : ℕ) (o : Option Flight) (c : Call) (desk : Desk) → Keeps c.opening (silent_flight site place o c desk)
+  silent-flight-stays place None c desk = refl
+  silent-flight-stays place (Some flight) c desk = refl
+
+  silent-flying-stays : (o : Option ℕ) (c : Call) (desk : Desk) → Keeps c.opening (silent_in_flight site o c desk)
+  silent-flying-stays None c desk = refl
+  silent-flying-stays (Some place) c desk = silent-flight-stays place (slice_get c.flights place) c desk
+
+  silent-at-stays : (o : Option ℕ) (branch : List ℕ) (c : Call) (desk : Desk) → Keeps c.opening (silent_other_at site branch o c desk)
+  silent-at-stays None branch c desk = silent-flying-stays (position (is_in_flight branch) c.flights) c desk
+  silent-at-stays (Some at) branch c desk = refl
+
+  other-stays : (key : TKey) (m : Said) (branch : List ℕ) (c : Call) (desk : Desk) → Keeps c.opening (answered_other site now.at key m branch c desk)
   unfolding answered_other
   other-stays key m branch c desk = at-stays (position (is_of branch) c.loose) key m branch c desk
 
@@ -253,11 +340,13 @@ module _ (site : Site) (now : Standing) where
 
   to-answer : (o : Option (List ℕ)) (key : TKey) (m : Said) (c : Call) (desk : Desk) → Keeps c.opening (answer_to o site now key m c desk)
   to-answer None key m c desk = refl
-  to-answer (Some branch) key m c desk = keep-if c.opening (is_current branch c) (response_in c.phase site now key m c desk) (answered_other site key m branch c desk) (in-response c.phase key m c desk) (other-stays key m branch c desk)
+  to-answer (Some branch) key m c desk =
+      keep-if c.opening (is_current branch c) (response_in c.phase site now key m c desk) (answered_other site now.at key m branch c desk) (in-response c.phase key m c desk) (other-stays key m branch c desk)
 
   to-silence : (o : Option (List ℕ)) (c : Call) (desk : Desk) → Keeps c.opening (silence_of o site now c desk)
   to-silence None c desk = refl
-  to-silence (Some branch) c desk = keep-if c.opening (is_current branch c) (silence_in c.phase site now c desk) (onward (without_silent branch c) desk) (in-silence c.phase c desk) refl
+  to-silence (Some branch) c desk =
+      keep-if c.opening (is_current branch c) (silence_in c.phase site now c desk) (silent_other site branch c desk) (in-silence c.phase c desk) (silent-at-stays (position (is_of branch) c.loose) branch c desk)
 
   -- ---- the opening
 
@@ -272,12 +361,17 @@ module _ (site : Site) (now : Standing) where
       let c : Call = new_call site (opening_of site now (token desk) a) in
       unrefused-stays (refusal_of site now.at c.opening) (caller_of now.at c) c (told_caller site c 100 (drew desk))
 
+row-stays : (site : Site) (now : Standing) (x : Signal) (c : Call) (desk : Desk) → Keeps c.opening (row site now x c desk)
+unfolding row
+row-stays site now (signal.Request side key request) c desk = in-request site now c.phase side key request c desk
+row-stays site now (signal.Ack side ack) c desk = in-ack site now c.phase side ack c desk
+row-stays site now (signal.Cancel key cancel invite) c desk = in-cancel site now c.phase key cancel invite c desk
+row-stays site now (signal.Answer key response) c desk = to-answer site now (invite_answered response) key response c desk
+row-stays site now (signal.Silent branch method) c desk = to-silence site now (invite_silent branch method) c desk
+row-stays site now (signal.Due what) c desk = in-due site now c.phase what c desk
+row-stays site now (signal.Ended key) c desk = refl
+
 pub openings_stay : OpeningsStay
 unfolding step
-openings_stay site now (signal.Request side key request) c desk = in-request site now c.phase side key request c desk
-openings_stay site now (signal.Ack side ack) c desk = in-ack site now c.phase side ack c desk
-openings_stay site now (signal.Cancel key cancel invite) c desk = in-cancel site now c.phase key cancel invite c desk
-openings_stay site now (signal.Answer key response) c desk = to-answer site now (invite_answered response) key response c desk
-openings_stay site now (signal.Silent branch method) c desk = to-silence site now (invite_silent branch method) c desk
-openings_stay site now (signal.Due what) c desk = in-due site now c.phase what c desk
-openings_stay site now (signal.Ended key) c desk = refl
+openings_stay site now x c desk =
+    keep-if c.opening (leaves x c) (row site now x (dismissed c) (dismissing site c desk)) (row site now x c desk) (row-stays site now x (dismissed c) (dismissing site c desk)) (row-stays site now x c desk)

@@ -9,12 +9,13 @@ use Rattle.mmtel_call.specs.declared.calls.Call.{Call}
 use Rattle.mmtel_call.specs.declared.calls.Phase.{Phase}
 use Rattle.mmtel_call.specs.declared.calls.Phase.TheVariants.{Lent, Offered, Over, Stood}
 use Rattle.mmtel_call.specs.declared.calls.Stage.TheVariants.{Answered, Asking, Parting, Talking}
+use Rattle.mmtel_call.specs.Flights.{is_in_flight}
 use Rattle.mmtel_call.specs.Leaving.{is_loose_key, is_taken, is_taken_key}
 use Rattle.mmtel_call.specs.Settled.{has_heard, has_sent, is_over_in, is_settled}
-use Rattle.mmtel_call.specs.Table.{current, is_branch, is_current}
+use Rattle.mmtel_call.specs.Table.{current, is_branch}
 use Rattle.mmtel_call_laws.specs.Secret.Common.{PublicPartsTell}
-use Rattle.mmtel_call_laws.specs.Secret.Parts.{public_call, public_loose, public_phase, public_taken}
-use Rattle.mmtel_call_laws.proofs.Secret.Leaving.{found, long}
+use Rattle.mmtel_call_laws.specs.Secret.Parts.{public_call, public_flight, public_loose, public_phase, public_taken}
+use Rattle.mmtel_call_laws.proofs.Secret.Places.{found, long}
 
 module _ (known : Peer → Bool) where
   over_same : (p : Phase) → is_over_in (public_phase known p) ≡ is_over_in p
@@ -39,9 +40,12 @@ module _ (known : Peer → Bool) where
   sent_same : (who : Identities2) (branch : List ℕ) (c : Call) → has_sent branch (public_call known who c) ≡ has_sent branch c
   unfolding has_sent
   sent_same who branch c =
-      ap (λ (b : Bool). b || (is_some (position (is_of branch) (public_call known who c).loose) || is_some (position (is_taken branch) (public_call known who c).taken))) (branch_same branch c.phase)
-      ∙ (ap (λ (o : Option ℕ). is_current branch c || (is_some o || is_some (position (is_taken branch) (public_call known who c).taken))) (found (public_loose known) (is_of branch) (λ l. refl) c.loose)
-      ∙ ap (λ (o : Option ℕ). is_current branch c || (is_some (position (is_of branch) c.loose) || is_some o)) (found (public_taken known) (is_taken branch) (λ t. refl) c.taken))
+      rw (
+        found (public_loose known) (is_of branch) (λ l. refl) c.loose,
+        found (public_taken known) (is_taken branch) (λ t. refl) c.taken,
+        found (public_flight known) (is_in_flight branch) (λ flight. refl) c.flights,
+      )
+      (ap (λ (b : Bool). b || (is_some (position (is_of branch) c.loose) || (is_some (position (is_taken branch) c.taken) || is_some (position (is_in_flight branch) c.flights)))) (branch_same branch c.phase))
 
   heard_same : (who : Identities2) (key : TKey) (c : Call) → has_heard key (public_call known who c) ≡ has_heard key c
   unfolding has_heard

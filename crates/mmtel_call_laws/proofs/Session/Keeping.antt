@@ -136,9 +136,9 @@ module _ (site : Site) (c : Call) (w : Session) (seen : IsSessionSeen site.timer
 -- ---- the laws
 
 step_seen : (site : Site) (now : Standing) (heard : Signal) (c : Call) (desk : Desk) (w : Session) → IsSessionSeen site.timer c w →
-    IsSessionSeen site.timer (step site now heard c desk).call (session_by now.at c.opening.number heard (added desk.out (step site now heard c desk).desk.out) w)
+    IsSessionSeen site.timer (step site now heard c desk).call (session_by now.at c.opening.number c heard (added desk.out (step site now heard c desk).desk.out) w)
 step_seen site now heard c desk w seen =
-    goes_seen site c w seen now.at (success_heard heard) desk.out (step site now heard c desk) (rows.step_goes site c.opening.number c.successes desk.out now heard c desk (refl, refl) refl)
+    goes_seen site c w seen now.at (success_heard heard c) desk.out (step site now heard c desk) (rows.step_goes site c.opening.number c.successes desk.out now heard c desk (refl, refl) refl)
 
 first_seen : (s : Start) → IsSessionSeen s.site.timer (first_step s).call (session_at_first s.arrival.number (added s.desk.out (first_step s).desk.out))
 first_seen s =
@@ -173,7 +173,7 @@ ends_seen : (site : Site) (at : ℕ) (c : Call) (desk : Desk) (w : Session) → 
     IsSessionSeen site.timer (finished site at c desk).call (agreed_by at w None (expiries_of c.opening.number (added desk.out (finished site at c desk).desk.out)))
 ends_seen site at c desk w seen =
     let own : CallNo = c.opening.number in
-    let g = rows.finished_good site own c.successes desk.out at c desk (refl, refl) (rows.nothing_yet site own c.successes desk.out true desk refl) in
+    let g = rows.finished_good site own c.successes desk.out at c desk (refl, refl) (rows.nothing_yet site own c.successes desk.out false desk refl) in
     let out = (finished site at c desk).desk.out in
     subst (λ armed. IsSessionSeen site.timer (finished site at c desk).call (agreed_by at w None armed))
     (sym (ap (expiries_of own) (added_new desk.out g.desk_in.new out g.desk_in.out) ∙ g.desk_in.none))
@@ -186,7 +186,7 @@ stories_seen law s (x ∷ earlier) =
     let c : Call = call_after s earlier in
     let number : c.opening.number ≡ s.arrival.number = ap (λ (o : Opening). o.number) (law.opening s earlier) in
     subst (λ own. IsSessionSeen s.site.timer (step s.site x.now x.signal c x.desk).call
-    (session_by x.now.at own x.signal (added x.desk.out (step s.site x.now x.signal c x.desk).desk.out) (session_after s earlier))) number
+    (session_by x.now.at own c x.signal (added x.desk.out (step s.site x.now x.signal c x.desk).desk.out) (session_after s earlier))) number
     (step_seen s.site x.now x.signal c x.desk (session_after s earlier) (stories_seen law s earlier))
 
 pub sessions_are_seen : CallsGoOn → SessionsAreSeen

@@ -1,8 +1,8 @@
 -- What each row of the step table does with the session: it passes a 2xx on, with the deadline that is due of it, or it arms none and the number of the call stays.
-use Rattle.std.proofs.Common.{◌≡◌, ◌==◌, ◌&&◌, ◌||◌, ◌+◌, ◌++◌, ◌∙◌, Bool, true, false, not, ℕ, zero, suc, List, [], ◌∷◌, Option, Some, None, nat_lt, Result, Ok, Err, codes, refl, ap, sym, append_assoc, append-nil, arith}
+use Rattle.std.proofs.Common.{◌≡◌, ◌==◌, ◌&&◌, ◌||◌, ◌+◌, ◌++◌, ◌∙◌, Bool, true, false, not, ℕ, zero, suc, List, [], ◌∷◌, Option, Some, None, nat_lt, Result, Ok, Err, codes, refl, ap, subst, sym, append_assoc, append-nil, arith}
 use Rattle.std.proofs.lemmas.Bool.{eq-eqb}
 use Rattle.std.proofs.lemmas.Bool.Decides.{nat_tests}
-use Rattle.std.specs.List.{list_any}
+use Rattle.std.specs.List.{filter, list_any}
 use Rattle.std.specs.Prelude.{if◌then◌else◌, position, slice_get}
 use Rattle.mmtel_answers.specs.Attempts.{invite_of}
 use Rattle.mmtel_answers.specs.Said.{Said, status_of}
@@ -11,27 +11,36 @@ use Rattle.mmtel_charging.specs.Meters.{Noted}
 use Rattle.mmtel_call_decisions.specs.Decisions.{aim_at, decided_after, decided_at, handed_on, is_status, its_sheet, peer_for, redirect_of, service_at, target_of, time_of}
 use Rattle.mmtel_desk.specs.Invites.{invite_answered, invite_silent}
 use Rattle.mmtel_call_decisions.specs.Opening.{first_of, opening_of, refusal_of}
+use Rattle.mmtel_call_decisions.specs.Reliable.{reliable_number}
 use Rattle.mmtel_call_decisions.specs.Requests.{is_same_side}
-use Rattle.mmtel_call_decisions.specs.Showing.{shown_to}
+use Rattle.mmtel_call_decisions.specs.Showing.{offered_to}
 use Rattle.mmtel_call_decisions.specs.Site.{Site}
 use Rattle.mmtel_call_decisions.specs.declared.openings.Arrival.{Arrival}
 use Rattle.mmtel_call_decisions.specs.declared.openings.Service.{Service}
 use Rattle.mmtel_call.specs.Answered.{acked_across, acked_and_left, acknowledges, at_stage, bye_before_ack, bye_to, leg_of, parted, shown_across, unacknowledged, with_leg}
 use Rattle.mmtel_call.specs.Closing.{Step, onward, over, over_stood, with_past}
 use Rattle.mmtel_call.specs.Diverting.{at_target, divert, diverted, goes_on, is_diverted, made, made_unless, on_end, on_turn, passed_by, reach, refusal_by, refused, refused_by, told_of}
-use Rattle.mmtel_call.specs.Leaving.{acked_again, answered_at, answered_loose, answered_other, answered_taken, answered_taken_at, as_loose, forked, is_fork, is_success, is_taken, is_talking, repeated, without_key, without_silent}
+use Rattle.mmtel_call.specs.Dismissal.{leaves_on_status}
+use Rattle.mmtel_call.specs.Flights as in_flight
+use Rattle.mmtel_call.specs.Flights.{settled, updating}
+use Rattle.mmtel_call.specs.Leaving.{acked_again, answered_at, answered_loose, answered_other, answered_taken, answered_taken_at, as_loose, forked, is_fork, is_success, is_taken, is_talking, repeated, silent_other, silent_other_at, without_key, without_silent}
 use Rattle.mmtel_call.specs.Lending.{finished, finished_in}
 use Rattle.mmtel_call.specs.Offering.{dialog_of, offer}
 use Rattle.mmtel_call.specs.Opening.{caller_of, new_call, opened, unless_refused}
 use Rattle.mmtel_call.specs.Reinvites.{agreed, asked_across, bye_to_both, bye_while_asking, cancelled_across, cancelled_if_due, cancelling, ends_dialog, invited, loose_across, on_response_across, proceeding, proceeding_across, refused_back, relayed_back, silenced_across}
-use Rattle.mmtel_call.specs.Requests.{having_heard, is_bye, is_invite, says, unheard, unlisted}
+use Rattle.mmtel_call.specs.Reliable.{acknowledged_by, acknowledging, answer_named, on_rack, own_for, prack_refused, relayed_reliably, status_of_refusal}
+use Rattle.mmtel_call.specs.Requests.{having_heard, is_bye, is_invite, is_prack, is_update, says, unheard, unlisted}
 use Rattle.mmtel_call.specs.Ringing as ringing
-use Rattle.mmtel_call.specs.Ringing.{answered, armed, armed_in, cancelled_attempt, failed, given_up, heard_by, left, on_cancel, on_due, on_heard, on_request, on_request_if, on_response, says_offered, silenced, timed_out, tried, with_loose, awaiting_expiry, expiries, expiry_in}
+use Rattle.mmtel_call.specs.Ringing.{answered, armed, armed_in, cancelled_attempt, failed, given_up, given_up_by, heard_by, left, on_cancel, on_due, on_heard, on_other, on_prack_of, on_request, on_request_if, on_response, says_offered, silenced, timed_out, tried, with_loose, awaiting_expiry, expiries, expiry_in}
 use Rattle.mmtel_call.specs.Sending.{relayed_to_caller, replied_to, told_caller, told_diversion}
 use Rattle.mmtel_call.specs.Stages.{busy_in, has_left, is_due_at, left_by, on_ack_at, on_bye, on_cancel_at, on_due_at, on_heard_at, on_invite, on_request_at, on_request_at_if, on_response_at, on_silence_at, rung_out}
-use Rattle.mmtel_call.specs.Table.{ack_in, answer_to, cancel_in, due_in, is_current, request_in, response_in, silence_in, silence_of, step}
+use Rattle.mmtel_call.specs.Table.{ack_in, answer_to, cancel_in, due_in, is_current, leaves, leaves_on_response, request_in, response_in, row, silence_in, silence_of, step}
+use Rattle.mmtel_call.specs.Updates.{crossing, later, on_update, on_update_at, takes_updates, unless_updating, updated_across, updated_early}
 use Rattle.mmtel_call.specs.declared.calls.Attempt.{Attempt}
 use Rattle.mmtel_call.specs.declared.calls.Call.{Call}
+use Rattle.mmtel_call.specs.declared.calls.Flight.{Flight}
+use Rattle.mmtel_call.specs.declared.calls.FlightKind.{FlightKind}
+use Rattle.mmtel_call.specs.declared.calls.FlightKind.TheVariants.{Prack, Update}
 use Rattle.mmtel_call.specs.declared.calls.Pair.{Pair}
 use Rattle.mmtel_call.specs.declared.calls.Phase.{Phase}
 use Rattle.mmtel_call.specs.declared.calls.Phase.TheVariants.{Lent, Offered, Over, Stood}
@@ -66,6 +75,8 @@ use Rattle.mmtel_precedence.specs.Calls.{End, NoReply, NotReachable, Standing}
 use Rattle.mmtel_precedence.specs.Services.{DueDiversion}
 use Rattle.mmtel_precedence.specs.Turns.{AfterEnd, EndAnswered, EndDivert, EndRefuse, Turn, TurnDivert, TurnOffer, TurnRefuse}
 use Rattle.mmtel_precedence.specs.Verdicts.{too_many}
+use Rattle.mmtel_reliable.specs.Acks.{has_own}
+use Rattle.mmtel_reliable.specs.declared.racks.Rack.{Rack}
 use Rattle.mmtel_targets.specs.declared.targets.Target.{Target}
 use Rattle.mmtel_transaction.specs.declared.words.DueWord.{DueWord}
 use Rattle.mmtel_transaction.specs.declared.words.DueWord.TheVariants as due
@@ -85,7 +96,7 @@ use Rattle.mmtel_message.specs.Responses.{response}
 use Rattle.mmtel_scan.specs.Numbers.{next_number}
 use Rattle.mmtel_types.specs.declared.numbers.CallNo.{CallNo}
 use Rattle.mmtel_call_laws.specs.Session.Laws.{expiry_at}
-use Rattle.mmtel_call_laws.specs.Session.Seen.{expiries_of, expiry_of, is_accepted, success_heard, success_to}
+use Rattle.mmtel_call_laws.specs.Session.Seen.{expiries_of, expiry_of, is_accepted, is_prack_at, is_prack_in, success_heard, success_to}
 use Rattle.mmtel_call_laws.specs.Trace.Seen.{Deadline}
 
 -- ---- statuses
@@ -136,6 +147,10 @@ module _ (site : Site) (own : CallNo) (count : ℕ) (before : List Emit) where
 
   pub nothing_yet : (accepts : Bool) (desk : Desk) → desk.out ≡ before → Adds accepts desk
   nothing_yet accepts desk is = record { new = []; out = is ∙ sym (append-nil before); none = refl; said = λ unsaid. refl }
+
+  -- where none was said, fewer may be
+  quiet_of : (desk : Desk) → Silent desk → Quiet desk
+  quiet_of desk had = record { new = had.new; out = had.out; none = had.none; said = λ unsaid. had.said refl }
 
   more_in : (accepts : Bool) (e : Emit) (desk : Desk) → expiry_of own e ≡ [] → (accepts ≡ false → is_accepted e ≡ false) → Adds accepts desk → Adds accepts (emitted e desk)
   more_in accepts e desk is unsaid had = record {
@@ -259,7 +274,7 @@ module _ (site : Site) (own : CallNo) (count : ℕ) (before : List Emit) where
   offer_good : (at : ℕ) (caller : Leg) (service : Option Service) (waiting : Bool) (aim : Aim) (c : Call) (desk : Desk) → Opens c → Quiet desk → Good (offer site at caller service waiting aim c desk)
   offer_good at caller service waiting aim c desk k had =
       let third : Desk = drew (drew desk) in
-      let m : Message Start = invite_of (dialog_of c.opening aim desk) site.sip (token third) (shown_to site c.opening c.diversions service Caller aim.peer c.opening.invite) waiting c.opening.invite.heard in
+      let m : Message Start = invite_of (dialog_of c.opening aim desk) site.sip (token third) (offered_to site c.opening c.diversions service aim.peer) waiting c.opening.invite.heard in
       let asked : Desk = emitted (emit.Ask aim.peer m) (drew third) in
       good (offer site at caller service waiting aim c desk) k (emit_in _ asked refl (emit_in (emit.Ask aim.peer m) (drew third) refl (drew_in true third (drew_in true (drew desk) (drew_in true desk had)))))
 
@@ -322,10 +337,20 @@ module _ (site : Site) (own : CallNo) (count : ℕ) (before : List Emit) where
   armed_good code at attempt c desk had =
       if_desk (rings code && not attempt.rang) (armed_in (time_of (its_sheet attempt.service)) at attempt c desk) desk (armed_in_good (time_of (its_sheet attempt.service)) at attempt c desk had) had
 
-  proceeding_good : (at : ℕ) (x : Trial) (key : TKey) (m : Said) (code : ℕ) (c : Call) (desk : Desk) → Opens c → Quiet desk → Good (ringing.proceeding site at x key m code c desk)
-  proceeding_good at x key m code c desk k had =
-      good (ringing.proceeding site at x key m code c desk) k
+  relays_good : (own_number : Option ℕ) (rseq at : ℕ) (x : Trial) (key : TKey) (m : Said) (code : ℕ) (c : Call) (desk : Desk) → Opens c → Quiet desk → Good (ringing.relayed_if own_number rseq site at x key m code c desk)
+  relays_good None rseq at x key m code c desk k had = tried_good key x c desk k had
+  relays_good (Some number) rseq at x key m code c desk k had =
+      let passed : Desk = relayed_reliably site c x.attempt.service number m desk in
+      good (ringing.relayed_if (Some number) rseq site at x key m code c desk) k (emit_in _ (armed code at x.attempt c passed) refl (armed_good code at x.attempt c passed (emit_in _ desk refl had)))
+
+  proceeding_by_good : (number : Option ℕ) (at : ℕ) (x : Trial) (key : TKey) (m : Said) (code : ℕ) (c : Call) (desk : Desk) → Opens c → Quiet desk → Good (ringing.proceeding_by number site at x key m code c desk)
+  proceeding_by_good None at x key m code c desk k had =
+      good (ringing.relayed_plainly site at x key m code c desk) k
       (armed_good code at x.attempt c (relayed_to_caller site c x.attempt.service m desk) (relayed_in c x.attempt.service m desk had))
+  proceeding_by_good (Some rseq) at x key m code c desk k had = relays_good (own_for rseq x m c) rseq at x key m code c desk k had
+
+  proceeding_good : (at : ℕ) (x : Trial) (key : TKey) (m : Said) (code : ℕ) (c : Call) (desk : Desk) → Opens c → Quiet desk → Good (ringing.proceeding site at x key m code c desk)
+  proceeding_good at x key m code c desk k had = proceeding_by_good (reliable_number site c.opening m) at x key m code c desk k had
 
   -- ---- a 2xx is passed on
 
@@ -412,13 +437,13 @@ module _ (site : Site) (own : CallNo) (count : ℕ) (before : List Emit) where
   some_of : (m : Said) → is_success (status_of m.heard.start) ≡ true → heard_of m ≡ Some m
   some_of m is = ap (λ b. if b then Some m else None) is
 
-  response_goes : (now : Standing) (x : Trial) (key : TKey) (m : Said) (c : Call) (desk : Desk) → Opens c → desk.out ≡ before → Goes now.at (heard_of m) (on_response site now x key m (status_of m.heard.start) c desk)
-  response_goes now x key m c desk k is =
+  response_goes : (now : Standing) (x : Trial) (key : TKey) (m : Said) (c : Call) (desk : Desk) → Opens c → Silent desk → Goes now.at (heard_of m) (on_response site now x key m (status_of m.heard.start) c desk)
+  response_goes now x key m c desk k unsaid =
       let code : ℕ = status_of m.heard.start in
       let at : ℕ = now.at in
-      let had : Quiet desk = nothing_yet true desk is in
+      let had : Quiet desk = quiet_of desk unsaid in
       goes_if at (heard_of m) (nat_lt code 101) (tried key x c desk) _
-      (λ low. SaysNone (record { call_in = k; desk_in = nothing_yet false desk is }))
+      (λ low. SaysNone (record { call_in = k; desk_in = unsaid }))
       (λ high. goes_if at (heard_of m) (nat_lt code 200) (ringing.proceeding site at x key m code c desk) _
       (λ low. HearsNone (none_of m (low_status code low)) (proceeding_good at x key m code c desk k had))
       (λ above. goes_if at (heard_of m) (nat_lt code 300) (answered site at x key m c desk) (failed site now x key m code c desk)
@@ -436,35 +461,85 @@ module _ (site : Site) (own : CallNo) (count : ℕ) (before : List Emit) where
   timed_out_good : (now : Standing) (x : Trial) (how : End) (c : Call) (desk : Desk) → Opens c → Quiet desk → Good (timed_out site now x how c desk)
   timed_out_good now x how c desk k had = goes_on_good now x how None (left x c) (cancelled_attempt site x desk) k (cancelled_in x.attempt.invitation desk had)
 
+  given_up_good : (cause : Cause) (at : ℕ) (x : Trial) (c : Call) (desk : Desk) → Opens c → Quiet desk → Good (given_up_by cause site at x c desk)
+  given_up_good cause at x c desk k had =
+      let told : Desk = told_caller site c (of_causes.status_of cause) desk in
+      over_good at cause x.caller.meter x.callee.leg.meter (left x c) (cancelled_attempt site x told) k (cancelled_in x.attempt.invitation told (told_in c (of_causes.status_of cause) desk had))
+
   due_row : (now : Standing) (x : Trial) (what : DueWord) (c : Call) (desk : Desk) → Opens c → Quiet desk → Good (on_due site now x what (offered_call x c) desk)
   due_row now x (due.NoReply number) c desk k had =
       if_good (number == x.attempt.number) (timed_out site now x NoReply (offered_call x c) desk) (onward (offered_call x c) desk)
       (timed_out_good now x NoReply (offered_call x c) desk k had) (onward_good (offered_call x c) desk k had)
-  due_row now x (due.NoPrack number) c desk k had = onward_good (offered_call x c) desk k had
+  due_row now x (due.NoPrack number) c desk k had =
+      if_good (has_own number c.acks.waiting) (given_up_by causes.Unacknowledged site now.at x (offered_call x c) desk) (onward (offered_call x c) desk)
+      (given_up_good causes.Unacknowledged now.at x (offered_call x c) desk k had) (onward_good (offered_call x c) desk k had)
   due_row now x (due.Cap number) c desk k had =
       if_good (number == x.attempt.number) (timed_out site now x (end_by_time x.attempt.rang) (offered_call x c) desk) (onward (offered_call x c) desk)
       (timed_out_good now x (end_by_time x.attempt.rang) (offered_call x c) desk k had) (onward_good (offered_call x c) desk k had)
   due_row now x (due.NoAck number) c desk k had = onward_good (offered_call x c) desk k had
   due_row now x (due.Expired number) c desk k had = onward_good (offered_call x c) desk k had
 
-  given_up_good : (at : ℕ) (x : Trial) (c : Call) (desk : Desk) → Opens c → Quiet desk → Good (given_up site at x c desk)
-  given_up_good at x c desk k had =
-      over_good at causes.Cancelled x.caller.meter x.callee.leg.meter (left x c) (cancelled_attempt site x (told_caller site c 487 desk)) k
-      (cancelled_in x.attempt.invitation (told_caller site c 487 desk) (told_in c 487 desk had))
-
   cancel_row : (at : ℕ) (x : Trial) (key : TKey) (m : Said) (invite : TKey) (c : Call) (desk : Desk) → Opens c → Quiet desk → Good (on_cancel site at x key m invite (offered_call x c) desk)
   cancel_row at x key m invite c desk k had =
       let told : Quiet (replied_to site (offered_call x c) key m 200 desk) = replied_in (offered_call x c) key m 200 desk had in
       if_good (invite.0 == c.opening.key.0) (given_up site at x (offered_call x c) (replied_to site (offered_call x c) key m 200 desk)) (onward (offered_call x c) (replied_to site (offered_call x c) key m 200 desk))
-      (given_up_good at x (offered_call x c) (replied_to site (offered_call x c) key m 200 desk) k told)
+      (given_up_good causes.Cancelled at x (offered_call x c) (replied_to site (offered_call x c) key m 200 desk) k told)
       (onward_good (offered_call x c) (replied_to site (offered_call x c) key m 200 desk) k told)
+
+  -- PRACK and UPDATE
+
+  asked_in : (method : List ℕ) (d : Dialogue) (passed : List Line) (m : HeardMessage) (desk : Desk) → Quiet desk → Quiet (asked_for site.sip method d passed m desk)
+  asked_in method d passed m desk had = sent_in true _ (drew desk) refl refl (drew_in true desk had)
+
+  settled_desk : (accepts : Bool) (number : Option ℕ) (c : Call) (desk : Desk) → Adds accepts desk → Adds accepts (settled site number c desk)
+  settled_desk accepts number c desk had = if_adds accepts site.reliable (emitted (emit.Settled c.opening.key number) desk) desk (sent_in accepts _ desk refl refl had) had
+
+  prack_refused_good : (key : TKey) (m : Said) (c : Call) (desk : Desk) → Opens c → Quiet desk → Good (prack_refused site key m c desk)
+  prack_refused_good key m c desk k had = onward_good c _ k (replied_in c key m (status_of_refusal (acknowledged_by m)) desk had)
+
+  acknowledging_good : (x : Trial) (key : TKey) (m : Said) (rack : Rack) (answer : Option ℕ) (c : Call) (desk : Desk) → Opens c → Quiet desk → Good (acknowledging site x key m rack answer c desk)
+  acknowledging_good x key m rack None c desk k had = prack_refused_good key m c desk k had
+  acknowledging_good x key m rack (Some answer) c desk k had =
+      let before_it : Desk = settled site (Some rack.answer) c desk in
+      good (acknowledging site x key m rack (Some answer) c desk) k (sent_in true _ (drew before_it) refl refl (drew_in true before_it (settled_desk true (Some rack.answer) c desk had)))
+
+  rack_good : (x : Trial) (key : TKey) (m : Said) (rack : Option Rack) (c : Call) (desk : Desk) → Opens c → Quiet desk → Good (on_rack site x key m rack c desk)
+  rack_good x key m None c desk k had = prack_refused_good key m c desk k had
+  rack_good x key m (Some rack) c desk k had = acknowledging_good x key m rack (answer_named x c rack) c desk k had
+
+  prack_of_good : (side : Side) (x : Trial) (key : TKey) (m : Said) (c : Call) (desk : Desk) → Opens c → Quiet desk → Good (on_prack_of side site x key m c desk)
+  prack_of_good Caller x key m c desk k had = rack_good x key m (acknowledged_by m) c desk k had
+  prack_of_good Callee x key m c desk k had = prack_refused_good key m c desk k had
+
+  later_good : (key : TKey) (m : Said) (c : Call) (desk : Desk) → Opens c → Quiet desk → Good (later site key m c desk)
+  later_good key m c desk k had = onward_good c _ k (emit_in _ desk refl had)
+
+  crossing_good : (key : TKey) (m : Said) (c : Call) (desk : Desk) → Opens c → Quiet desk → Good (crossing site key m c desk)
+  crossing_good key m c desk k had = onward_good c _ k (emit_in _ desk refl had)
+
+  unless_updating_good : (flying : Option Side) (across : Call → Desk → Step) (side : Side) (key : TKey) (m : Said) (c : Call) (desk : Desk) → Opens c → Quiet desk → Good (across c desk) →
+      Good (unless_updating flying across site side key m c desk)
+  unless_updating_good None across side key m c desk k had passes = passes
+  unless_updating_good (Some other) across side key m c desk k had passes =
+      if_good (is_same_side other side) (later site key m c desk) (crossing site key m c desk) (later_good key m c desk k had) (crossing_good key m c desk k had)
+
+  update_good : (x : Trial) (side : Side) (key : TKey) (m : Said) (c : Call) (desk : Desk) → Opens c → Quiet desk → Good (on_update site x side key m c desk)
+  update_good x side key m c desk k had =
+      if_good (takes_updates x) (unless_updating (updating c.flights) (updated_early site x side key m) site side key m c desk) (later site key m c desk)
+      (unless_updating_good (updating c.flights) (updated_early site x side key m) side key m c desk k had
+      (good (updated_early site x side key m c desk) k (sent_in true _ (drew desk) refl refl (drew_in true desk had)))) (later_good key m c desk k had)
+
+  other_heard_good : (x : Trial) (side : Side) (key : TKey) (m : Said) (c : Call) (desk : Desk) → Opens c → Quiet desk → Good (on_other site x side key m c desk)
+  other_heard_good x side key m c desk k had =
+      if_good (is_prack m) (on_prack_of side site x key m c desk) (if is_update m then on_update site x side key m c desk else onward c (unlisted site c key m desk)) (prack_of_good side x key m c desk k had)
+      (if_good (is_update m) (on_update site x side key m c desk) (onward c (unlisted site c key m desk)) (update_good x side key m c desk k had) (onward_good c (unlisted site c key m desk) k (unlisted_in c key m desk had)))
 
   heard_row : (at : ℕ) (x : Trial) (side : Side) (key : TKey) (m : Said) (c : Call) (desk : Desk) → Opens c → Quiet desk → Good (on_heard site at x side key m (offered_call x c) desk)
   heard_row at x Caller key m c desk k had =
-      if_good (is_bye m) (given_up site at x (offered_call x c) (replied_to site (offered_call x c) key m 200 desk)) (onward (offered_call x c) (unlisted site (offered_call x c) key m desk))
-      (given_up_good at x (offered_call x c) (replied_to site (offered_call x c) key m 200 desk) k (replied_in (offered_call x c) key m 200 desk had))
-      (onward_good (offered_call x c) (unlisted site (offered_call x c) key m desk) k (unlisted_in (offered_call x c) key m desk had))
-  heard_row at x Callee key m c desk k had = onward_good (offered_call x c) (unlisted site (offered_call x c) key m desk) k (unlisted_in (offered_call x c) key m desk had)
+      if_good (is_bye m) (given_up site at x (offered_call x c) (replied_to site (offered_call x c) key m 200 desk)) (on_other site x Caller key m (offered_call x c) desk)
+      (given_up_good causes.Cancelled at x (offered_call x c) (replied_to site (offered_call x c) key m 200 desk) k (replied_in (offered_call x c) key m 200 desk had))
+      (other_heard_good x Caller key m (offered_call x c) desk k had)
+  heard_row at x Callee key m c desk k had = other_heard_good x Callee key m (offered_call x c) desk k had
 
   request_if_row : (r : Result (Unit {0}) DialogueFault) (at : ℕ) (x : Trial) (side : Side) (key : TKey) (m : Said) (c : Call) (desk : Desk) →
       Opens c → Quiet desk → Good (on_request_if r site at x side key m (offered_call x c) desk)
@@ -537,11 +612,11 @@ module _ (site : Site) (own : CallNo) (count : ℕ) (before : List Emit) where
   bye_both_in : (x : Pair) (desk : Desk) → Quiet desk → Quiet (bye_to_both site x desk)
   bye_both_in x desk had = bye_to_in x Callee (bye_to site x Caller desk) (bye_to_in x Caller desk had)
 
-  across_goes : (at : ℕ) (x : Pair) (side : Side) (q : Reinvite) (key : TKey) (m : Said) (c : Call) (desk : Desk) → Opens c → desk.out ≡ before →
+  across_goes : (at : ℕ) (x : Pair) (side : Side) (q : Reinvite) (key : TKey) (m : Said) (c : Call) (desk : Desk) → Opens c → Silent desk →
       Goes at (heard_of m) (on_response_across site at x side q key m (status_of m.heard.start) c desk)
   across_goes at x side q key m c desk k is =
       let code : ℕ = status_of m.heard.start in
-      let had : Quiet desk = nothing_yet true desk is in
+      let had : Quiet desk = quiet_of desk is in
       let back : Desk = refused_back site x side q key m c desk in
       let told : Quiet back = refused_back_in x side q key m c desk had in
       goes_if at (heard_of m) (nat_lt code 200) (proceeding_across site x side q key c desk) _
@@ -596,13 +671,23 @@ module _ (site : Site) (own : CallNo) (count : ℕ) (before : List Emit) where
       (staged_good x stage c (replied_to site (stood x stage c) key m 481 desk) k (replied_in (stood x stage c) key m 481 desk had))
       (left_row stage at x side m (stood x stage c) (replied_to site (stood x stage c) key m 200 desk) k (replied_in (stood x stage c) key m 200 desk had))
 
+  update_at_row : (stage : Stage) (x : Pair) (side : Side) (key : TKey) (m : Said) (c : Call) (desk : Desk) → Opens c → Quiet desk → Good (on_update_at stage site x side key m c desk)
+  update_at_row (Answered waiting success) x side key m c desk k had = crossing_good key m c desk k had
+  update_at_row (Parting waiting success) x side key m c desk k had = crossing_good key m c desk k had
+  update_at_row Talking x side key m c desk k had =
+      unless_updating_good (updating c.flights) (updated_across site x side key m) side key m c desk k had (good (updated_across site x side key m c desk) k (sent_in true _ (drew desk) refl refl (drew_in true desk had)))
+  update_at_row (Asking asking q) x side key m c desk k had = crossing_good key m c desk k had
+
+  rest_at_row : (key : TKey) (m : Said) (c : Call) (desk : Desk) → Opens c → Quiet desk → Good (if is_prack m then prack_refused site key m c desk else onward c (unlisted site c key m desk))
+  rest_at_row key m c desk k had =
+      if_good (is_prack m) (prack_refused site key m c desk) (onward c (unlisted site c key m desk)) (prack_refused_good key m c desk k had) (onward_good c (unlisted site c key m desk) k (unlisted_in c key m desk had))
+
   heard_at_row : (stage : Stage) (at : ℕ) (x : Pair) (side : Side) (key : TKey) (m : Said) (c : Call) (desk : Desk) → Opens c → Quiet desk → Good (on_heard_at stage site at x side key m (stood x stage c) desk)
   heard_at_row stage at x side key m c desk k had =
-      if_good (is_invite m) (on_invite stage site x side key m (stood x stage c) desk) (if is_bye m then on_bye stage site at x side key m (stood x stage c) desk else onward (stood x stage c) (unlisted site (stood x stage c) key m desk))
-      (invite_row stage x side key m c desk k had)
-      (if_good (is_bye m) (on_bye stage site at x side key m (stood x stage c) desk) (onward (stood x stage c) (unlisted site (stood x stage c) key m desk))
-      (bye_row stage at x side key m c desk k had)
-      (staged_good x stage c (unlisted site (stood x stage c) key m desk) k (unlisted_in (stood x stage c) key m desk had)))
+      let d : Call = stood x stage c in
+      if_good (is_invite m) (on_invite stage site x side key m d desk) _ (invite_row stage x side key m c desk k had)
+      (if_good (is_bye m) (on_bye stage site at x side key m d desk) _ (bye_row stage at x side key m c desk k had)
+      (if_good (is_update m) (on_update_at stage site x side key m d desk) _ (update_at_row stage x side key m d desk k had) (rest_at_row key m d desk k had)))
 
   request_at_if_row : (r : Result (Unit {0}) DialogueFault) (stage : Stage) (at : ℕ) (x : Pair) (side : Side) (key : TKey) (m : Said) (c : Call) (desk : Desk) →
       Opens c → Quiet desk → Good (on_request_at_if r stage site at x side key m (stood x stage c) desk)
@@ -630,10 +715,10 @@ module _ (site : Site) (own : CallNo) (count : ℕ) (before : List Emit) where
       if_good (invite.0 == q.key.0) (cancelled_across site x asking q (stood x (Asking asking q) c) desk) (onward (stood x (Asking asking q) c) desk)
       (cancelled_across_good x asking q (stood x (Asking asking q) c) desk k had) (staged_good x (Asking asking q) c desk k had)
 
-  nothing_said : (c : Call) (desk : Desk) → Opens c → desk.out ≡ before → Stays false (onward c desk)
-  nothing_said c desk k is = record { call_in = k; desk_in = nothing_yet false desk is }
+  nothing_said : (c : Call) (desk : Desk) → Opens c → Silent desk → Stays false (onward c desk)
+  nothing_said c desk k unsaid = record { call_in = k; desk_in = unsaid }
 
-  response_at_goes : (stage : Stage) (at : ℕ) (x : Pair) (key : TKey) (m : Said) (c : Call) (desk : Desk) → Opens c → desk.out ≡ before → Goes at (heard_of m) (on_response_at stage site at x key m (stood x stage c) desk)
+  response_at_goes : (stage : Stage) (at : ℕ) (x : Pair) (key : TKey) (m : Said) (c : Call) (desk : Desk) → Opens c → Silent desk → Goes at (heard_of m) (on_response_at stage site at x key m (stood x stage c) desk)
   response_at_goes (Answered waiting success) at x key m c desk k is = SaysNone (nothing_said (stood x (Answered waiting success) c) desk k is)
   response_at_goes (Parting waiting success) at x key m c desk k is = SaysNone (nothing_said (stood x (Parting waiting success) c) desk k is)
   response_at_goes Talking at x key m c desk k is = SaysNone (nothing_said (stood x Talking c) desk k is)
@@ -679,7 +764,7 @@ module _ (site : Site) (own : CallNo) (count : ℕ) (before : List Emit) where
   success_rest : (l : Loose) (remote : Remote) (o : Option Dialogue) (desk : Desk) → Silent desk → Silent (on_success_in site.sip l remote o desk).desk
   success_rest l remote (Some d) desk had = any_acked_in false d desk had
   success_rest l remote None desk had =
-      let d : Dialogue = left_ones.made_from l.within l.invitation.early l.invitation.dialogue remote in
+      let d : Dialogue = left_ones.made_from l.within l.invitation.early l.invitation.asked l.invitation.dialogue remote in
       any_bye_in false d (acked site.sip d desk) (any_acked_in false d desk had)
 
   late_response : (key : TKey) (m : HeardMessage) (l : Loose) (desk : Desk) → Silent desk → Silent (left_ones.on_response site.sip key m l desk).desk
@@ -712,20 +797,119 @@ module _ (site : Site) (own : CallNo) (count : ℕ) (before : List Emit) where
       (onward_silent c (if is_talking c.phase then acked_again t t.invitation.ack desk else desk) k
       (if_adds false (is_talking c.phase) (acked_again t t.invitation.ack desk) desk (acked_again_in t t.invitation.ack desk had) had)))
 
-  taken_at_row : (key : TKey) (m : Said) (o : Option ℕ) (c : Call) (desk : Desk) → Opens c → Silent desk → Stays false (answered_taken_at site key m o c desk)
-  taken_at_row key m None c desk k had = onward_silent c desk k had
-  taken_at_row key m (Some at) c desk k had = taken_row key m at (slice_get c.taken at) c desk k had
+  -- ---- what is in flight
 
-  at_row : (key : TKey) (m : Said) (branch : List ℕ) (o : Option ℕ) (c : Call) (desk : Desk) → Opens c → Silent desk → Stays false (answered_at site key m branch o c desk)
-  at_row key m branch None c desk k had = taken_at_row key m (position (is_taken branch) c.taken) c desk k had
-  at_row key m branch (Some at) c desk k had = loose_row key m at (slice_get c.loose at) c desk k had
+  -- the 2xx of an UPDATE is passed on, and what is armed of it
+  updates_on : (at : ℕ) (m : Said) (e : Emit) (c d : Call) (desk : Desk) → expiry_of own e ≡ [] → is_accepted e ≡ true → Opens c → d.successes ≡ next_number count → d.opening.number ≡ own → Quiet desk →
+      Agrees at m (record { call = d; desk = awaiting_expiry site at m c (emitted e desk) })
+  updates_on at m e c d desk quiet said k number opening had =
+      let armed : List Emit = expiries site.timer at m c in
+      record {
+        number = number;
+        opening = opening;
+        new = had.new ++ e ∷ armed;
+        out = ap (λ l. (l ++ e ∷ []) ++ armed) had.out ∙ ap (λ l. l ++ armed) (append_assoc before had.new (e ∷ [])) ∙ append_assoc before (had.new ++ e ∷ []) armed ∙ ap (λ l. before ++ l) (append_assoc had.new (e ∷ []) armed);
+        armed = expiries_append own had.new (e ∷ armed) ∙ (λ i. had.none i ++ (quiet i ++ expiry_seen site.timer (expiry_after m.heard.session) at c k i));
+        said = any_append had.new (e ∷ armed) ∙ ap (λ b. list_any is_accepted had.new || (b || list_any is_accepted armed)) said ∙ or_true (list_any is_accepted had.new);
+      }
+    where
+      or_true : (b : Bool) → (b || true) ≡ true
+      or_true true = refl
+      or_true false = refl
 
-  other_row : (key : TKey) (m : Said) (branch : List ℕ) (c : Call) (desk : Desk) → Opens c → Silent desk → Stays false (answered_other site key m branch c desk)
+  update_agrees : (at : ℕ) (flight : Flight) (m : Said) (c : Call) (desk : Desk) → is_success (status_of m.heard.start) ≡ true → Opens c → Quiet desk →
+      Agrees at m (in_flight.agreed Update site at flight.side flight.asked.request m c (in_flight.relayed_back_to site flight m c desk))
+  unfolding response
+  update_agrees at flight m c desk is k had =
+      updates_on at m _ c (in_flight.updated_by flight.side flight.asked.request c) desk refl is k (ap next_number k.0) k.1 had
+
+  -- of a PRACK no 2xx counts
+  abbrev heard_in : FlightKind → Said → Option Said
+  heard_in kind m = if not (not (in_flight.is_update_of kind)) && is_success (status_of m.heard.start) then Some m else None
+
+  kind_goes : (kind : FlightKind) (at : ℕ) (flight : Flight) (m : Said) (place : ℕ) (c : Call) (desk : Desk) → Opens c → Silent desk →
+      let gone = in_flight.without_flight place c in
+      let back = in_flight.relayed_back_to site flight m gone desk in
+      Goes at (heard_in kind m)
+      (if nat_lt (status_of m.heard.start) 200 then onward c desk
+      else if is_success (status_of m.heard.start) then in_flight.agreed kind site at flight.side flight.asked.request m gone back else onward gone back)
+  kind_goes Prack at flight m place c desk k unsaid =
+      let gone : Call = in_flight.without_flight place c in
+      let back : Desk = in_flight.relayed_back_to site flight m gone desk in
+      let told : Good (onward gone back) = onward_good gone back k (emit_in _ desk refl (quiet_of desk unsaid)) in
+      HearsNone refl
+      (if_good (nat_lt (status_of m.heard.start) 200) (onward c desk) (if is_success (status_of m.heard.start) then onward gone back else onward gone back) (onward_good c desk k (quiet_of desk unsaid))
+      (if_good (is_success (status_of m.heard.start)) (onward gone back) (onward gone back) told told))
+  kind_goes Update at flight m place c desk k unsaid =
+      let gone : Call = in_flight.without_flight place c in
+      let back : Desk = in_flight.relayed_back_to site flight m gone desk in
+      goes_if at (heard_of m) (nat_lt (status_of m.heard.start) 200) (onward c desk) _ (λ low. SaysNone (nothing_said c desk k unsaid))
+      (λ above. goes_if at (heard_of m) (is_success (status_of m.heard.start)) (in_flight.agreed Update site at flight.side flight.asked.request m gone back) (onward gone back)
+      (λ yes. Passes m (some_of m yes) (update_agrees at flight m gone desk yes k (quiet_of desk unsaid)))
+      (λ no. HearsNone (none_of m no) (onward_good gone back k (emit_in _ desk refl (quiet_of desk unsaid)))))
+
+  flight_goes : (at : ℕ) (m : Said) (place : ℕ) (o : Option Flight) (c : Call) (desk : Desk) → Opens c → Silent desk →
+      Goes at (if not (is_prack_in o) && is_success (status_of m.heard.start) then Some m else None) (in_flight.answered_flight site at m (status_of m.heard.start) place o c desk)
+  flight_goes at m place None c desk k unsaid = SaysNone (nothing_said c desk k unsaid)
+  flight_goes at m place (Some flight) c desk k unsaid = kind_goes flight.kind at flight m place c desk k unsaid
+
+  flying_goes : (at : ℕ) (m : Said) (o : Option ℕ) (c : Call) (desk : Desk) → Opens c → Silent desk →
+      Goes at (if not (is_prack_at o c.flights) && is_success (status_of m.heard.start) then Some m else None) (in_flight.answered_in_flight site at m o c desk)
+  flying_goes at m None c desk k unsaid = SaysNone (nothing_said c desk k unsaid)
+  flying_goes at m (Some place) c desk k unsaid = flight_goes at m place (slice_get c.flights place) c desk k unsaid
+
+  -- the response to a request that the call does not wait on, of this branch
+  abbrev heard_at : (branch : List ℕ) → Said → Call → Option Said
+  heard_at branch m c = if not (is_prack_at (position (in_flight.is_in_flight branch) c.flights) c.flights) && is_success (status_of m.heard.start) then Some m else None
+
+  taken_at_goes : (at : ℕ) (key : TKey) (m : Said) (branch : List ℕ) (o : Option ℕ) (c : Call) (desk : Desk) → Opens c → Silent desk → Goes at (heard_at branch m c) (answered_taken_at site at key m branch o c desk)
+  taken_at_goes at key m branch None c desk k unsaid = flying_goes at m (position (in_flight.is_in_flight branch) c.flights) c desk k unsaid
+  taken_at_goes at key m branch (Some place) c desk k unsaid = SaysNone (taken_row key m place (slice_get c.taken place) c desk k unsaid)
+
+  at_goes : (at : ℕ) (key : TKey) (m : Said) (branch : List ℕ) (o : Option ℕ) (c : Call) (desk : Desk) → Opens c → Silent desk → Goes at (heard_at branch m c) (answered_at site at key m branch o c desk)
+  at_goes at key m branch None c desk k unsaid = taken_at_goes at key m branch (position (is_taken branch) c.taken) c desk k unsaid
+  at_goes at key m branch (Some place) c desk k unsaid = SaysNone (loose_row key m place (slice_get c.loose place) c desk k unsaid)
+
+  other_goes : (at : ℕ) (key : TKey) (m : Said) (branch : List ℕ) (c : Call) (desk : Desk) → Opens c → Silent desk → Goes at (heard_at branch m c) (answered_other site at key m branch c desk)
   unfolding answered_other
-  other_row key m branch c desk k had = at_row key m branch (position (is_of branch) c.loose) c desk k had
+  other_goes at key m branch c desk k unsaid = at_goes at key m branch (position (is_of branch) c.loose) c desk k unsaid
 
-  silent_row : (branch : List ℕ) (c : Call) (desk : Desk) → Opens c → Quiet desk → Good (onward (without_silent branch c) desk)
-  silent_row branch c desk k had = good (onward (without_silent branch c) desk) k had
+  silent_flight_good : (place : ℕ) (o : Option Flight) (c : Call) (desk : Desk) → Opens c → Quiet desk → Good (in_flight.silent_flight site place o c desk)
+  silent_flight_good place None c desk k had = onward_good c desk k had
+  silent_flight_good place (Some flight) c desk k had = onward_good (in_flight.without_flight place c) _ k (emit_in _ desk refl had)
+
+  silent_flying_good : (o : Option ℕ) (c : Call) (desk : Desk) → Opens c → Quiet desk → Good (in_flight.silent_in_flight site o c desk)
+  silent_flying_good None c desk k had = onward_good c desk k had
+  silent_flying_good (Some place) c desk k had = silent_flight_good place (slice_get c.flights place) c desk k had
+
+  silent_at_good : (branch : List ℕ) (o : Option ℕ) (c : Call) (desk : Desk) → Opens c → Quiet desk → Good (silent_other_at site branch o c desk)
+  silent_at_good branch None c desk k had = silent_flying_good (position (in_flight.is_in_flight branch) c.flights) c desk k had
+  silent_at_good branch (Some place) c desk k had = good (onward (without_silent branch c) desk) k had
+
+  silent_row : (branch : List ℕ) (c : Call) (desk : Desk) → Opens c → Quiet desk → Good (silent_other site branch c desk)
+  silent_row branch c desk k had = silent_at_good branch (position (is_of branch) c.loose) c desk k had
+
+  -- it is dismissed
+
+  settled_in_desk : (accepts : Bool) (phase : Phase) (c : Call) (desk : Desk) → Adds accepts desk → Adds accepts (in_flight.settled_in phase site c desk)
+  settled_in_desk accepts (Offered x) c desk had = settled_desk accepts None c desk had
+  settled_in_desk accepts (Stood x stage) c desk had = had
+  settled_in_desk accepts (Lent loan) c desk had = had
+  settled_in_desk accepts (Over cause) c desk had = had
+
+  dismissed_in : (kind : FlightKind) (flight : Flight) (c : Call) (desk : Desk) → Silent desk → Silent (replied_to site c flight.asked.key flight.asked.request (in_flight.dismissal_of kind) desk)
+  unfolding response
+  dismissed_in Prack flight c desk had = sent_in false _ desk refl refl had
+  dismissed_in Update flight c desk had = sent_in false _ desk refl refl had
+
+  each_desk : (c : Call) (flights : List Flight) (desk : Desk) → Silent desk → Silent (in_flight.dismissed_each site c flights desk)
+  each_desk c [] desk had = had
+  each_desk c (flight ∷ flights) desk had = each_desk c flights (in_flight.dismissed_flight site c flight desk) (dismissed_in flight.kind flight c desk had)
+
+  dismissing_desk : (c : Call) (desk : Desk) → Silent desk → Silent (in_flight.dismissing site c desk)
+  dismissing_desk c desk had =
+      settled_in_desk false c.phase c (in_flight.dismissed_all site c desk)
+      (each_desk c (filter in_flight.is_updating c.flights) _ (each_desk c (filter (λ flight. not (in_flight.is_updating flight)) c.flights) desk had))
 
   key_row : (key : TKey) (c : Call) (desk : Desk) → Opens c → Quiet desk → Good (onward (without_key key c) desk)
   key_row key c desk k had = good (onward (without_key key c) desk) k had
@@ -735,7 +919,7 @@ module _ (site : Site) (own : CallNo) (count : ℕ) (before : List Emit) where
   abbrev at_phase : Phase → Call → Call
   at_phase phase c = record c { phase = phase }
 
-  response_in_goes : (phase : Phase) (now : Standing) (key : TKey) (m : Said) (c : Call) (desk : Desk) → Opens c → desk.out ≡ before → Goes now.at (heard_of m) (response_in phase site now key m (at_phase phase c) desk)
+  response_in_goes : (phase : Phase) (now : Standing) (key : TKey) (m : Said) (c : Call) (desk : Desk) → Opens c → Silent desk → Goes now.at (heard_of m) (response_in phase site now key m (at_phase phase c) desk)
   response_in_goes (Offered x) now key m c desk k is = response_goes now x key m (at_phase (Offered x) c) desk k is
   response_in_goes (Stood x stage) now key m c desk k is = response_at_goes stage now.at x key m c desk k is
   response_in_goes (Lent loan) now key m c desk k is = SaysNone (nothing_said (at_phase (Lent loan) c) desk k is)
@@ -772,27 +956,65 @@ module _ (site : Site) (own : CallNo) (count : ℕ) (before : List Emit) where
   due_good (Lent loan) now what c desk k had = onward_good (at_phase (Lent loan) c) desk k had
   due_good (Over cause) now what c desk k had = onward_good (at_phase (Over cause) c) desk k had
 
-  answer_goes : (branch : Option (List ℕ)) (now : Standing) (key : TKey) (m : Said) (c : Call) (desk : Desk) → Opens c → desk.out ≡ before → Goes now.at (success_to branch m) (answer_to branch site now key m c desk)
-  answer_goes None now key m c desk k is = SaysNone (nothing_said c desk k is)
-  answer_goes (Some branch) now key m c desk k is =
-      goes_if now.at (heard_of m) (is_current branch c) (response_in c.phase site now key m c desk) (answered_other site key m branch c desk)
-      (λ current. response_in_goes c.phase now key m c desk k is) (λ other. SaysNone (other_row key m branch c desk k (nothing_yet false desk is)))
+  answer_either : (current : Bool) (branch : List ℕ) (now : Standing) (key : TKey) (m : Said) (c : Call) (desk : Desk) → Opens c → Silent desk →
+      Goes now.at (if not (not current && is_prack_at (position (in_flight.is_in_flight branch) c.flights) c.flights) && is_success (status_of m.heard.start) then Some m else None)
+      (if current then response_in c.phase site now key m c desk else answered_other site now.at key m branch c desk)
+  answer_either true branch now key m c desk k unsaid = response_in_goes c.phase now key m c desk k unsaid
+  answer_either false branch now key m c desk k unsaid = other_goes now.at key m branch c desk k unsaid
+
+  answer_goes : (branch : Option (List ℕ)) (now : Standing) (key : TKey) (m : Said) (c : Call) (desk : Desk) → Opens c → Silent desk → Goes now.at (success_to branch m c) (answer_to branch site now key m c desk)
+  answer_goes None now key m c desk k unsaid = SaysNone (nothing_said c desk k unsaid)
+  answer_goes (Some branch) now key m c desk k unsaid = answer_either (is_current branch c) branch now key m c desk k unsaid
 
   silence_of_good : (branch : Option (List ℕ)) (now : Standing) (c : Call) (desk : Desk) → Opens c → Quiet desk → Good (silence_of branch site now c desk)
   silence_of_good None now c desk k had = onward_good c desk k had
   silence_of_good (Some branch) now c desk k had =
-      if_good (is_current branch c) (silence_in c.phase site now c desk) (onward (without_silent branch c) desk)
-      (silence_good c.phase now c desk k had) (silent_row branch c desk k had)
+      if_good (is_current branch c) (silence_in c.phase site now c desk) (silent_other site branch c desk) (silence_good c.phase now c desk k had) (silent_row branch c desk k had)
 
-  pub step_goes : (now : Standing) (heard : Signal) (c : Call) (desk : Desk) → Opens c → desk.out ≡ before → Goes now.at (success_heard heard) (step site now heard c desk)
+  row_goes : (now : Standing) (heard : Signal) (c : Call) (desk : Desk) → Opens c → Silent desk → Goes now.at (success_heard heard c) (row site now heard c desk)
+  unfolding row
+  row_goes now (signal.Request side key request) c desk k unsaid = HearsNone refl (request_good c.phase now.at side key request c desk k (quiet_of desk unsaid))
+  row_goes now (signal.Ack side ack) c desk k unsaid = HearsNone refl (ack_good c.phase now.at side ack c desk k (quiet_of desk unsaid))
+  row_goes now (signal.Cancel key cancel invite) c desk k unsaid = HearsNone refl (cancel_good c.phase now.at key cancel invite c desk k (quiet_of desk unsaid))
+  row_goes now (signal.Answer key response) c desk k unsaid = answer_goes (invite_answered response) now key response c desk k unsaid
+  row_goes now (signal.Silent branch method) c desk k unsaid = HearsNone refl (silence_of_good (invite_silent branch method) now c desk k (quiet_of desk unsaid))
+  row_goes now (signal.Due what) c desk k unsaid = HearsNone refl (due_good c.phase now what c desk k (quiet_of desk unsaid))
+  row_goes now (signal.Ended key) c desk k unsaid = HearsNone refl (key_row key c desk k (quiet_of desk unsaid))
+
+  -- a step that leaves waits for the response that is heard, so it is of no PRACK
+  leaving_heard : (heard : Signal) (c : Call) → leaves heard c ≡ true → success_heard heard (in_flight.dismissed c) ≡ success_heard heard c
+  leaving_heard (signal.Request side key request) c is = refl
+  leaving_heard (signal.Ack side ack) c is = refl
+  leaving_heard (signal.Cancel key cancel invite) c is = refl
+  leaving_heard (signal.Answer key response) c is = by (invite_answered response) is
+    where
+      current : (b : Bool) (on : Bool) → (b && on) ≡ true → b ≡ true
+      current true on e = refl
+      current false on e = absurd cc
+
+      waited : (b : Bool) (flights : Bool) → b ≡ true →
+          (if not (not b && false) && is_success (status_of response.heard.start) then Some response else None)
+          ≡ (if not (not b && flights) && is_success (status_of response.heard.start) then Some response else None)
+      waited true flights e = refl
+      waited false flights e = absurd cc
+
+      by : (branch : Option (List ℕ)) → leaves_on_response branch response c ≡ true → success_to branch response (in_flight.dismissed c) ≡ success_to branch response c
+      by None e = refl
+      by (Some branch) e = waited (is_current branch c) (is_prack_at (position (in_flight.is_in_flight branch) c.flights) c.flights) (current (is_current branch c) (leaves_on_status (status_of response.heard.start) c.phase) e)
+  leaving_heard (signal.Silent branch method) c is = refl
+  leaving_heard (signal.Due what) c is = refl
+  leaving_heard (signal.Ended key) c is = refl
+
+  goes_either : (b : Bool) (now : Standing) (heard : Signal) (c : Call) (desk : Desk) → leaves heard c ≡ b → Opens c → Silent desk →
+      Goes now.at (success_heard heard c) (if b then row site now heard (in_flight.dismissed c) (in_flight.dismissing site c desk) else row site now heard c desk)
+  goes_either true now heard c desk is k unsaid =
+      subst (λ o. Goes now.at o (row site now heard (in_flight.dismissed c) (in_flight.dismissing site c desk))) (leaving_heard heard c is)
+      (row_goes now heard (in_flight.dismissed c) (in_flight.dismissing site c desk) k (dismissing_desk c desk unsaid))
+  goes_either false now heard c desk is k unsaid = row_goes now heard c desk k unsaid
+
+  pub step_goes : (now : Standing) (heard : Signal) (c : Call) (desk : Desk) → Opens c → desk.out ≡ before → Goes now.at (success_heard heard c) (step site now heard c desk)
   unfolding step
-  step_goes now (signal.Request side key request) c desk k is = HearsNone refl (request_good c.phase now.at side key request c desk k (nothing_yet true desk is))
-  step_goes now (signal.Ack side ack) c desk k is = HearsNone refl (ack_good c.phase now.at side ack c desk k (nothing_yet true desk is))
-  step_goes now (signal.Cancel key cancel invite) c desk k is = HearsNone refl (cancel_good c.phase now.at key cancel invite c desk k (nothing_yet true desk is))
-  step_goes now (signal.Answer key response) c desk k is = answer_goes (invite_answered response) now key response c desk k is
-  step_goes now (signal.Silent branch method) c desk k is = HearsNone refl (silence_of_good (invite_silent branch method) now c desk k (nothing_yet true desk is))
-  step_goes now (signal.Due what) c desk k is = HearsNone refl (due_good c.phase now what c desk k (nothing_yet true desk is))
-  step_goes now (signal.Ended key) c desk k is = HearsNone refl (key_row key c desk k (nothing_yet true desk is))
+  step_goes now heard c desk k is = goes_either (leaves heard c) now heard c desk refl k (nothing_yet false desk is)
 
   -- ---- as it opens
 
@@ -810,13 +1032,15 @@ module _ (site : Site) (own : CallNo) (count : ℕ) (before : List Emit) where
 
   -- ---- without a leg
 
-  finished_in_good : (phase : Phase) (at : ℕ) (c : Call) (desk : Desk) → Opens c → Quiet desk → Good (finished_in phase site at (at_phase phase c) desk)
-  finished_in_good (Offered x) at c desk k had = onward_good (at_phase (Offered x) c) desk k had
-  finished_in_good (Stood x stage) at c desk k had = onward_good (at_phase (Stood x stage) c) desk k had
+  finished_in_good : (phase : Phase) (at : ℕ) (c : Call) (desk : Desk) → Opens c → Silent desk → Good (finished_in phase site at (at_phase phase c) desk)
+  finished_in_good (Offered x) at c desk k had = onward_good (at_phase (Offered x) c) desk k (quiet_of desk had)
+  finished_in_good (Stood x stage) at c desk k had = onward_good (at_phase (Stood x stage) c) desk k (quiet_of desk had)
   finished_in_good (Lent loan) at c desk k had =
-      over_good at causes.Ended _ _ (at_phase (Lent loan) c) (bye site.sip (released_leg loan.left).dialogue desk) k (bye_in (released_leg loan.left).dialogue desk had)
-  finished_in_good (Over cause) at c desk k had = onward_good (at_phase (Over cause) c) desk k had
+      let before_it : Desk = in_flight.dismissing site (at_phase (Lent loan) c) desk in
+      over_good at causes.Ended _ _ (in_flight.dismissed (at_phase (Lent loan) c)) (bye site.sip (released_leg loan.left).dialogue before_it) k
+      (bye_in (released_leg loan.left).dialogue before_it (quiet_of before_it (dismissing_desk (at_phase (Lent loan) c) desk had)))
+  finished_in_good (Over cause) at c desk k had = onward_good (at_phase (Over cause) c) desk k (quiet_of desk had)
 
-  pub finished_good : (at : ℕ) (c : Call) (desk : Desk) → Opens c → Quiet desk → Good (finished site at c desk)
+  pub finished_good : (at : ℕ) (c : Call) (desk : Desk) → Opens c → Silent desk → Good (finished site at c desk)
   unfolding finished
   finished_good at c desk k had = finished_in_good c.phase at c desk k had

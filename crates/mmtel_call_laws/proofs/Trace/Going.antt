@@ -16,6 +16,8 @@ use Rattle.mmtel_precedence.specs.Calls.{End, Standing}
 use Rattle.mmtel_precedence.specs.Services.{DueDiversion}
 use Rattle.mmtel_precedence.specs.Turns.{AfterEnd, EndAnswered, EndDivert, EndRefuse, Turn, TurnDivert, TurnOffer, TurnRefuse}
 use Rattle.mmtel_precedence.specs.Verdicts.{too_many}
+use Rattle.mmtel_reliable.specs.Acks as Acks
+use Rattle.mmtel_reliable.specs.Acks.{AcksView}
 use Rattle.mmtel_scan.specs.Numbers.{next_number}
 use Rattle.mmtel_targets.specs.declared.targets.Target.{Target}
 use Rattle.mmtel_transaction.specs.declared.words.DueWord.TheVariants as due_word
@@ -24,10 +26,10 @@ use Rattle.mmtel_types.specs.Causes.{status_of}
 use Rattle.mmtel_types.specs.declared.causes.Cause.{Cause}
 use Rattle.mmtel_types.specs.declared.causes.Cause.TheVariants as causes
 use Rattle.mmtel_types.specs.declared.numbers.CallNo.{CallNo}
-use Rattle.mmtel_types.specs.declared.sides.Side.TheVariants.{Caller}
+use Rattle.mmtel_types.specs.declared.sides.Side.TheVariants.{Callee}
 use Rattle.mmtel_call_decisions.specs.Decisions.{aim_at, decided_after, decided_at, handed_on, is_status, peer_for, service_at, target_of}
 use Rattle.mmtel_call_decisions.specs.Opening.{first_of}
-use Rattle.mmtel_call_decisions.specs.Showing.{shown_to}
+use Rattle.mmtel_call_decisions.specs.Showing.{offered_to}
 use Rattle.mmtel_call_decisions.specs.Site.{Site}
 use Rattle.mmtel_call_decisions.specs.declared.openings.Service.{Service}
 use Rattle.mmtel_call.specs.Closing.{Step, over, with_past}
@@ -39,7 +41,7 @@ use Rattle.mmtel_call.specs.declared.calls.Call.{Call}
 use Rattle.mmtel_call.specs.declared.calls.Phase.{Phase}
 use Rattle.mmtel_call.specs.declared.calls.Phase.TheVariants.{Lent, Offered, Over, Stood}
 use Rattle.mmtel_call.specs.declared.calls.Trial.{Trial}
-use Rattle.mmtel_call_laws.specs.Trace.Laws.{longest}
+use Rattle.mmtel_call_laws.specs.Trace.Laws.{early_tag, longest}
 use Rattle.mmtel_call_laws.specs.Trace.Seen.{Armed, Invited, Mark, branch_of, mark_of}
 use Rattle.mmtel_call_laws.proofs.Trace.Reading.{Adds, adds_emit, branch_read, own_deadline}
 use Rattle.mmtel_call_laws.proofs.Trace.Sending.{Unseen, relayed_unseen, told_diversion_unseen, told_unseen}
@@ -47,53 +49,58 @@ use Rattle.mmtel_call_laws.proofs.Trace.Sending.{Unseen, relayed_unseen, told_di
 -- ---- where a call came to
 
 -- an INVITE went out, of the next attempt after so many, with its deadline; this was the last number of the caller; and there is room for so many attempts and diversions
-pub record HasReached (at : ℕ) (y : Trial) (attempts : ℕ) (last : Option ℕ) (room : ℕ) (c : Call) (marks : List Mark) : Type 0 where
+pub record HasReached (at : ℕ) (y : Trial) (attempts : ℕ) (acks : AcksView) (last : Option ℕ) (room : ℕ) (c : Call) (marks : List Mark) : Type 0 where
   pub seen : marks ≡ Invited y.attempt.invitation.dialogue.peer y.attempt.invitation.dialogue.target y.attempt.invitation.branch ∷ Armed (due_word.Cap y.attempt.number) (at + longest) ∷ []
   pub leg : y.callee.leg.dialogue.peer ≡ y.attempt.invitation.dialogue.peer
   pub rang : y.attempt.rang ≡ false
   pub number : y.attempt.number ≡ next_number attempts
   pub now_attempts : c.attempts ≡ next_number attempts
   pub latest : y.caller.dialogue.last ≡ last
+  pub side : y.callee.leg.dialogue.side ≡ Callee
+  pub early : early_tag y.callee ≡ None
+  pub now_acks : c.acks ≡ Acks.next_attempt acks
   pub few : c.attempts + c.diversions.left ≤ room
 
-abbrev pub Came : (at : ℕ) → Phase → (attempts : ℕ) → (last : Option ℕ) → (room : ℕ) → Call → List Mark → Type 0
-Came at (Offered y) attempts last room c marks = HasReached at y attempts last room c marks
-Came at (Stood x stage) attempts last room c marks = marks ≡ []
-Came at (Lent loan) attempts last room c marks = marks ≡ []
-Came at (Over cause) attempts last room c marks = marks ≡ []
+abbrev pub Came : (at : ℕ) → Phase → (attempts : ℕ) → AcksView → (last : Option ℕ) → (room : ℕ) → Call → List Mark → Type 0
+Came at (Offered y) attempts acks last room c marks = HasReached at y attempts acks last room c marks
+Came at (Stood x stage) attempts acks last room c marks = marks ≡ []
+Came at (Lent loan) attempts acks last room c marks = marks ≡ []
+Came at (Over cause) attempts acks last room c marks = marks ≡ []
 
 next_few : (attempts left room : ℕ) → attempts + left < room → next_number attempts + left ≤ room
 next_few attempts left room less = omega (arith, less)
 
 module _ (site : Site) (before : Desk) where
-  pub record Moves (at : ℕ) (own : CallNo) (attempts : ℕ) (last : Option ℕ) (room : ℕ) (s : Step) : Type 0 where
+  pub record Moves (at : ℕ) (own : CallNo) (attempts : ℕ) (acks : AcksView) (last : Option ℕ) (room : ℕ) (s : Step) : Type 0 where
     pub marks : List Mark
     pub adds : Adds site.sip own before s.desk marks
-    pub came : Came at s.call.phase attempts last room s.call marks
+    pub came : Came at s.call.phase attempts acks last room s.call marks
 
   abbrev So : Call → Desk → Type 0
   So c desk = Unseen site c.opening.number before desk
 
   -- from a call with this caller
   abbrev Goes : (at : ℕ) → Call → Leg → (room : ℕ) → Step → Type 0
-  Goes at c caller room s = Moves at c.opening.number c.attempts caller.dialogue.last room s
+  Goes at c caller room s = Moves at c.opening.number c.attempts c.acks caller.dialogue.last room s
 
-  moves_if : (at : ℕ) (own : CallNo) (attempts : ℕ) (last : Option ℕ) (room : ℕ) (b : Bool) (one two : Step) → Moves at own attempts last room one → Moves at own attempts last room two → Moves at own attempts last room (if b then one else two)
-  moves_if at own attempts last room true one two p q = p
-  moves_if at own attempts last room false one two p q = q
+  moves_if : (at : ℕ) (own : CallNo) (attempts : ℕ) (acks : AcksView) (last : Option ℕ) (room : ℕ) (b : Bool) (one two : Step) → Moves at own attempts acks last room one → Moves at own attempts acks last room two →
+      Moves at own attempts acks last room (if b then one else two)
+  moves_if at own attempts acks last room true one two p q = p
+  moves_if at own attempts acks last room false one two p q = q
 
-  pub over_moves : (own : CallNo) (at : ℕ) (cause : Cause) (first meter : Option Noted) (attempts : ℕ) (last : Option ℕ) (room : ℕ) (c : Call) (desk : Desk) → Unseen site own before desk → Moves at own attempts last room (over at cause first meter c desk)
-  over_moves own at cause first meter attempts last room c desk had = record { marks = []; adds = record { new = had.new; out = had.out; seen = had.seen }; came = refl }
+  pub over_moves : (own : CallNo) (at : ℕ) (cause : Cause) (first meter : Option Noted) (attempts : ℕ) (acks : AcksView) (last : Option ℕ) (room : ℕ) (c : Call) (desk : Desk) → Unseen site own before desk →
+      Moves at own attempts acks last room (over at cause first meter c desk)
+  over_moves own at cause first meter attempts acks last room c desk had = record { marks = []; adds = record { new = had.new; out = had.out; seen = had.seen }; came = refl }
 
   refused_moves : (at : ℕ) (caller : Leg) (cause : Cause) (room : ℕ) (c : Call) (desk : Desk) → So c desk → Goes at c caller room (refused site at caller cause c desk)
   refused_moves at caller cause room c desk had =
-      over_moves c.opening.number at cause caller.meter None c.attempts caller.dialogue.last room c (told_caller site c (status_of cause) desk) (told_unseen site c.opening.number before c (status_of cause) desk had)
+      over_moves c.opening.number at cause caller.meter None c.attempts c.acks caller.dialogue.last room c (told_caller site c (status_of cause) desk) (told_unseen site c.opening.number before c (status_of cause) desk had)
 
   refused_by_moves : (at : ℕ) (caller : Leg) (service : Option Service) (m : Option Said) (cause : Cause) (room : ℕ) (c : Call) (desk : Desk) → So c desk → Goes at c caller room (refused_by site at caller service m cause c desk)
   refused_by_moves at caller service None cause room c desk had = refused_moves at caller cause room c desk had
   refused_by_moves at caller service (Some m) cause room c desk had =
-      moves_if at c.opening.number c.attempts caller.dialogue.last room (is_status (status_in m.heard.start) (handed_on cause)) (over at cause caller.meter None c (relayed_to_caller site c service m desk)) (refused site at caller cause c desk)
-      (over_moves c.opening.number at cause caller.meter None c.attempts caller.dialogue.last room c (relayed_to_caller site c service m desk) (relayed_unseen site c.opening.number before c service m desk had))
+      moves_if at c.opening.number c.attempts c.acks caller.dialogue.last room (is_status (status_in m.heard.start) (handed_on cause)) (over at cause caller.meter None c (relayed_to_caller site c service m desk)) (refused site at caller cause c desk)
+      (over_moves c.opening.number at cause caller.meter None c.attempts c.acks caller.dialogue.last room c (relayed_to_caller site c service m desk) (relayed_unseen site c.opening.number before c service m desk had))
       (refused_moves at caller cause room c desk had)
 
   -- ---- an offer
@@ -102,7 +109,7 @@ module _ (site : Site) (before : Desk) where
       Goes at c caller room (offer site at caller service waiting aim c desk)
   offer_moves at caller service waiting aim room c desk less had =
       let o = c.opening in
-      let shown : List Line = shown_to site o c.diversions service Caller aim.peer o.invite in
+      let shown : List Line = offered_to site o c.diversions service aim.peer in
       let d : Dialogue = dialog_of o aim desk in
       let third : Desk = drew (drew desk) in
       let m : Message Start = invite_of d site.sip (token third) shown waiting o.invite.heard in
@@ -115,7 +122,7 @@ module _ (site : Site) (before : Desk) where
         marks = Invited aim.peer aim.uri (token third) ∷ Armed cap (at + longest_time) ∷ [];
         adds = adds_emit site.sip o.number before asked (emit.Arm o.number cap (at + longest_time)) (Invited aim.peer aim.uri (token third) ∷ []) (Armed cap (at + longest_time) ∷ []) (own_deadline site.sip o.number cap (at + longest_time))
             (adds_emit site.sip o.number before (drew third) (emit.Ask aim.peer m) [] (Invited aim.peer aim.uri (token third) ∷ []) marked drawn);
-        came = record { seen = refl; leg = refl; rang = refl; number = refl; now_attempts = refl; latest = refl; few = next_few c.attempts c.diversions.left room less };
+        came = record { seen = refl; leg = refl; rang = refl; number = refl; now_attempts = refl; latest = refl; side = refl; early = refl; now_acks = refl; few = next_few c.attempts c.diversions.left room less };
       }
 
   -- ---- at a target
@@ -178,7 +185,7 @@ module _ (site : Site) (before : Desk) where
   -- ---- after an attempt, and as the call opens
 
   end_moves : (now : Standing) (caller : Leg) (service : Option Service) (m : Option Said) (after : AfterEnd) (room : ℕ) (c : Call) (desk : Desk) → c.attempts + c.diversions.left ≤ room → So c desk → Goes now.at c caller room (on_end site now caller service m after c desk)
-  end_moves now caller service m EndAnswered room c desk most had = over_moves c.opening.number now.at causes.Ended caller.meter None c.attempts caller.dialogue.last room c desk had
+  end_moves now caller service m EndAnswered room c desk most had = over_moves c.opening.number now.at causes.Ended caller.meter None c.attempts c.acks caller.dialogue.last room c desk had
   end_moves now caller service m (EndDivert due) room c desk most had = divert_moves c.diversions.left now caller service due room c desk most had
   end_moves now caller service m (EndRefuse cause) room c desk most had = refused_by_moves now.at caller service m cause room c desk had
 

@@ -3,11 +3,12 @@ use Rattle.std.proofs.Common.{◌≡◌, ◌==◌, ℕ, Bool, true, false, List,
 use Rattle.std.proofs.lemmas.List.{append-nil}
 use Rattle.std.specs.Option.{option_map}
 use Rattle.std.specs.Prelude.{if◌then◌else◌}
-use Rattle.mmtel_answers.specs.Said.{status_of}
+use Rattle.mmtel_answers.specs.Said.{number_of, status_of}
 use Rattle.mmtel_leg.specs.Dialogues.{request_uri}
 use Rattle.mmtel_message.specs.Faults.{is_method}
 use Rattle.mmtel_precedence.specs.Calls as precedence
 use Rattle.mmtel_precedence.specs.Calls.{End}
+use Rattle.mmtel_reliable.specs.Acks.{AcksView}
 use Rattle.mmtel_transaction.specs.declared.words.DueWord.{DueWord}
 use Rattle.mmtel_transaction.specs.declared.words.DueWord.TheVariants as due
 use Rattle.mmtel_transaction.specs.declared.words.Emit.{Emit}
@@ -15,6 +16,8 @@ use Rattle.mmtel_transaction.specs.declared.words.Emit.TheVariants as emit
 use Rattle.mmtel_transaction.specs.declared.words.TKey.{TKey}
 use Rattle.mmtel_types.specs.declared.addrs.Addr.{Addr}
 use Rattle.mmtel_types.specs.declared.numbers.CallNo.{CallNo}
+use Rattle.mmtel_call_decisions.specs.Site.{Site}
+use Rattle.mmtel_call_decisions.specs.declared.openings.Opening.{Opening}
 use Rattle.mmtel_call.specs.declared.calls.Phase.{Phase}
 use Rattle.mmtel_call.specs.declared.calls.Phase.TheVariants.{Lent, Offered, Over, Stood}
 use Rattle.mmtel_call.specs.declared.signals.Signal.{Signal}
@@ -67,6 +70,7 @@ one_shown key sip own (emit.Ask peer m) = ask_shown (is_method (codes "INVITE") 
 one_shown key sip own (emit.Reply asked m) = final_shown (asked.0 == key.0) (nat_lt (status_of m.start) 200) (nat_lt (status_of m.start) 300) (status_of m.start)
 one_shown key sip own (emit.Plain peer text) = refl
 one_shown key sip own (emit.Ack asked m) = refl
+one_shown key sip own (emit.Settled asked settled) = refl
 one_shown key sip own (emit.Arm call what at) = deadline_marked (call.0 == own.0) what at
 one_shown key sip own (emit.ArmSeat room seat what at) = refl
 
@@ -128,34 +132,35 @@ IsLast uris o = (uri : List ℕ) → uri_going o ≡ Some uri → last_in uris �
 first_shown : (s : Start) → IsLast (shown_so_far s []) (watch_after s []).going
 unfolding emits_while_offered watch_after
 first_shown s uri e =
-    ap last_in (same_shown s.arrival.key s.site.sip s.arrival.number (added s.desk.out (first_step s).desk.out)) ∙ by (last_in (uris_marked (marks_first s))) ∙ sym (marks_uri s.now.at (marks_first s) nothing_yet) ∙ e
+    ap last_in (same_shown s.arrival.key s.site.sip s.arrival.number (added s.desk.out (first_step s).desk.out)) ∙ by (last_in (uris_marked (marks_first s))) ∙ sym (marks_uri s.now.at (marks_first s) (nothing_yet (number_of s.arrival.invite))) ∙ e
   where
     by : (o : Option (List ℕ)) → o ≡ or_before None o
     by None = refl
     by (Some later) = refl
 
 -- after one more step in which these were marked
-heard_uri : (now : ℕ) (uris : List (List ℕ)) (w : Watch) (g : Going) (heard : Signal) (end : Option End) (marks : List Mark) → last_in uris ≡ Some g.uri → IsLast (uris ++ uris_marked marks) (on_marks now (after_hearing now w g heard end) marks).going
-heard_uri now uris w g heard None marks last uri e =
-    last_append uris (uris_marked marks) ∙ ap (λ o. or_before o (last_in (uris_marked marks))) last ∙ sym (marks_uri now marks (after_hearing now w g heard None)) ∙ e
-heard_uri now uris w g heard (Some how) marks last uri e =
-    last_append uris (uris_marked marks) ∙ ap (or_before (last_in uris)) (by (last_in (uris_marked marks)) ∙ sym (marks_uri now marks (after_hearing now w g heard (Some how))) ∙ e)
+heard_uri : (site : Site) (o : Opening) (now : ℕ) (uris : List (List ℕ)) (w : Watch) (g : Going) (number : Option ℕ) (heard : Signal) (end : Option End) (marks : List Mark) → last_in uris ≡ Some g.uri →
+    IsLast (uris ++ uris_marked marks) (on_marks now (after_hearing site o now w number g heard end) marks).going
+heard_uri site o now uris w g number heard None marks last uri e =
+    last_append uris (uris_marked marks) ∙ ap (λ o. or_before o (last_in (uris_marked marks))) last ∙ sym (marks_uri now marks (after_hearing site o now w number g heard None)) ∙ e
+heard_uri site o now uris w g number heard (Some how) marks last uri e =
+    last_append uris (uris_marked marks) ∙ ap (or_before (last_in uris)) (by (last_in (uris_marked marks)) ∙ sym (marks_uri now marks (after_hearing site o now w number g heard (Some how))) ∙ e)
   where
     by : (o : Option (List ℕ)) → o ≡ or_before None o
     by None = refl
     by (Some later) = refl
 
-next_uri : (now : ℕ) (uris : List (List ℕ)) (w : Watch) (o : Option Going) (key : TKey) (number : Option ℕ) (heard : Signal) (marks : List Mark) (offered : Bool) → w.going ≡ o → (offered ≡ false → o ≡ None) → IsLast uris o →
-    IsLast (uris ++ (if offered then uris_marked marks else [])) (watched_from now w o key number heard marks).going
-next_uri now uris w None key number heard marks offered none unless last uri e = absurd (let f : None ≡ Some uri = ap uri_going (sym none) ∙ e in cc)
-next_uri now uris w (Some g) key number heard marks true is unless last uri e = heard_uri now uris w g heard (ends_by key number g heard) marks (last g.uri refl) uri e
-next_uri now uris w (Some g) key number heard marks false is unless last uri e = absurd (let f : Some g ≡ None = unless refl in cc)
+next_uri : (site : Site) (opening : Opening) (now : ℕ) (uris : List (List ℕ)) (w : Watch) (o : Option Going) (number : Option ℕ) (heard : Signal) (marks : List Mark) (offered : Bool) → w.going ≡ o → (offered ≡ false → o ≡ None) → IsLast uris o →
+    IsLast (uris ++ (if offered then uris_marked marks else [])) (watched_from site opening now w o number heard marks).going
+next_uri site opening now uris w None number heard marks offered none unless last uri e = absurd (let f : None ≡ Some uri = ap uri_going (sym none) ∙ e in cc)
+next_uri site opening now uris w (Some g) number heard marks true is unless last uri e = heard_uri site opening now uris w g number heard (ends_by opening.key number g w.acks heard) marks (last g.uri refl) uri e
+next_uri site opening now uris w (Some g) number heard marks false is unless last uri e = absurd (let f : Some g ≡ None = unless refl in cc)
 
-unoffered : (bound : ℕ) (time : Option ℕ) (p : Phase) (w : Watch) → IsSeen bound time p w → is_offered p ≡ false → w.going ≡ None
-unoffered bound time (Offered x) w seen e = absurd cc
-unoffered bound time (Stood x stage) w seen e = seen
-unoffered bound time (Lent loan) w seen e = seen
-unoffered bound time (Over cause) w seen e = seen
+unoffered : (bound : ℕ) (time : Option ℕ) (acks : AcksView) (p : Phase) (w : Watch) → IsSeen bound time acks p w → is_offered p ≡ false → w.going ≡ None
+unoffered bound time acks (Offered x) w seen e = absurd cc
+unoffered bound time acks (Stood x stage) w seen e = seen
+unoffered bound time acks (Lent loan) w seen e = seen
+unoffered bound time acks (Over cause) w seen e = seen
 
 one_more : (s : Start) (x : Heard) (earlier : List Heard) → shown_so_far s (x ∷ earlier) ≡ shown_so_far s earlier ++ (if is_offered (call_after s earlier).phase then uris_marked (marks_next s x earlier) else [])
 unfolding emits_while_offered
@@ -176,8 +181,8 @@ last_shown law s [] = first_shown s
 last_shown law s (x ∷ earlier) =
     let w = watch_after s earlier in
     let phase = (call_after s earlier).phase in
-    subst (λ uris. IsLast uris (watched_next x.now.at w s.arrival.key (last_after_all s earlier) x.signal (marks_next s x earlier)).going) (sym (one_more s x earlier))
-    (next_uri x.now.at (shown_so_far s earlier) w w.going s.arrival.key (last_after_all s earlier) x.signal (marks_next s x earlier) (is_offered phase) refl (unoffered s.site.bound (no_reply_after s earlier) phase w (law s earlier)) (last_shown law s earlier))
+    subst (λ uris. IsLast uris (watched_next s.site (opening_in s) x.now.at w (last_after_all s earlier) x.signal (marks_next s x earlier)).going) (sym (one_more s x earlier))
+    (next_uri s.site (opening_in s) x.now.at (shown_so_far s earlier) w w.going (last_after_all s earlier) x.signal (marks_next s x earlier) (is_offered phase) refl (unoffered s.site.bound (no_reply_after s earlier) (call_after s earlier).acks phase w (law s earlier)) (last_shown law s earlier))
 
 -- ---- Outcome
 
@@ -188,18 +193,18 @@ pending (Stood x stage) answered result e offered = absurd cc
 pending (Lent loan) answered result e offered = absurd cc
 pending (Over cause) answered result e offered = absurd cc
 
-is_last : (bound : ℕ) (time : Option ℕ) (p : Phase) (w : Watch) (signs : List Sign) → IsSeen bound time p w → (is_offered p ≡ true → IsLast (uris_in signs) w.going) → IsLastOf p signs
-is_last bound time (Offered x) w signs seen last = last refl x.attempt.invitation.dialogue.target (ap uri_going seen.going ∙ ap Some (sym seen.uri))
-is_last bound time (Stood x stage) w signs seen last = tt
-is_last bound time (Lent loan) w signs seen last = tt
-is_last bound time (Over cause) w signs seen last = tt
+is_last : (bound : ℕ) (time : Option ℕ) (acks : AcksView) (p : Phase) (w : Watch) (signs : List Sign) → IsSeen bound time acks p w → (is_offered p ≡ true → IsLast (uris_in signs) w.going) → IsLastOf p signs
+is_last bound time acks (Offered x) w signs seen last = last refl x.attempt.invitation.dialogue.target (ap uri_going seen.going ∙ ap Some (sym seen.uri))
+is_last bound time acks (Stood x stage) w signs seen last = tt
+is_last bound time acks (Lent loan) w signs seen last = tt
+is_last bound time acks (Over cause) w signs seen last = tt
 
 pub targets_are_seen : AttemptsAreSeen → ComesToItsOutcome → ShowsItsOutcome → TargetsAreSeen
 targets_are_seen law comes shows s heard own =
     let c = call_after s heard in
     let o = outcome_after s heard in
     let signs = signs_of_targets (opening_in s) o.targets in
-    is_last s.site.bound (no_reply_after s heard) c.phase (watch_after s heard) signs (law s heard) (λ offered.
+    is_last s.site.bound (no_reply_after s heard) c.acks c.phase (watch_after s heard) signs (law s heard) (λ offered.
     let same : signs_of s.arrival.key (emits_while_offered s heard) ≡ signs =
     shows s heard own ∙ ap (λ l. signs ++ l) (pending c.phase c.answered o.result (comes s heard) offered) ∙ append-nil signs in
     subst (λ l. IsLast (uris_in l) (watch_after s heard).going) same (last_shown law s heard))

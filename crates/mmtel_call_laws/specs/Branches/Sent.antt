@@ -1,7 +1,11 @@
--- Which requests whose answer is waited for were sent, INVITEs above all, and to whom; and that the INVITEs of a call are of these (RFC 3261 §8.1.1.7, §13.2.1, §17.1.3).
+-- Which requests whose answer is waited for were sent, and to whom; and that the INVITEs of a call, and its PRACKs and UPDATEs that are in flight, are of these (RFC 3261
+-- §8.1.1.7, §13.2.1, §17.1.3).
 use Rattle.std.specs.Prelude.{◌≡◌, ◌<◌, ◌≤◌, ◌⊎◌, ℕ, true, false, List, [], ◌∷◌, Option, codes}
 use Rattle.mmtel_call.specs.Answered.{leg_of}
 use Rattle.mmtel_call.specs.declared.calls.Call.{Call}
+use Rattle.mmtel_call.specs.declared.calls.Flight.{Flight}
+use Rattle.mmtel_call.specs.declared.calls.FlightKind.{FlightKind}
+use Rattle.mmtel_call.specs.declared.calls.FlightKind.TheVariants.{Prack, Update}
 use Rattle.mmtel_call.specs.declared.calls.Pair.{Pair}
 use Rattle.mmtel_call.specs.declared.calls.Phase.{Phase}
 use Rattle.mmtel_call.specs.declared.calls.Phase.TheVariants.{Lent, Offered, Over, Stood}
@@ -57,13 +61,18 @@ asks_in (emit.Ask peer m ∷ out) = (peer, m) ∷ asks_in out
 asks_in (emit.Reply key m ∷ out) = asks_in out
 asks_in (emit.Plain peer text ∷ out) = asks_in out
 asks_in (emit.Ack key m ∷ out) = asks_in out
+asks_in (emit.Settled key own ∷ out) = asks_in out
 asks_in (emit.Arm call what at ∷ out) = asks_in out
 asks_in (emit.ArmSeat room seat what at ∷ out) = asks_in out
 
--- among what was asked is an INVITE of this branch, which went to this peer
+-- among what was asked is a request of this method and this branch, which went to this peer
+abbrev pub WasAsked : Addr → List (Peer × Message Start) → (method branch : List ℕ) → Peer → Type 0
+WasAsked sip [] method branch peer = ⊥
+WasAsked sip (ask ∷ asks) method branch peer = ((ask.0 ≡ peer) × IsRequest method sip branch ask.1) ⊎ WasAsked sip asks method branch peer
+
+-- an INVITE
 abbrev pub WasSent : Addr → List (Peer × Message Start) → (branch : List ℕ) → Peer → Type 0
-WasSent sip [] branch peer = ⊥
-WasSent sip (ask ∷ asks) branch peer = ((ask.0 ≡ peer) × IsInvite sip branch ask.1) ⊎ WasSent sip asks branch peer
+WasSent sip asks branch peer = WasAsked sip asks (codes "INVITE") branch peer
 
 -- ---- the INVITEs of a call, where this says which were sent
 
@@ -90,14 +99,24 @@ PhaseWasSent sent (Stood x stage) = StageWasSent sent x stage
 PhaseWasSent sent (Lent loan) = Unit {0}
 PhaseWasSent sent (Over cause) = Unit {0}
 
--- those that the call does not wait on
-pub record OthersWereSent (sent : List ℕ → Peer → Type 0) (loose : List Loose) (taken : List Taken) : Type 0 where
-  pub loose_in : Each (LooseWasSent sent) loose
-  pub taken_in : Each (TakenWasSent sent) taken
+-- ---- and what is in flight, where this says of each method which were sent
 
-pub record CallWasSent (sent : List ℕ → Peer → Type 0) (c : Call) : Type 0 where
-  pub phase_in : PhaseWasSent sent c.phase
-  pub others_in : OthersWereSent sent c.loose c.taken
+abbrev pub method_of : FlightKind → List ℕ
+method_of Prack = codes "PRACK"
+method_of Update = codes "UPDATE"
+
+abbrev pub FlightWasSent : ((method branch : List ℕ) → Peer → Type 0) → Flight → Type 0
+FlightWasSent asked flight = InvitationWasSent (asked (method_of flight.kind)) flight.asked.invitation
+
+-- those that the call does not wait on
+pub record OthersWereSent (asked : (method branch : List ℕ) → Peer → Type 0) (loose : List Loose) (taken : List Taken) (flights : List Flight) : Type 0 where
+  pub loose_in : Each (LooseWasSent (asked (codes "INVITE"))) loose
+  pub taken_in : Each (TakenWasSent (asked (codes "INVITE"))) taken
+  pub flights_in : Each (FlightWasSent asked) flights
+
+pub record CallWasSent (asked : (method branch : List ℕ) → Peer → Type 0) (c : Call) : Type 0 where
+  pub phase_in : PhaseWasSent (asked (codes "INVITE")) c.phase
+  pub others_in : OthersWereSent asked c.loose c.taken c.flights
 
 -- ---- each that goes out has a number of its own
 
@@ -107,6 +126,7 @@ IsNumbered sip token low next (emit.Ask peer m) = ((low ≡ next) × IsNotAwaite
 IsNumbered sip token low next (emit.Reply key m) = low ≡ next
 IsNumbered sip token low next (emit.Plain peer text) = low ≡ next
 IsNumbered sip token low next (emit.Ack key m) = low ≡ next
+IsNumbered sip token low next (emit.Settled key own) = low ≡ next
 IsNumbered sip token low next (emit.Arm call what at) = low ≡ next
 IsNumbered sip token low next (emit.ArmSeat room seat what at) = low ≡ next
 

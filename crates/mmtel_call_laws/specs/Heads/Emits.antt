@@ -28,6 +28,7 @@ IsCleanEmit acks (emit.Ask peer m) = IsCleanMessage m
 IsCleanEmit acks (emit.Reply key m) = IsCleanMessage m
 IsCleanEmit acks (emit.Plain peer text) = IsTextOfAck acks text
 IsCleanEmit acks (emit.Ack key m) = IsCleanMessage m
+IsCleanEmit acks (emit.Settled key own) = Unit {0}
 IsCleanEmit acks (emit.Arm call what at) = Unit {0}
 IsCleanEmit acks (emit.ArmSeat room seat what at) = Unit {0}
 

@@ -73,6 +73,7 @@ SendsOwnLines acks (emit.Reply key m) = HasOwnLines m
 SendsOwnLines acks (emit.Plain peer text) =
     (dialogue : Dialogue) × (given : Given) × IsGivenTo acks dialogue given × (text ≡ message_text (ack_of dialogue given)) × HasOwnLines (ack_of dialogue given)
 SendsOwnLines acks (emit.Ack key m) = HasOwnLines m
+SendsOwnLines acks (emit.Settled key own) = Unit {0}
 SendsOwnLines acks (emit.Arm call what at) = Unit {0}
 SendsOwnLines acks (emit.ArmSeat room seat what at) = Unit {0}
 

@@ -31,6 +31,7 @@ notice_in key (emit.Ask peer m) = []
 notice_in key (emit.Reply asked m) = if asked.0 == key.0 && status_of m.start == 181 then m ∷ [] else []
 notice_in key (emit.Plain peer text) = []
 notice_in key (emit.Ack asked m) = []
+notice_in key (emit.Settled answered own) = []
 notice_in key (emit.Arm call what at) = []
 notice_in key (emit.ArmSeat room seat what at) = []
 

@@ -10,7 +10,7 @@ use Rattle.mmtel_call.specs.declared.calls.Call.{Call}
 use Rattle.mmtel_call.specs.Table.{step}
 use Rattle.mmtel_call.specs.declared.signals.Signal.{Signal}
 use Rattle.mmtel_call_laws.specs.Secret.Parts.{public_part}
-use Rattle.mmtel_call_laws.specs.Secret.Premises.{AreAsked, DecideAlike, IsAsked, phase_is_asked}
+use Rattle.mmtel_call_laws.specs.Secret.Premises.{AreAsked, DecideAlike, IsAsked, requests_are_asked}
 use Rattle.mmtel_call_laws.specs.Secret.Roles.{Role}
 use Rattle.mmtel_call_laws.specs.Secret.Seen.{AlikeDesks, AlikeSteps, Trust, trust_of}
 use Rattle.mmtel_call_laws.specs.Secret.Table.{Hears, ServedIn, public_signal}
@@ -23,7 +23,7 @@ pub record AlikeCalls (records : List Sheet) (trusts : Peer → Bool) (one other
 -- a call, and what it hears, with the role that its message has: the peers are those of the requests that it keeps, and the message hides no more than the call knows
 pub record IsHeard (records : List Sheet) (t : Trust) (x : Signal) (role : Role) (c : Call) : Type 0 where
   pub opening : IsAsked t c.opening.key c.opening.invite
-  pub kept : phase_is_asked t c.phase
+  pub kept : requests_are_asked t c
   pub served : ServedIn c.phase records
   pub hears : Hears x t role c
 

@@ -16,7 +16,7 @@ use Rattle.mmtel_call_laws.specs.Secret.Roles.{Plain, Role}
 abbrev pub PublicPartsAreOnce : Type 0
 PublicPartsAreOnce = (trusts : Peer → Bool) (one other : Identities2) (c : Call) → public_call trusts one (public_call trusts other c) ≡ public_call trusts one c
 
--- it tells whether the call is over, whether anything may still be heard of it, and which INVITEs and client transactions are its
+-- it tells whether the call is over, whether anything may still be heard of it, and which requests and client transactions are its
 pub record PublicPartsTell : Type 0 where
   pub over : (trusts : Peer → Bool) (who : Identities2) (c : Call) → is_over_in (public_call trusts who c).phase ≡ is_over_in c.phase
   pub settled : (trusts : Peer → Bool) (who : Identities2) (c : Call) → is_settled (public_call trusts who c) ≡ is_settled c

@@ -1,4 +1,4 @@
--- What holds of a call that stands in a table: how it opened, and the request of a side that waits for its answer, were asked by their own peers; and the account that is
+-- What holds of a call that stands in a table: how it opened, and the requests of a side that wait for their answers, were asked by their own peers; and the account that is
 -- served where it is offered has one of these records. A call keeps this, whatever it hears.
 use Rattle.std.specs.Prelude.{ℕ, List}
 use Rattle.mmtel_desk.specs.declared.desks.Desk.{Desk}
@@ -14,13 +14,13 @@ use Rattle.mmtel_call.specs.Opening.{opened}
 use Rattle.mmtel_call.specs.Table.{step}
 use Rattle.mmtel_call.specs.declared.signals.Signal.{Signal}
 use Rattle.mmtel_call.specs.declared.signals.Signal.TheVariants as signal
-use Rattle.mmtel_call_laws.specs.Secret.Premises.{AreAsked, IsAsked, phase_is_asked}
+use Rattle.mmtel_call_laws.specs.Secret.Premises.{AreAsked, IsAsked, requests_are_asked}
 use Rattle.mmtel_call_laws.specs.Secret.Seen.{Trust}
 use Rattle.mmtel_call_laws.specs.Secret.Table.{ServedIn}
 
 pub record IsKept (records : List Sheet) (t : Trust) (c : Call) : Type 0 where
   pub opening : IsAsked t c.opening.key c.opening.invite
-  pub kept : phase_is_asked t c.phase
+  pub kept : requests_are_asked t c
   pub served : ServedIn c.phase records
 
 -- a request that is heard is asked by its own peer

@@ -12,6 +12,7 @@ use Rattle.mmtel_call.specs.declared.calls.Call.{Call}
 use Rattle.mmtel_call.specs.Lending.{finished, lent_in, put_back_in, taken_out_in}
 use Rattle.mmtel_call_laws.specs.Secret.Alike.{AlikeCalls}
 use Rattle.mmtel_call_laws.specs.Secret.Parts.{public_released}
+use Rattle.mmtel_call_laws.specs.Secret.Premises.{flights_are_asked}
 use Rattle.mmtel_call_laws.specs.Secret.Seen.{AlikeDesks, AlikeSteps, trust_of}
 
 pub record LendingKeepsAlike : Type 0 where
@@ -24,9 +25,9 @@ pub record LendingKeepsAlike : Type 0 where
   pub back : (records : List Sheet) (known : Peer → Bool) (leg other : Released) (c d : Call) → public_released known leg ≡ public_released known other →
       AlikeCalls records known c d →
       AlikeCalls records known (put_back_in c.phase leg c) (put_back_in d.phase other d)
-  -- the calls end without it
+  -- the calls end without it; what is in flight has its answer
   pub ends : (records : List Sheet) (site : Site) (keys : TKey → Bool) (at : ℕ) (c d : Call) (one other : Desk) → AlikeCalls records (trusts site) c d →
-      AlikeDesks (trust_of site keys) one other →
+      flights_are_asked (trust_of site keys) c.flights → flights_are_asked (trust_of site keys) d.flights → AlikeDesks (trust_of site keys) one other →
       AlikeSteps (trust_of site keys) (finished site at c one) (finished site at d other)
   pub ended : (records : List Sheet) (site : Site) (keys : TKey → Bool) (at : ℕ) (c d : Call) (one other : Desk) → AlikeCalls records (trusts site) c d →
       AlikeDesks (trust_of site keys) one other →

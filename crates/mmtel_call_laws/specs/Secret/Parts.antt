@@ -25,6 +25,7 @@ use Rattle.mmtel_call_decisions.specs.declared.openings.Opening.{Opening}
 use Rattle.mmtel_call.specs.Tried.{TriedView}
 use Rattle.mmtel_call.specs.declared.calls.Attempt.{Attempt}
 use Rattle.mmtel_call.specs.declared.calls.Call.{Call}
+use Rattle.mmtel_call.specs.declared.calls.Flight.{Flight}
 use Rattle.mmtel_call.specs.declared.calls.Loan.{Loan}
 use Rattle.mmtel_call.specs.declared.calls.Pair.{Pair}
 use Rattle.mmtel_call.specs.declared.calls.Phase.{Phase}
@@ -89,6 +90,10 @@ public_request m = record m { heard = hidden_by m.heard.trusted everything m.hea
 abbrev pub public_reinvite : (Peer → Bool) → Reinvite → Reinvite
 public_reinvite trusts q = record q { request = public_request q.request; invitation = public_invitation trusts q.invitation }
 
+-- one that is in flight
+abbrev pub public_flight : (Peer → Bool) → Flight → Flight
+public_flight trusts flight = record flight { asked = public_reinvite trusts flight.asked }
+
 -- ---- the phases
 
 abbrev pub public_tried : (Peer → Bool) → TriedView → TriedView
@@ -132,6 +137,7 @@ abbrev pub public_call : (Peer → Bool) → Identities2 → Call → Call
 public_call trusts who c = record c {
   opening = public_opening who c.opening;
   diversions = public_diverted (masks_all c.opening) c.diversions;
+  flights = map (public_flight trusts) c.flights;
   loose = map (public_loose trusts) c.loose;
   taken = map (public_taken trusts) c.taken;
   phase = public_phase trusts c.phase;

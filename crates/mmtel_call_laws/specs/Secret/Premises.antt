@@ -1,6 +1,6 @@
 -- What holds of messages and of a call, so that their public parts tell all that others may see: whose a transaction is, and that a message hides its sender only where the
 -- call knows that side as restricted.
-use Rattle.std.specs.Prelude.{ℕ, position, slice_get, ◌≡◌, true, false, Option, Some, List}
+use Rattle.std.specs.Prelude.{ℕ, position, slice_get, ◌≡◌, Bool, true, false, Option, Some, None, List}
 use Rattle.mmtel_answers.specs.Said.{Said}
 use Rattle.mmtel_desk.specs.Loose.{is_of}
 use Rattle.mmtel_desk.specs.declared.invitations.Loose.{Loose}
@@ -16,13 +16,14 @@ use Rattle.mmtel_trust.specs.Members.{IsIn}
 use Rattle.mmtel_types.specs.declared.numbers.Account.{Account}
 use Rattle.mmtel_types.specs.declared.numbers.Peer.{Peer}
 use Rattle.mmtel_types.specs.declared.sides.Side.{Side}
-use Rattle.mmtel_types.specs.declared.sides.Side.TheVariants.{Callee}
+use Rattle.mmtel_types.specs.declared.sides.Side.TheVariants.{Caller, Callee}
 use Rattle.mmtel_call_decisions.specs.Decisions.{its_sheet}
 use Rattle.mmtel_call_decisions.specs.Showing.{facing}
 use Rattle.mmtel_call_decisions.specs.declared.openings.Opening.{Opening}
 use Rattle.mmtel_call_decisions.specs.declared.openings.Service.{Service}
 use Rattle.mmtel_call.specs.declared.calls.Trial.{Trial}
 use Rattle.mmtel_call.specs.declared.calls.Call.{Call}
+use Rattle.mmtel_call.specs.declared.calls.Flight.{Flight}
 use Rattle.mmtel_call.specs.declared.calls.Phase.{Phase}
 use Rattle.mmtel_call.specs.declared.calls.Stage.{Stage}
 use Rattle.mmtel_call.specs.declared.calls.Phase.TheVariants.{Lent, Offered, Over, Stood}
@@ -31,9 +32,12 @@ use Rattle.mmtel_types.specs.Sides.{other_of}
 use Rattle.mmtel_call.specs.Answered.{acknowledges, leg_of}
 use Rattle.mmtel_call.specs.declared.calls.Pair.{Pair}
 use Rattle.mmtel_call.specs.declared.calls.Success.{Success}
+use Rattle.mmtel_call.specs.Flights.{is_in_flight, service_in}
 use Rattle.mmtel_call.specs.Leaving.{is_taken}
 use Rattle.mmtel_call.specs.declared.calls.Taken.{Taken}
+use Rattle.mmtel_call_laws.specs.Heads.Emits.{Each}
 use Rattle.mmtel_call_laws.specs.Secret.Roles.{Role, hides, private_places, without_private}
+pub use Rattle.mmtel_call_laws.specs.Secret.Roles.{goes_across}
 use Rattle.mmtel_call_laws.specs.Secret.Seen.{Trust}
 
 -- the request of a server transaction: its peer is the one who said it
@@ -45,6 +49,10 @@ pub record IsAsked (t : Trust) (key : TKey) (m : Said) : Type 0 where
 -- it hides who says it only on a restricted side
 abbrev pub Fits : Opening → Option Service → Side → Said → Role → Type 0
 Fits o service side m role = hides role ≡ true → (facing o service side m).restricted ≡ true
+
+-- one that goes no further may hide whatever it does
+abbrev pub FitsOffered : Opening → Option Service → Side → Said → Role → Type 0
+FitsOffered o service side m role = goes_across side m ≡ true → Fits o service side m role
 
 -- ---- the requests that a call keeps
 
@@ -60,9 +68,12 @@ phase_is_asked t (Stood x stage) = stage_is_asked t stage
 phase_is_asked t (Lent loan) = Unit {0}
 phase_is_asked t (Over cause) = Unit {0}
 
-pub record CallIsAsked (t : Trust) (c : Call) : Type 0 where
-  pub opening : IsAsked t c.opening.key c.opening.invite
-  pub phase : phase_is_asked t c.phase
+-- those in flight
+abbrev pub flights_are_asked : Trust → List Flight → Type 0
+flights_are_asked t flights = Each (λ (flight : Flight). IsAsked t flight.asked.key flight.asked.request) flights
+
+abbrev pub requests_are_asked : Trust → Call → Type 0
+requests_are_asked t c = phase_is_asked t c.phase × flights_are_asked t c.flights
 
 -- ---- answers
 
@@ -109,12 +120,14 @@ pub record IsTargets (t : Trust) (key : TKey) (x : Trial) (role : Role) (m : Sai
   pub fits : Fits o x.attempt.service Callee m role
   pub redirect : (private_places role m.heard).redirect ≡ false
 
--- ---- an INVITE that the call does not wait on
+-- ---- a request that the call does not wait on
 
--- a response to one
+-- a response to an INVITE, or to what is in flight: that is said by the other side of the one that asked
 pub record HearsOther (t : Trust) (key : TKey) (branch : List ℕ) (role : Role) (m : Said) (c : Call) : Type 0 where
   pub loose : (at : ℕ) (l : Loose) → position (is_of branch) c.loose ≡ Some at → slice_get c.loose at ≡ Some l → IsAnswer t key l.invitation.dialogue.peer role m
   pub taken : (at : ℕ) (x : Taken) → position (is_taken branch) c.taken ≡ Some at → slice_get c.taken at ≡ Some x → IsAnswer t key x.invitation.dialogue.peer role m
+  pub flights : position (is_of branch) c.loose ≡ None → position (is_taken branch) c.taken ≡ None → (at : ℕ) (flight : Flight) →
+      position (is_in_flight branch) c.flights ≡ Some at → slice_get c.flights at ≡ Some flight → Fits c.opening (service_in c.phase) (other_of flight.side) m role
 
 -- the INVITE whose 2xx waits for its ACK went to a peer who is trusted as that of the other leg is
 abbrev pub SentAcross : Trust → Call → Pair → Side → Success → Type 0

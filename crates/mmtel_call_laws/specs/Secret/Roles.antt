@@ -1,7 +1,8 @@
 -- What is private of a message of a call, by the part that it has in the call (RFC 3323 §4.1, RFC 3325 §7, RFC 7044 §10.1, TS 24.607 §4.5.2, TS 24.608 §4.5.2), and the
 -- message without it.
-use Rattle.std.specs.Prelude.{Bool, true, false, ◌&&◌, if◌then◌else◌}
+use Rattle.std.specs.Prelude.{Bool, true, false, ◌&&◌, ◌||◌, if◌then◌else◌}
 use Rattle.mmtel_answers.specs.Said.{Said}
+use Rattle.mmtel_call.specs.Requests.{is_prack, is_update}
 use Rattle.mmtel_message.specs.Faults.{is_request}
 use Rattle.mmtel_trust.specs.Digest.{HeardMessage}
 use Rattle.mmtel_trust.specs.Mask.{NoEntries, Places, answered, answering, asking, called, hidden_entries, hidden_uri, joined, masked_lines, only, opening, places_in}
@@ -28,6 +29,11 @@ hides Plain = false
 -- the INVITE that opens a call, whose caller is restricted or not
 abbrev pub opening_role : (restricted : Bool) → Role
 opening_role restricted = if restricted then Opens else Plain
+
+-- a request of a side that goes to the other one while the call is offered
+abbrev pub goes_across : Side → Said → Bool
+goes_across Caller m = is_prack m || is_update m
+goes_across Callee m = is_update m
 
 -- ---- its private places
 

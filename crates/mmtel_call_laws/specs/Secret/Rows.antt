@@ -20,22 +20,24 @@ use Rattle.mmtel_call.specs.declared.calls.Stage.{Stage}
 use Rattle.mmtel_call.specs.declared.calls.Trial.{Trial}
 use Rattle.mmtel_call.specs.declared.calls.Stage.TheVariants.{Asking}
 use Rattle.mmtel_call.specs.Diverting.{goes_on}
-use Rattle.mmtel_call.specs.Leaving.{answered_other}
+use Rattle.mmtel_call.specs.Flights.{dismissing}
+use Rattle.mmtel_call.specs.Leaving.{answered_other, silent_other}
 use Rattle.mmtel_call.specs.Ringing.{answered, on_cancel, on_due, on_request, on_response, proceeding, silenced, tried}
 use Rattle.mmtel_call.specs.Stages.{on_ack_at, on_cancel_at, on_due_at, on_request_at, on_response_at, on_silence_at}
 use Rattle.mmtel_call_laws.specs.Secret.Parts.{public_call, public_pair, public_stage, public_trial}
-use Rattle.mmtel_call_laws.specs.Secret.Premises.{AreAsked, CanGoOn, DecideAlike, Fits, HearsOther, IsAnswer, IsAsked, IsTargets, IsWhole, ServiceIsAsked}
-use Rattle.mmtel_call_laws.specs.Secret.Premises.{stage_is_asked, stage_is_sent}
+use Rattle.mmtel_call_laws.specs.Secret.Premises.{AreAsked, CanGoOn, DecideAlike, Fits, FitsOffered, HearsOther, IsAnswer, IsAsked, IsTargets, IsWhole, ServiceIsAsked}
+use Rattle.mmtel_call_laws.specs.Secret.Premises.{flights_are_asked, stage_is_asked, stage_is_sent}
 use Rattle.mmtel_call_laws.specs.Secret.Roles.{Role, without_private}
 use Rattle.mmtel_call_laws.specs.Secret.Seen.{AlikeDesks, AlikeSteps, trust_of}
 
 -- ---- while it is offered (RFC 3261 §9.2, §12.2.2, §15.1.2)
 
--- a request of a side: BYE of the caller gives up; others are answered
+-- a request of a side: BYE of the caller gives up; a PRACK of it, and an UPDATE, go across; others are answered
 abbrev pub RequestsWhileOffered : Type 0
 RequestsWhileOffered = (site : Site) (keys : TKey →
     Bool) (who : Identities2) (at : ℕ) (x : Trial) (side : Side) (key : TKey) (role : Role) (m : Said) (c : Call) (one other : Desk) →
-    IsAsked (trust_of site keys) c.opening.key c.opening.invite → IsAsked (trust_of site keys) key m → AlikeDesks (trust_of site keys) one other →
+    IsAsked (trust_of site keys) c.opening.key c.opening.invite → IsAsked (trust_of site keys) key m → FitsOffered c.opening x.attempt.service side m role →
+    AlikeDesks (trust_of site keys) one other →
     AlikeSteps (trust_of site keys) (on_request site at (public_trial (trusts site) x) side key (without_private role m) (public_call (trusts site) who c) one)
     (on_request site at x side key m c other)
 
@@ -49,7 +51,7 @@ CancelsWhileOffered = (site : Site) (keys : TKey →
 
 -- ---- once it is answered (§13.3.1.4, §14, §15)
 
--- a request of a side: BYE leaves, at each stage; an INVITE goes across; others are answered
+-- a request of a side: BYE leaves, at each stage; an INVITE and an UPDATE go across; others are answered
 abbrev pub RequestsOnceAnswered : Type 0
 RequestsOnceAnswered = (stage : Stage) (site : Site) (keys : TKey →
     Bool) (who : Identities2) (at : ℕ) (x : Pair) (side : Side) (key : TKey) (role : Role) (m : Said) (c : Call) (one other : Desk) →
@@ -90,7 +92,7 @@ DeadlinesOnceAnswered = (stage : Stage) (site : Site) (keys : TKey → Bool) (wh
 
 -- ---- what the target says before it refuses (§12.1.2, §13.2.2, §16.7)
 
--- 100, which stays here, and other provisional responses, which go to the caller
+-- 100, which stays here, and other provisional responses, which go to the caller, as reliable answers or not
 abbrev pub ProvisionalToAttempt : Type 0
 ProvisionalToAttempt = (site : Site) (keys : TKey → Bool) (who : Identities2) (at : ℕ) (x : Trial) (key : TKey) (role : Role) (m : Said) (code : ℕ) (c : Call) (one other : Desk) →
     IsAsked (trust_of site keys) c.opening.key c.opening.invite → Fits c.opening x.attempt.service Callee m role →
@@ -129,7 +131,7 @@ AnswersWhileOffered = (records : List Sheet) (site : Site) (keys : TKey →
     AlikeSteps (trust_of site keys) (on_response site now (public_trial (trusts site) x) key (without_private role m) code (public_call (trusts site) who c) one)
     (on_response site now x key m code c other)
 
--- its silence, and the deadlines of an attempt
+-- its silence, and the deadlines of an attempt and of its reliable answers
 abbrev pub SilenceWhileOffered : Type 0
 SilenceWhileOffered = (records : List Sheet) (site : Site) (keys : TKey → Bool) (now : Standing) (who : Identities2) (x : Trial) (c : Call) (one other : Desk) →
     CanGoOn records (trust_of site keys) now who c → ServiceIsAsked records x.attempt.service → AlikeDesks (trust_of site keys) one other →
@@ -140,13 +142,25 @@ DeadlinesWhileOffered = (records : List Sheet) (site : Site) (keys : TKey → Bo
     CanGoOn records (trust_of site keys) now who c → ServiceIsAsked records x.attempt.service → AlikeDesks (trust_of site keys) one other →
     AlikeSteps (trust_of site keys) (on_due site now (public_trial (trusts site) x) what (public_call (trusts site) who c) one) (on_due site now x what c other)
 
--- ---- INVITEs that the call does not wait on, whatever its phase (RFC 3261 §9.1, §13.2.2.4, §17.1.1.3)
+-- ---- requests that the call does not wait on, whatever its phase (RFC 3261 §9.1, §13.2.2.4, §17.1.1.3, RFC 3262 §4, RFC 3311 §5)
 
--- a response to one that was left, or had a 2xx
+-- a response to an INVITE that was left, or had a 2xx, and to what is in flight
 abbrev pub AnswersOfOthers : Type 0
-AnswersOfOthers = (site : Site) (keys : TKey → Bool) (who : Identities2) (key : TKey) (role : Role) (m : Said) (branch : List ℕ) (c : Call) (one other : Desk) →
-    HearsOther (trust_of site keys) key branch role m c → AlikeDesks (trust_of site keys) one other →
-    AlikeSteps (trust_of site keys) (answered_other site key (without_private role m) branch (public_call (trusts site) who c) one) (answered_other site key m branch c other)
+AnswersOfOthers = (site : Site) (keys : TKey → Bool) (who : Identities2) (at : ℕ) (key : TKey) (role : Role) (m : Said) (branch : List ℕ) (c : Call) (one other : Desk) →
+    flights_are_asked (trust_of site keys) c.flights → HearsOther (trust_of site keys) key branch role m c → AlikeDesks (trust_of site keys) one other →
+    AlikeSteps (trust_of site keys) (answered_other site at key (without_private role m) branch (public_call (trusts site) who c) one) (answered_other site at key m branch c other)
+
+-- silence: what is in flight has its answer
+abbrev pub SilenceOfOthers : Type 0
+SilenceOfOthers = (site : Site) (keys : TKey → Bool) (who : Identities2) (branch : List ℕ) (c : Call) (one other : Desk) →
+    flights_are_asked (trust_of site keys) c.flights → AlikeDesks (trust_of site keys) one other →
+    AlikeSteps (trust_of site keys) (silent_other site branch (public_call (trusts site) who c) one) (silent_other site branch c other)
+
+-- what is in flight has its answer before all else of a step that leaves the attempt, or ends the call (RFC 3262 §3, RFC 3311 §5.2)
+abbrev pub Dismissals : Type 0
+Dismissals = (site : Site) (keys : TKey → Bool) (who : Identities2) (c : Call) (one other : Desk) →
+    flights_are_asked (trust_of site keys) c.flights → AlikeDesks (trust_of site keys) one other →
+    AlikeDesks (trust_of site keys) (dismissing site (public_call (trusts site) who c) one) (dismissing site c other)
 
 -- the ACK of a 2xx: it goes across, and is kept; or a parting call ends
 abbrev pub AcksOnceAnswered : Type 0

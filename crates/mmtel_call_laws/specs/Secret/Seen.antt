@@ -1,8 +1,9 @@
--- What is seen of what goes out: untrusted peers see it whole, and of what goes to a trusted one the transactions read its head (RFC 3261 §17.1.3, §17.2.3).
-use Rattle.std.specs.Prelude.{◌≡◌, ℕ, Bool, List, map}
+-- What is seen of what goes out: untrusted peers see it whole, and of what goes to a trusted one the transactions read its head, and the number of a reliable answer (RFC 3261
+-- §17.1.3, §17.2.3, RFC 3262 §3).
+use Rattle.std.specs.Prelude.{◌≡◌, ℕ, Bool, Option, List, map}
 use Rattle.mmtel_desk.specs.declared.desks.Desk.{Desk}
 use Rattle.mmtel_message.specs.Texts.{message_text}
-use Rattle.mmtel_transaction.specs.Heads.{head_of}
+use Rattle.mmtel_transaction.specs.Heads.{head_of, reliable_number}
 use Rattle.mmtel_transaction.specs.Alike.{blank_if}
 use Rattle.mmtel_transaction.specs.declared.heads.Head.{Head}
 use Rattle.mmtel_transaction.specs.declared.words.Emit.{Emit}
@@ -20,17 +21,19 @@ pub record Trust : Type 0 where
 
 pub data Seen : Type 0 where
   Asked : (peer : Peer) → Head → (text : List ℕ) → Seen
-  Replied : (key : TKey) → Head → (text : List ℕ) → Seen
+  Replied : (key : TKey) → Head → (number : Option ℕ) → (text : List ℕ) → Seen
   Sent : (peer : Peer) → (text : List ℕ) → Seen
   Acked : (key : TKey) → (text : List ℕ) → Seen
-  -- a deadline is seen as it is
+  -- which reliable answers are not sent again, and a deadline, are seen as they are
+  Settled : (key : TKey) → (own : Option ℕ) → Seen
   Armed : Emit → Seen
 
 abbrev pub seen : Trust → Emit → Seen
 seen t (emit.Ask peer m) = Asked peer (head_of m) (blank_if (t.peer peer) (message_text m))
-seen t (emit.Reply key m) = Replied key (head_of m) (blank_if (t.key key) (message_text m))
+seen t (emit.Reply key m) = Replied key (head_of m) (reliable_number m) (blank_if (t.key key) (message_text m))
 seen t (emit.Plain peer text) = Sent peer (blank_if (t.peer peer) text)
 seen t (emit.Ack key m) = Acked key (blank_if (t.key key) (message_text m))
+seen t (emit.Settled key own) = Settled key own
 seen t (emit.Arm call what at) = Armed (emit.Arm call what at)
 seen t (emit.ArmSeat room seat what at) = Armed (emit.ArmSeat room seat what at)
 

@@ -18,7 +18,7 @@ use Rattle.mmtel_call.specs.Table.{is_current, step}
 use Rattle.mmtel_call.specs.declared.signals.Signal.{Signal}
 use Rattle.mmtel_call.specs.declared.signals.Signal.TheVariants as signal
 use Rattle.mmtel_call_laws.specs.Secret.Parts.{public_call}
-use Rattle.mmtel_call_laws.specs.Secret.Premises.{CanGoOn, Fits, HearsOther, IsAnswer, IsAsked, IsTargets, ServiceIsAsked, phase_is_asked, stage_is_sent}
+use Rattle.mmtel_call_laws.specs.Secret.Premises.{CanGoOn, Fits, FitsOffered, HearsOther, IsAnswer, IsAsked, IsTargets, ServiceIsAsked, requests_are_asked, stage_is_sent}
 use Rattle.mmtel_call_laws.specs.Secret.Roles.{Role, without_private}
 use Rattle.mmtel_call_laws.specs.Secret.Seen.{AlikeDesks, AlikeSteps, Trust, trust_of}
 
@@ -35,7 +35,7 @@ public_signal role (signal.Ended key) = signal.Ended key
 -- ---- what holds of a signal, by the phase of the call that hears it
 
 abbrev pub FitsIn : Phase → Call → Side → Said → Role → Type 0
-FitsIn (Offered x) c side m role = Unit {0}
+FitsIn (Offered x) c side m role = FitsOffered c.opening x.attempt.service side m role
 FitsIn (Stood x stage) c side m role = Fits c.opening x.service side m role
 FitsIn (Lent loan) c side m role = Unit {0}
 FitsIn (Over cause) c side m role = Unit {0}
@@ -62,7 +62,7 @@ AnswersIn (Stood x (Asking side q)) t key role m c = IsAnswer t key q.invitation
 AnswersIn (Lent loan) t key role m c = Unit {0}
 AnswersIn (Over cause) t key role m c = Unit {0}
 
--- by the INVITE that it answers: the one that the call waits on, or another one
+-- by the request that it answers: the INVITE that the call waits on, or another one
 abbrev pub AnswersOne : Option (List ℕ) → Trust → TKey → Role → Said → Call → Type 0
 AnswersOne None t key role m c = Unit {0}
 AnswersOne (Some branch) t key role m c = (is_current branch c ≡ true → AnswersIn c.phase t key role m c) × (is_current branch c ≡ false → HearsOther t key branch role m c)
@@ -82,6 +82,6 @@ Hears (signal.Ended key) t role c = Unit {0}
 -- public part, and the same is seen of it
 abbrev pub StepsSeePublicParts : Type 0
 StepsSeePublicParts = (records : List Sheet) (site : Site) (keys : TKey → Bool) (now : Standing) (who : Identities2) (x : Signal) (role : Role) (c : Call) (one other : Desk) →
-    CanGoOn records (trust_of site keys) now who c → phase_is_asked (trust_of site keys) c.phase → ServedIn c.phase records → Hears x (trust_of site keys) role c →
+    CanGoOn records (trust_of site keys) now who c → requests_are_asked (trust_of site keys) c → ServedIn c.phase records → Hears x (trust_of site keys) role c →
     AlikeDesks (trust_of site keys) one other →
     AlikeSteps (trust_of site keys) (step site now (public_signal role x) (public_call (trusts site) who c) one) (step site now x c other)

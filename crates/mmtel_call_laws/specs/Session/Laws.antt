@@ -16,6 +16,7 @@ use Rattle.mmtel_call.specs.Closing.{Step, onward}
 use Rattle.mmtel_call.specs.Lending.{finished, lent_in, put_back_in}
 use Rattle.mmtel_call.specs.Table.{step}
 use Rattle.mmtel_call.specs.declared.calls.Call.{Call}
+use Rattle.mmtel_call.specs.declared.calls.Flight.{Flight}
 use Rattle.mmtel_call.specs.declared.calls.Pair.{Pair}
 use Rattle.mmtel_call.specs.declared.calls.Phase.{Phase}
 use Rattle.mmtel_call.specs.declared.calls.Phase.TheVariants.{Lent, Offered, Over, Stood}
@@ -25,7 +26,7 @@ use Rattle.mmtel_call.specs.declared.signals.Signal.{Signal}
 use Rattle.mmtel_call.specs.declared.signals.Signal.TheVariants as signal
 use Rattle.mmtel_call_laws.specs.Heads.Emits.{Each}
 use Rattle.mmtel_call_laws.specs.Session.Seen.{Agreed, Session, agreed_by, byes_of, expiries_of, is_among, session_after, session_by, session_at_first}
-use Rattle.mmtel_call_laws.specs.Shown.{Refused, signs_of}
+use Rattle.mmtel_call_laws.specs.Shown.{FlyOthers, Refused, signs_of}
 use Rattle.mmtel_call_laws.specs.Story.{Heard, Start, added, call_after, first_step}
 use Rattle.mmtel_call_laws.specs.Trace.Laws.{number_of_deadline}
 use Rattle.mmtel_call_laws.specs.Trace.Seen.{Deadline}
@@ -61,7 +62,7 @@ pub record SessionsAreSeen : Type 0 where
   pub opens : (s : Start) → IsSessionSeen s.site.timer (first_step s).call (session_at_first s.arrival.number (added s.desk.out (first_step s).desk.out))
   pub goes_on : (site : Site) (now : Standing) (heard : Signal) (c : Call) (desk : Desk) (w : Session) → IsSessionSeen site.timer c w →
       IsSessionSeen site.timer (step site now heard c desk).call
-      (session_by now.at c.opening.number heard (added desk.out (step site now heard c desk).desk.out) w)
+      (session_by now.at c.opening.number c heard (added desk.out (step site now heard c desk).desk.out) w)
   pub lends : (timer : Bool) (side : Side) (c : Call) (w : Session) → IsSessionSeen timer c w → IsSessionSeen timer (lent_in c.phase side c) w
   pub takes_back : (timer : Bool) (away : Released) (c : Call) (w : Session) → IsSessionSeen timer c w → IsSessionSeen timer (put_back_in c.phase away c) w
   pub ends : (site : Site) (at : ℕ) (c : Call) (desk : Desk) (w : Session) → IsSessionSeen site.timer c w →
@@ -88,23 +89,23 @@ is_refreshable (Over cause) = false
 abbrev pub bye_in : Leg → Peer × List ℕ
 bye_in leg = (leg.dialogue.peer, leg.dialogue.target)
 
--- an INVITE of a side that has no answer is refused
-abbrev pub IsRefusedIn : Stage → (before : Desk) → Step → Type 0
-IsRefusedIn (Answered waiting success) before s = Unit {0}
-IsRefusedIn (Parting waiting success) before s = Unit {0}
-IsRefusedIn Talking before s = Unit {0}
-IsRefusedIn (Asking asking q) before s = signs_of q.key (added before.out s.desk.out) ≡ Refused 487 ∷ []
+-- an INVITE of a side that has no answer is refused, where what is in flight has server transactions of its own
+abbrev pub IsRefusedIn : Stage → List Flight → (before : Desk) → Step → Type 0
+IsRefusedIn (Answered waiting success) flights before s = Unit {0}
+IsRefusedIn (Parting waiting success) flights before s = Unit {0}
+IsRefusedIn Talking flights before s = Unit {0}
+IsRefusedIn (Asking asking q) flights before s = FlyOthers q.key flights → signs_of q.key (added before.out s.desk.out) ≡ Refused 487 ∷ []
 
 -- the call is over by it, with a BYE to both sides and no other
-pub record HasExpired (x : Pair) (stage : Stage) (before : Desk) (s : Step) : Type 0 where
+pub record HasExpired (x : Pair) (stage : Stage) (flights : List Flight) (before : Desk) (s : Step) : Type 0 where
   pub over : s.call.phase ≡ Over causes.Ended
   pub byes : byes_of (added before.out s.desk.out) ≡ bye_in x.caller ∷ bye_in x.callee ∷ []
-  pub refused : IsRefusedIn stage before s
+  pub refused : IsRefusedIn stage flights before s
 
 pub record SessionsExpire : Type 0 where
   -- by the deadline that has the number of the call, of a call that talks or asks,
   pub expires : (site : Site) (now : Standing) (x : Pair) (stage : Stage) (c : Call) (desk : Desk) → c.phase ≡ Stood x stage → is_refreshable_at stage ≡ true →
-      HasExpired x stage desk (step site now (signal.Due (due.Expired c.successes)) c desk)
+      HasExpired x stage c.flights desk (step site now (signal.Due (due.Expired c.successes)) c desk)
   -- and by no other word: on any other deadline such a call goes on as it was,
   pub no_other : (site : Site) (now : Standing) (what : DueWord) (c : Call) (desk : Desk) → is_refreshable c.phase ≡ true → (what ≡ due.Expired c.successes → ⊥) →
       step site now (signal.Due what) c desk ≡ onward c desk
@@ -117,7 +118,7 @@ pub record SessionsExpire : Type 0 where
 -- this step of the call, which stood so and of whose session this was seen, on the deadline of a session of this number
 pub record ExpiresAsSeen (c : Call) (w : Session) (number : ℕ) (desk : Desk) (s : Step) : Type 0 where
   -- that of the last 2xx ends a call that talks or asks,
-  pub counts : (x : Pair) (stage : Stage) → is_among number w.armed ≡ true → c.phase ≡ Stood x stage → is_refreshable_at stage ≡ true → HasExpired x stage desk s
+  pub counts : (x : Pair) (stage : Stage) → is_among number w.armed ≡ true → c.phase ≡ Stood x stage → is_refreshable_at stage ≡ true → HasExpired x stage c.flights desk s
   -- and one that went out before does nothing
   pub superseded : is_among number w.earlier ≡ true → w.count < 2 ^ 64 - 1 → s ≡ onward c desk
 

@@ -1,6 +1,6 @@
 -- What is seen of the session of a call from outside: the 2xx that the call passes on, the deadlines of sessions that go out, each with its moment, and the BYEs. By these alone
 -- it is told which deadline is that of the last 2xx (RFC 4028 §7.2, §10; RFC 3261 §13.3.1.4, §14, §15).
-use Rattle.std.specs.Prelude.{ℕ, ◌==◌, Bool, false, if◌then◌else◌, Option, Some, None, List, [], ◌∷◌, ◌++◌, codes}
+use Rattle.std.specs.Prelude.{ℕ, ◌==◌, ◌&&◌, not, Bool, false, if◌then◌else◌, Option, Some, None, List, [], ◌∷◌, ◌++◌, codes, position, slice_get}
 use Rattle.std.specs.List.{list_any}
 use Rattle.mmtel_answers.specs.Said.{Said, status_of}
 use Rattle.mmtel_desk.specs.Invites.{invite_answered}
@@ -13,7 +13,11 @@ use Rattle.mmtel_transaction.specs.declared.words.Emit.{Emit}
 use Rattle.mmtel_transaction.specs.declared.words.Emit.TheVariants as emit
 use Rattle.mmtel_types.specs.declared.numbers.CallNo.{CallNo}
 use Rattle.mmtel_types.specs.declared.numbers.Peer.{Peer}
+use Rattle.mmtel_call.specs.Flights.{is_in_flight, is_updating}
 use Rattle.mmtel_call.specs.Leaving.{is_success}
+use Rattle.mmtel_call.specs.Table.{is_current}
+use Rattle.mmtel_call.specs.declared.calls.Call.{Call}
+use Rattle.mmtel_call.specs.declared.calls.Flight.{Flight}
 use Rattle.mmtel_call.specs.declared.signals.Signal.{Signal}
 use Rattle.mmtel_call.specs.declared.signals.Signal.TheVariants as signal
 use Rattle.mmtel_call_laws.specs.Story.{Heard, Start, added, call_after, first_step, next_step}
@@ -21,19 +25,31 @@ use Rattle.mmtel_call_laws.specs.Trace.Seen.{Deadline}
 
 -- ---- the 2xx that is passed on
 
--- a 2xx to an INVITE of the server is heard
-abbrev pub success_to : Option (List ℕ) → Said → Option Said
-success_to None m = None
-success_to (Some branch) m = if is_success (status_of m.heard.start) then Some m else None
+-- the call has sent a PRACK with this branch, which waits for its answer: its 2xx says nothing of the session
+abbrev pub is_prack_in : Option Flight → Bool
+is_prack_in None = false
+is_prack_in (Some flight) = not (is_updating flight)
 
-abbrev pub success_heard : Signal → Option Said
-success_heard (signal.Request side key request) = None
-success_heard (signal.Ack side ack) = None
-success_heard (signal.Cancel key cancel invite) = None
-success_heard (signal.Answer key response) = success_to (invite_answered response) response
-success_heard (signal.Silent branch method) = None
-success_heard (signal.Due what) = None
-success_heard (signal.Ended key) = None
+abbrev pub is_prack_at : (place : Option ℕ) → List Flight → Bool
+is_prack_at None flights = false
+is_prack_at (Some place) flights = is_prack_in (slice_get flights place)
+
+abbrev pub has_prack : (branch : List ℕ) → Call → Bool
+has_prack branch c = not (is_current branch c) && is_prack_at (position (is_in_flight branch) c.flights) c.flights
+
+-- a 2xx to an INVITE or an UPDATE of this call is heard
+abbrev pub success_to : Option (List ℕ) → Said → Call → Option Said
+success_to None m c = None
+success_to (Some branch) m c = if not (has_prack branch c) && is_success (status_of m.heard.start) then Some m else None
+
+abbrev pub success_heard : Signal → Call → Option Said
+success_heard (signal.Request side key request) c = None
+success_heard (signal.Ack side ack) c = None
+success_heard (signal.Cancel key cancel invite) c = None
+success_heard (signal.Answer key response) c = success_to (invite_answered response) response c
+success_heard (signal.Silent branch method) c = None
+success_heard (signal.Due what) c = None
+success_heard (signal.Ended key) c = None
 
 -- a 2xx goes out
 abbrev pub is_accepted : Emit → Bool
@@ -41,12 +57,13 @@ is_accepted (emit.Ask peer m) = false
 is_accepted (emit.Reply asked m) = is_success (status_of m.start)
 is_accepted (emit.Plain peer text) = false
 is_accepted (emit.Ack asked m) = false
+is_accepted (emit.Settled key own) = false
 is_accepted (emit.Arm call what at) = false
 is_accepted (emit.ArmSeat room seat what at) = false
 
 -- the one that is heard is passed on: in the step in which it is heard one goes out
-abbrev pub passed_on : Signal → List Emit → Option Said
-passed_on heard out = if list_any is_accepted out then success_heard heard else None
+abbrev pub passed_on : Signal → Call → List Emit → Option Said
+passed_on heard c out = if list_any is_accepted out then success_heard heard c else None
 
 -- ---- the deadlines of sessions that go out
 
@@ -64,6 +81,7 @@ expiry_of own (emit.Ask peer m) = []
 expiry_of own (emit.Reply asked m) = []
 expiry_of own (emit.Plain peer text) = []
 expiry_of own (emit.Ack asked m) = []
+expiry_of own (emit.Settled asked settled) = []
 expiry_of own (emit.Arm call what at) = expiry_by (call.0 == own.0) what at
 expiry_of own (emit.ArmSeat room seat what at) = []
 
@@ -92,9 +110,9 @@ abbrev pub agreed_by : (now : ℕ) → Session → Option Said → List Deadline
 agreed_by now w None armed = record w { armed = w.armed ++ armed }
 agreed_by now w (Some m) armed = record { count = next_number w.count; last = Some (record { at = now; said = m }); earlier = w.earlier ++ w.armed; armed = armed }
 
--- after what was heard and went out in it
-abbrev pub session_by : (now : ℕ) → CallNo → Signal → List Emit → Session → Session
-session_by now own heard out w = agreed_by now w (passed_on heard out) (expiries_of own out)
+-- after what this call heard, and what went out of it
+abbrev pub session_by : (now : ℕ) → CallNo → Call → Signal → List Emit → Session → Session
+session_by now own c heard out w = agreed_by now w (passed_on heard c out) (expiries_of own out)
 
 -- as the call opens, when these go out
 abbrev pub session_at_first : CallNo → List Emit → Session
@@ -105,7 +123,7 @@ session_at_first own out = record { count = 0; last = None; earlier = []; armed 
 unfoldable pub session_after : Start → List Heard → Session
 session_after s [] = session_at_first s.arrival.number (added s.desk.out (first_step s).desk.out)
 session_after s (x ∷ earlier) =
-    session_by x.now.at s.arrival.number x.signal (added x.desk.out (next_step s x (call_after s earlier)).desk.out) (session_after s earlier)
+    session_by x.now.at s.arrival.number (call_after s earlier) x.signal (added x.desk.out (next_step s x (call_after s earlier)).desk.out) (session_after s earlier)
 
 -- ---- how it ends
 
@@ -115,6 +133,7 @@ bye_of (emit.Ask peer m) = if is_method (codes "BYE") m.start then (peer, reques
 bye_of (emit.Reply asked m) = []
 bye_of (emit.Plain peer text) = []
 bye_of (emit.Ack asked m) = []
+bye_of (emit.Settled key own) = []
 bye_of (emit.Arm call what at) = []
 bye_of (emit.ArmSeat room seat what at) = []
 

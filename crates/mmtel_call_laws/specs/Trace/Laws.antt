@@ -1,9 +1,11 @@
--- What is said of every story of a call, in the subject's words: what it keeps of its attempt is what went out and was heard, and when its deadlines are due (TS 24.604
--- §4.5.2.6).
-use Rattle.std.specs.Prelude.{◌≡◌, ◌<◌, ◌≤◌, ◌^◌, ◌+◌, ◌-◌, ℕ, List, [], ◌∷◌, ◌++◌, Option, Some, None}
+-- What is said of every story of a call, in the subject's words: what it keeps of its attempt is what went out and was heard, when its deadlines are due, and which of its
+-- answers wait for their PRACK (TS 24.604 §4.5.2.6, RFC 3262 §3).
+use Rattle.std.specs.Prelude.{◌≡◌, ◌<◌, ◌≤◌, ◌^◌, ◌+◌, ◌-◌, ℕ, if◌then◌else◌, List, [], ◌∷◌, ◌++◌, Option, Some, None}
+use Rattle.mmtel_reliable.specs.Acks.{AcksView}
 use Rattle.mmtel_transaction.specs.declared.words.DueWord.{DueWord}
 use Rattle.mmtel_transaction.specs.declared.words.DueWord.TheVariants as due
 use Rattle.mmtel_call_decisions.specs.Decisions.{time_of}
+use Rattle.mmtel_call.specs.Tried.{TriedView}
 use Rattle.mmtel_call.specs.declared.calls.Phase.{Phase}
 use Rattle.mmtel_call.specs.declared.calls.Phase.TheVariants.{Lent, Offered, Over, Stood}
 use Rattle.mmtel_call.specs.declared.calls.Trial.{Trial}
@@ -45,8 +47,12 @@ number_of_deadline (due.Cap number) = number
 number_of_deadline (due.NoAck number) = number
 number_of_deadline (due.Expired number) = number
 
+-- the tag of the early dialog of a target, if it has one
+abbrev pub early_tag : TriedView → Option (List ℕ)
+early_tag callee = if callee.is_early then Some callee.leg.dialogue.remote_tag else None
+
 -- the attempt is the one that is on its way, where the configuration has this bound on diversions, and the record of the target's account this no-reply time
-pub record IsOnItsWay (bound : ℕ) (time : Option ℕ) (x : Trial) (w : Watch) : Type 0 where
+pub record IsOnItsWay (bound : ℕ) (time : Option ℕ) (relayed : AcksView) (x : Trial) (w : Watch) : Type 0 where
   pub seen : Going
   pub going : w.going ≡ Some seen
   -- its INVITE is the one that went out: to that peer, which is the peer of the target's leg, with that Request-URI and that branch
@@ -61,16 +67,19 @@ pub record IsOnItsWay (bound : ℕ) (time : Option ℕ) (x : Trial) (w : Watch) 
   pub lower : bound < 2 ^ 64 - 2 → Each (λ deadline. number_of_deadline deadline.what < x.attempt.number) w.earlier
   -- it rang where a response to that INVITE said so
   pub rang : x.attempt.rang ≡ rang seen
+  -- its early dialog is that of the first response with a tag; and those reliable answers wait for their PRACK which were passed on and not acknowledged
+  pub early : early_tag x.callee ≡ seen.early
+  pub acks : relayed ≡ w.acks
 
 -- none is on its way but while the call is offered
-abbrev pub IsSeen : (bound : ℕ) → (time : Option ℕ) → Phase → Watch → Type 0
-IsSeen bound time (Offered x) w = IsOnItsWay bound time x w
-IsSeen bound time (Stood x stage) w = w.going ≡ None
-IsSeen bound time (Lent loan) w = w.going ≡ None
-IsSeen bound time (Over cause) w = w.going ≡ None
+abbrev pub IsSeen : (bound : ℕ) → (time : Option ℕ) → AcksView → Phase → Watch → Type 0
+IsSeen bound time acks (Offered x) w = IsOnItsWay bound time acks x w
+IsSeen bound time acks (Stood x stage) w = w.going ≡ None
+IsSeen bound time acks (Lent loan) w = w.going ≡ None
+IsSeen bound time acks (Over cause) w = w.going ≡ None
 
 abbrev pub AttemptsAreSeen : Type 0
-AttemptsAreSeen = (s : Start) (heard : List Heard) → IsSeen s.site.bound (no_reply_after s heard) (call_after s heard).phase (watch_after s heard)
+AttemptsAreSeen = (s : Start) (heard : List Heard) → IsSeen s.site.bound (no_reply_after s heard) (call_after s heard).acks (call_after s heard).phase (watch_after s heard)
 
 -- so how attempts ended is told by what went out and was heard alone
 abbrev pub EndingsAreSeen : Type 0

@@ -1,4 +1,4 @@
-use Rattle.mmtel_call_laws.proofs.Secret.Rows.{cancels_while_offered, requests_while_offered}
+use Rattle.mmtel_call_laws.proofs.Secret.Offered.{cancels_while_offered, requests_while_offered}
 use Rattle.mmtel_call_laws.proofs.Secret.Sent.{Heads}
 use Rattle.mmtel_call_laws.proofs.secret_laws.requests_while_offered_see_public_parts.Goals as goal
 

@@ -6,6 +6,7 @@ use Rattle.std.proofs.lemmas.Slice.Eq.{bytes_eq-Decides}
 use Rattle.std.specs.Prelude.{◌&&◌, ◌==◌, flat_map, if◌then◌else◌, is_some, position}
 use Rattle.std.specs.List.{AllByRecursion}
 use Rattle.std.specs.Str.{bytes_eq}
+use Rattle.mmtel_call.specs.Flights.{is_in_flight}
 use Rattle.mmtel_call.specs.Leaving.{is_key, is_loose_key, is_taken, is_taken_key}
 use Rattle.mmtel_call.specs.Settled.{has_heard, has_sent}
 use Rattle.mmtel_call.specs.Table.{current, is_branch}
@@ -26,7 +27,7 @@ use Rattle.mmtel_types.specs.declared.sides.Side.{Side}
 use Rattle.mmtel_types.specs.declared.sides.Side.TheVariants.{Caller, Callee}
 use Rattle.mmtel_b2bua.specs.Entries.{heard_by, is_live, sent_it}
 use Rattle.mmtel_b2bua.specs.Names.{has_name, has_side, is_key as is_asked, named_in, named_left, side_asking, side_at, side_by, side_named, side_that_asked}
-use Rattle.mmtel_b2bua.specs.Marks.{asked_marks, dialog_mark, dialog_marks, heard_marks, invite_marks, loose_marks, marks_of, taken_marks, waiting_marks}
+use Rattle.mmtel_b2bua.specs.Marks.{asked_marks, dialog_mark, dialog_marks, flight_marks, heard_marks, invite_marks, loose_marks, marks_of, taken_marks, waiting_marks}
 use Rattle.mmtel_b2bua.specs.declared.entries.Entry.{Entry}
 use Rattle.mmtel_b2bua.specs.declared.entries.InviteKey.{InviteKey}
 
@@ -48,12 +49,18 @@ module _ (branch : List ℕ) where
       let w = waiting_marks (current c.phase) in
       let l = flat_map loose_marks c.loose in
       let t = flat_map taken_marks c.taken in
-      let rest = asked_marks (is_live e) e.invites ++ dialog_marks c.phase in
+      let k = flat_map flight_marks c.flights in
+      let others = asked_marks (is_live e) e.invites ++ dialog_marks c.phase in
+      let rest = k ++ others in
       elim (or_cases (is_branch branch (current c.phase)) _ h) [
         | inl a ↦ has_left m w (l ++ (t ++ rest)) (sent_current (current c.phase) a)
         | inr b ↦ has_right m w (l ++ (t ++ rest)) (elim (or_cases (is_some (position (is_of branch) c.loose)) _ b) [
           | inl f ↦ has_left m l (t ++ rest) (passes loose_marks (is_of branch) m (λ x s. inl (told_alike x.invitation.branch branch s)) c.loose f)
-          | inr f ↦ has_right m l (t ++ rest) (has_left m t rest (passes taken_marks (is_taken branch) m (λ x s. inl (told_alike x.invitation.branch branch s)) c.taken f))
+          | inr f ↦ has_right m l (t ++ rest) (elim (or_cases (is_some (position (is_taken branch) c.taken)) _ f) [
+            | inl g ↦ has_left m t rest (passes taken_marks (is_taken branch) m (λ x s. inl (told_alike x.invitation.branch branch s)) c.taken g)
+            | inr g ↦ has_right m t rest (has_left m k others
+                (passes flight_marks (is_in_flight branch) m (λ x s. inl (told_alike x.asked.invitation.branch branch s)) c.flights g))
+          ])
         ])
       ]
 
@@ -84,7 +91,7 @@ module _ (key : TKey) where
       let w = waiting_marks (current c.phase) in
       let l = flat_map loose_marks c.loose in
       let t = flat_map taken_marks c.taken in
-      let rest = asked_marks (is_live e) e.invites ++ dialog_marks c.phase in
+      let rest = flat_map flight_marks c.flights ++ (asked_marks (is_live e) e.invites ++ dialog_marks c.phase) in
       has_right m w (l ++ (t ++ rest)) (elim (or_cases (is_some (position (is_loose_key key) c.loose)) _ h) [
         | inl f ↦ has_left m l (t ++ rest) (passes loose_marks (is_loose_key key) m (λ x s. inr (heard_key x.invitation.key s)) c.loose f)
         | inr f ↦ has_right m l (t ++ rest) (has_left m t rest (passes taken_marks (is_taken_key key) m (λ x s. inr (heard_key x.invitation.key s)) c.taken f))
@@ -114,7 +121,9 @@ module _ (key : TKey) where
       let t = flat_map taken_marks c.taken in
       let a = asked_marks (is_live e) e.invites in
       let d = dialog_marks c.phase in
-      has_right m w (l ++ (t ++ (a ++ d))) (has_right m l (t ++ (a ++ d)) (has_right m t (a ++ d) (has_left m a d (asked_among (is_live e) e.invites h))))
+      let k = flat_map flight_marks c.flights in
+      has_right m w (l ++ (t ++ (k ++ (a ++ d)))) (has_right m l (t ++ (k ++ (a ++ d)))
+      (has_right m t (k ++ (a ++ d)) (has_right m k (a ++ d) (has_left m a d (asked_among (is_live e) e.invites h)))))
 
 -- ---- a dialog of this name
 
@@ -160,4 +169,5 @@ module _ (call_id local remote : List ℕ) where
       let t = flat_map taken_marks c.taken in
       let a = asked_marks (is_live e) e.invites in
       let d = dialog_marks c.phase in
-      has_right m w (l ++ (t ++ (a ++ d))) (has_right m l (t ++ (a ++ d)) (has_right m t (a ++ d) (has_right m a d (named_at c.phase h))))
+      let k = flat_map flight_marks c.flights in
+      has_right m w (l ++ (t ++ (k ++ (a ++ d)))) (has_right m l (t ++ (k ++ (a ++ d))) (has_right m t (k ++ (a ++ d)) (has_right m k (a ++ d) (has_right m a d (named_at c.phase h)))))

@@ -25,7 +25,7 @@ kept e = if is_settled e.call then [] else e ∷ []
 unfoldable pub is_numbered : ℕ → Entry → Bool
 is_numbered number e = e.call.opening.number.0 == number
 
--- an INVITE of it has this branch
+-- a request of it whose answer may come has this branch: an INVITE, or a PRACK or UPDATE that is in flight
 unfoldable pub sent_it : (branch : Option (List ℕ)) → Entry → Bool
 sent_it None e = false
 sent_it (Some branch) e = has_sent branch e.call

@@ -1,5 +1,7 @@
--- By what a call is found without asking each: numbers told from the branches of its INVITEs and from the server's tags of its dialogs, and their transactions.
+-- By what a call is found without asking each: numbers told from the branches of its requests whose answers it waits for and from the server's tags of its dialogs, and the
+-- transactions of its INVITEs.
 use Rattle.std.specs.Prelude.{Bool, if◌then◌else◌, Option, Some, None, List, [], ◌∷◌, ◌++◌, flat_map}
+use Rattle.mmtel_call.specs.declared.calls.Flight.{Flight}
 use Rattle.mmtel_call.specs.declared.calls.Phase.TheVariants.{Lent, Offered, Over, Stood}
 use Rattle.mmtel_call.specs.declared.calls.Phase.{Phase}
 use Rattle.mmtel_call.specs.declared.calls.Taken.{Taken}
@@ -30,6 +32,10 @@ loose_marks l = invitation_marks l.invitation
 abbrev pub taken_marks : Taken → List Mark
 taken_marks t = invitation_marks t.invitation
 
+-- of what is in flight
+abbrev pub flight_marks : Flight → List Mark
+flight_marks f = Sent (told_of f.asked.invitation.branch) ∷ []
+
 -- of the one that the call waits on
 abbrev pub waiting_marks : Option Invitation → List Mark
 waiting_marks None = []
@@ -55,4 +61,5 @@ dialog_marks (Over cause) = []
 unfoldable pub marks_of : Entry → List Mark
 marks_of e =
     waiting_marks (current e.call.phase)
-    ++ (flat_map loose_marks e.call.loose ++ (flat_map taken_marks e.call.taken ++ (asked_marks (is_live e) e.invites ++ dialog_marks e.call.phase)))
+    ++ (flat_map loose_marks e.call.loose
+    ++ (flat_map taken_marks e.call.taken ++ (flat_map flight_marks e.call.flights ++ (asked_marks (is_live e) e.invites ++ dialog_marks e.call.phase))))

@@ -53,7 +53,7 @@ impl Entry {
         self.call.opening.number.0 == number.0
     }
 
-    /// Whether an INVITE of the call has this branch.
+    /// Whether a request of the call whose answer may come has this branch: an INVITE, or a PRACK or UPDATE that is in flight.
     #[tactic(auto, unfolding(crate::specs::Entries::sent_it))]
     pub fn sent(&self, branch: Option<&[u8]>) -> bool
         ensures { result ≡ sent_it (option_copied branch.entry) self.now }

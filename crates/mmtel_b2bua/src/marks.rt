@@ -1,13 +1,14 @@
-//! By what a call is found: the branches and the transactions of its INVITEs, and the server's tags of its dialogs.
+//! By what a call is found: the branches of its requests whose answers it waits for, the transactions of its INVITEs, and the server's tags of its dialogs.
 ghost use Rattle.std.specs.Prelude.{◌≡◌, ◌∷◌, [], flat_map};
 ghost use Rattle.std.specs.Option.{option_copied};
 ghost use Rattle.mmtel_call.specs.Table.{current};
 ghost use Rattle.mmtel_desk.specs.Marks.{Written};
 ghost use Rattle.mmtel_b2bua.specs.Entries.{is_live};
-ghost use Rattle.mmtel_b2bua.specs.Marks.{asked_marks, dialog_mark, dialog_marks, heard_marks, invitation_marks, invite_marks, loose_marks, marks_of, taken_marks, waiting_marks};
+ghost use Rattle.mmtel_b2bua.specs.Marks.{asked_marks, dialog_mark, dialog_marks, flight_marks, heard_marks, invitation_marks, invite_marks, loose_marks, marks_of, taken_marks};
+ghost use Rattle.mmtel_b2bua.specs.Marks.{waiting_marks};
 
 use crate::entries::{Entry, InviteKey};
-use mmtel_call::{Phase, Stage, Taken, Tried, TriedLeg};
+use mmtel_call::{Flight, Phase, Stage, Taken, Tried, TriedLeg};
 use mmtel_desk::{Index, Invitation, Loose, Mark};
 use mmtel_leg::Dialogue;
 use mmtel_transaction::{TKey, told};
@@ -46,6 +47,23 @@ fn put_taken(index: &mut Index, all: &[Taken], call: CallNo, stays: bool)
 {
     for taken in all {
         put_invitation(index, &taken.invitation, call, stays);
+    }
+}
+
+/// Of a request that is in flight.
+fn put_flight(index: &mut Index, flight: &Flight, call: CallNo, stays: bool)
+    ensures { Written stays call.0 (flight_marks flight.now) index.old index.new }
+{
+    let branch = &flight.asked.invitation.branch;
+    index.put(Mark::Sent(told(branch.bytes())), call.0, stays);
+}
+
+/// Of all that are.
+fn put_flights(index: &mut Index, flights: &[Flight], call: CallNo, stays: bool)
+    ensures { Written stays call.0 (flat_map flight_marks flights.now) index.old index.new }
+{
+    for flight in flights {
+        put_flight(index, flight, call, stays);
     }
 }
 
@@ -124,6 +142,7 @@ pub fn put_call(index: &mut Index, entry: &Entry, call: CallNo, stays: bool)
     put_waiting(index, &entry.call.phase, call, stays);
     put_loose(index, entry.call.loose.items(), call, stays);
     put_taken(index, entry.call.taken.items(), call, stays);
+    put_flights(index, entry.call.flights.items(), call, stays);
     put_asked(index, entry, call, stays);
     put_dialogs(index, &entry.call.phase, call, stays);
 }

@@ -163,14 +163,14 @@ fn invite_by(side: Side, key: TKey, request: &Hearing) -> Option<InviteKey>
     None
 }
 
-/// The place of the box of the call of which an INVITE has this branch.
+/// The place of the box of the call of which a request whose answer may come has this branch.
 fn sent_in(entries: &[Box<Entry>], branch: Option<&[u8]>) -> Option<usize>
     ensures { result ≡ position (λ b. sent_it (option_copied branch.entry) b.value) entries.now }
 {
     entries.iter().position(|entry| entry.sent(branch))
 }
 
-/// The place of the call of which an INVITE has this branch.
+/// The place of the call of which a request whose answer may come has this branch.
 pub fn place_sent(table: &CallTable, branch: Option<&[u8]>) -> Option<usize>
     ensures { result ≡ position (sent_it (option_copied branch.entry)) table.now.entries }
 {
@@ -210,7 +210,7 @@ fn bytes_of(text: &Option<Text>) -> Option<&[u8]>
     }
 }
 
-/// The place of the call of which this answers an INVITE.
+/// The place of the call of which this answers a request.
 fn place_answered(
     table: &CallTable,
     alloc: Global,

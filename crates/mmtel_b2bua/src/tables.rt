@@ -341,7 +341,7 @@ impl Calls {
         asked::asked_by(&self.table, invite)
     }
 
-    /// Whether an INVITE of some call has this branch, so that what answers it, or its silence, is of that call (RFC 3261 §17.1.3).
+    /// Whether a request of some call whose answer may come has this branch, so that what answers it, or its silence, is of that call (RFC 3261 §17.1.3).
     pub fn has_sent(&self, branch: Option<&[u8]>) -> bool
         ensures { result ≡ is_some (position (sent_it (option_copied branch.entry)) self.now.table.entries) }
     {

@@ -64,7 +64,7 @@ result-same law s events heard (Later stands kept (Runs on parts none)) =
     let c = call_after s events in
     let d = story.call_after s heard in
     stands-answered c.phase c.answered on ∙ sym (stands-answered d.phase d.answered stands)
-result-same law s events heard (Later stands kept (Gone over past is)) =
+result-same law s events heard (Later stands kept (Gone over past flights is)) =
     let c = call_after s events in
     let d = story.call_after s heard in
     let answered : is_some c.answered ≡ true = ap is_some kept.answered ∙ law.answered s heard stands in
@@ -125,7 +125,7 @@ runs-at law charged s events heard l fits goes (Later stands kept (Runs on parts
     let c = call_after s events in
     let begun = law.parts s heard (stands-on (story.call_after s heard).phase stands) in
     (running-is c.phase c.past on ∙ ap run_of (parts fits ∙ begun) ∙ parts-same s events heard l, none)
-runs-at law charged s events heard l fits goes (Later stands kept (Gone over past is)) = absurd (let e : true ≡ false = ap is_over (sym over) ∙ goes in cc)
+runs-at law charged s events heard l fits goes (Later stands kept (Gone over past flights is)) = absurd (let e : true ≡ false = ap is_over (sym over) ∙ goes in cc)
 
 filed-at : CallsGoOn → ChargingIsExact → (s : Start) (events : List Event) (heard : List Heard) (cause : Cause) → Lived s events heard → AreFitting s events →
     (call_after s events).phase ≡ Over cause → Place s events heard →
@@ -141,7 +141,7 @@ filed-at law charged s events heard cause l fits over_by_cause (Same is rows ove
     )
 filed-at law charged s events heard cause l fits over_by_cause (Later stands kept (Runs on parts none)) =
     absurd (let e : false ≡ true = sym (stands-on (call_after s events).phase on) ∙ ap is_over over_by_cause in cc)
-filed-at law charged s events heard cause l fits over_by_cause (Later stands kept (Gone over past is)) =
+filed-at law charged s events heard cause l fits over_by_cause (Later stands kept (Gone over past flights is)) =
     let c = call_after s events in
     let same_phase : Over causes.Ended ≡ Over cause = sym over ∙ over_by_cause in
     let same : causes.Ended ≡ cause = cc in
@@ -159,7 +159,7 @@ ended-at law charged s events heard cause l over_by_cause answered (Same is rows
     law.cause s heard cause (ap (λ (c : Call). c.phase) (sym is) ∙ over_by_cause) (ap is_some (charged.answered s heard ∙ ap answer_in (sym l.endings)) ∙ answered)
 ended-at law charged s events heard cause l over_by_cause answered (Later stands kept (Runs on parts none)) =
     absurd (let e : false ≡ true = sym (stands-on (call_after s events).phase on) ∙ ap is_over over_by_cause in cc)
-ended-at law charged s events heard cause l over_by_cause answered (Later stands kept (Gone over past is)) =
+ended-at law charged s events heard cause l over_by_cause answered (Later stands kept (Gone over past flights is)) =
     let same_phase : Over causes.Ended ≡ Over cause = sym over ∙ over_by_cause in
     let same : causes.Ended ≡ cause = cc in
     sym same

@@ -14,6 +14,7 @@ use Rattle.mmtel_call_decisions.specs.Site.{Site, trusts}
 use Rattle.mmtel_call.specs.Lending.{finished}
 use Rattle.mmtel_call.specs.Closing.{Step}
 use Rattle.mmtel_call_laws.specs.Secret.Alike.{AlikeCalls}
+use Rattle.mmtel_call_laws.specs.Secret.Kept.{IsKept}
 use Rattle.mmtel_call_laws.specs.Secret.Parts.{public_released}
 use Rattle.mmtel_call_laws.specs.Secret.Seen.{AlikeDesks, AlikeSteps, Trust, trust_of}
 use Rattle.mmtel_b2bua.specs.Entries.{is_numbered}
@@ -21,10 +22,10 @@ use Rattle.mmtel_b2bua.specs.Histories.{finished_by}
 use Rattle.mmtel_b2bua.specs.Lending.{end_of, ended, ended_at, ended_by, entry_at, entry_of, leg_of_entry, leg_out, lent_at, lent_by, place_of, put_back_at, put_back_by, released, restored}
 use Rattle.mmtel_b2bua.specs.Tables.{Table}
 use Rattle.mmtel_b2bua.specs.declared.entries.Entry.{Entry}
-use Rattle.mmtel_b2bua_laws.specs.Alike.{AlikeEntries, AlikeEntry, AlikeTables}
-use Rattle.mmtel_b2bua_laws.specs.AlikeDeeds.{Configured}
+use Rattle.mmtel_b2bua_laws.specs.Alike.{AlikeEntries, AlikeEntry, AlikeTables, AreKept}
+use Rattle.mmtel_b2bua_laws.specs.AlikeDeeds.{Configured, StandAlike}
 use Rattle.mmtel_b2bua_laws.proofs.MovingAlike.{AlikeMoves, OfCalls, moved-alike, same_desk}
-use Rattle.mmtel_b2bua_laws.proofs.Places.{AlikeAt, get-alike, position-same, set-alike}
+use Rattle.mmtel_b2bua_laws.proofs.Places.{AlikeAt, get-alike, get-kept, position-same, set-alike}
 use Rattle.mmtel_b2bua_laws.proofs.Told.{numbered-same}
 
 module _ (laws : OfCalls) (records : List Sheet) (known : Peer → Bool) where
@@ -94,35 +95,46 @@ module _ (laws : OfCalls) (records : List Sheet) (site far : Site) (keys : TKey 
   abbrev known2 : Peer → Bool
   known2 = λ peer. trusts site peer
 
-  end-alike : (at : ℕ) (e f : Entry) (one other : Desk) → AlikeEntry records known2 e f → AlikeDesks T one other → AlikeSteps T (end_of site at one e) (end_of far at other f)
+  end-alike : (at : ℕ) (e f : Entry) (one other : Desk) → AlikeEntry records known2 e f → IsKept records T e.call → IsKept records T f.call → AlikeDesks T one other →
+      AlikeSteps T (end_of site at one e) (end_of far at other f)
   unfolding end_of
-  end-alike at e f one other b d =
-      subst (λ (s : Step). AlikeSteps T (finished site at e.call one) s) (laws.ends site far at f.call other configured.equal) (laws.lending.ends records site keys at e.call f.call one other b.calls d)
+  end-alike at e f one other b k l d =
+      subst (λ (s : Step). AlikeSteps T (finished site at e.call one) s) (laws.ends site far at f.call other configured.equal)
+      (laws.lending.ends records site keys at e.call f.call one other b.calls k.kept.1 l.kept.1 d)
 
   end-stays : (at : ℕ) (e f : Entry) (one other : Desk) → AlikeEntry records known2 e f → AlikeDesks T one other → AlikeCalls records known2 (end_of site at one e).call (end_of far at other f).call
   unfolding end_of
   end-stays at e f one other b d =
       subst (λ (s : Step). AlikeCalls records known2 (finished site at e.call one).call s.call) (laws.ends site far at f.call other configured.equal) (laws.lending.ended records site keys at e.call f.call one other b.calls d)
 
-  ended_at-alike : (at place : ℕ) (g h : Option Entry) (es fs : List Entry) (one other : Desk) → AlikeAt records known2 g h → AlikeEntries records known2 es fs → AlikeDesks T one other →
+  -- where one is there, what is asked of a call of a table holds of it
+  abbrev KeptAt : Option Entry → Type 0
+  KeptAt g = (e : Entry) → g ≡ Some e → IsKept records T e.call
+
+  ended_at-alike : (at place : ℕ) (g h : Option Entry) (es fs : List Entry) (one other : Desk) → AlikeAt records known2 g h → AlikeEntries records known2 es fs → KeptAt g → KeptAt h →
+      AlikeDesks T one other →
       AlikeMoves laws records site far keys configured (ended_at site at place g es one) (ended_at far at place h fs other)
-  ended_at-alike at place None None es fs one other b a d = record { entries = a; desk = d }
-  ended_at-alike at place None (Some f) es fs one other b a d = absurd b
-  ended_at-alike at place (Some e) None es fs one other b a d = absurd b
-  ended_at-alike at place (Some e) (Some f) es fs one other b a d =
-      moved-alike laws records site far keys configured place [] e f (end_of site at one e) (end_of far at other f) es fs b a (end-alike at e f one other b d) (end-stays at e f one other b d)
+  ended_at-alike at place None None es fs one other b a k l d = record { entries = a; desk = d }
+  ended_at-alike at place None (Some f) es fs one other b a k l d = absurd b
+  ended_at-alike at place (Some e) None es fs one other b a k l d = absurd b
+  ended_at-alike at place (Some e) (Some f) es fs one other b a k l d =
+      moved-alike laws records site far keys configured place [] e f (end_of site at one e) (end_of far at other f) es fs b a (end-alike at e f one other b (k e refl) (l f refl) d)
+      (end-stays at e f one other b d)
 
-  ended_by-alike : (at : ℕ) (place : Option ℕ) (es fs : List Entry) (one other : Desk) → AlikeEntries records known2 es fs → AlikeDesks T one other →
+  ended_by-alike : (at : ℕ) (place : Option ℕ) (es fs : List Entry) (one other : Desk) → AlikeEntries records known2 es fs → AreKept records T es → AreKept records T fs → AlikeDesks T one other →
       AlikeMoves laws records site far keys configured (ended_by site at place es one) (ended_by far at place fs other)
-  ended_by-alike at None es fs one other a d = record { entries = a; desk = d }
-  ended_by-alike at (Some place) es fs one other a d = ended_at-alike at place (slice_get es place) (slice_get fs place) es fs one other (get-alike records known2 es fs a place) a d
+  ended_by-alike at None es fs one other a k l d = record { entries = a; desk = d }
+  ended_by-alike at (Some place) es fs one other a k l d =
+      ended_at-alike at place (slice_get es place) (slice_get fs place) es fs one other (get-alike records known2 es fs a place) a
+      (λ e is. get-kept records T es k place e is) (λ f is. get-kept records T fs l place f is) d
 
-  ended-alike : (at number : ℕ) (es fs : List Entry) (one other : Desk) → AlikeEntries records known2 es fs → AlikeDesks T one other →
+  ended-alike : (at number : ℕ) (es fs : List Entry) (one other : Desk) → AlikeEntries records known2 es fs → AreKept records T es → AreKept records T fs → AlikeDesks T one other →
       AlikeMoves laws records site far keys configured (ended site at number es one) (ended far at number fs other)
   unfolding ended
-  ended-alike at number es fs one other a d =
+  ended-alike at number es fs one other a k l d =
       subst (λ (o : Option ℕ). AlikeMoves laws records site far keys configured (ended_by site at (place_of number es) es one) (ended_by far at o fs other)) (place-same laws records known2 number es fs a)
-      (ended_by-alike at (place_of number es) es fs one other a d)
+      (ended_by-alike at (place_of number es) es fs one other a k l d)
 
-  pub finishing-alike : (number at : ℕ) (tokens : Drawn) (t u : Table) → AlikeTables records known2 t u → AlikeMoves laws records site far keys configured (finished_by site number at tokens t) (finished_by far number at tokens u)
-  finishing-alike number at tokens t u a = ended-alike at number t.entries u.entries (fresh tokens) (fresh tokens) a.entries (same_desk laws records site far keys configured (fresh tokens))
+  pub finishing-alike : (number at : ℕ) (tokens : Drawn) (t u : Table) → StandAlike records site keys t u →
+      AlikeMoves laws records site far keys configured (finished_by site number at tokens t) (finished_by far number at tokens u)
+  finishing-alike number at tokens t u a = ended-alike at number t.entries u.entries (fresh tokens) (fresh tokens) a.alike.entries a.one a.other (same_desk laws records site far keys configured (fresh tokens))

@@ -2,7 +2,8 @@
 -- Once a leg of the call was taken out the call was answered, and whatever it hears then changes nothing of its Outcome.
 use Rattle.std.proofs.Common.{◌≡◌, ℕ, ◌-◌, Bool, true, false, List, [], ◌∷◌, ◌++◌, Option, Some, None, length, drop, refl, ap, sym, subst, ◌∙◌}
 use Rattle.std.proofs.lemmas.List.{append-nil, drop_at}
-use Rattle.std.specs.Prelude.{if◌then◌else◌, nat_lt, option_to_list}
+use Rattle.std.specs.Prelude.{if◌then◌else◌, nat_lt, not, option_to_list}
+use Rattle.std.specs.List.{filter}
 use Rattle.std.specs.Option.{option_map}
 use Rattle.mmtel_charging.specs.declared.rows.Row.{Row}
 use Rattle.mmtel_desk.specs.declared.desks.Desk.{Desk}
@@ -15,9 +16,11 @@ use Rattle.mmtel_types.specs.declared.sides.Side.TheVariants.{Caller, Callee}
 use Rattle.mmtel_call_decisions.specs.Rows.{cause_by, rows_by}
 use Rattle.mmtel_call_decisions.specs.Site.{Site}
 use Rattle.mmtel_call.specs.Closing.{Step, onward}
+use Rattle.mmtel_call.specs.Flights.{dismissed_each, dismissed_flight, dismissing, is_updating}
 use Rattle.mmtel_call.specs.Lending.{finished, finished_in, first_of, fits_in, last_of, lent_in, put_back_in}
-use Rattle.mmtel_call.specs.Table.{step}
+use Rattle.mmtel_call.specs.Table.{row, step}
 use Rattle.mmtel_call.specs.declared.calls.Call.{Call}
+use Rattle.mmtel_call.specs.declared.calls.Flight.{Flight}
 use Rattle.mmtel_call.specs.declared.calls.Loan.{Loan}
 use Rattle.mmtel_call.specs.declared.calls.Phase.TheVariants.{Lent, Offered, Over, Stood}
 use Rattle.mmtel_call.specs.declared.calls.Phase.{Phase}
@@ -44,7 +47,7 @@ use Rattle.mmtel_b2bua_laws.specs.Lives.{call_by, emits_by, emits_while_offered,
 data Turns (P : Type 0) (at : ℕ) (c d : Call) (filed : List Row) : Type 0 where
   Keeps : d ≡ c → filed ≡ [] → Turns P at c d filed
   Stays : stands_in c.phase ≡ true → StaysSame c d → stands_in d.phase ≡ true → (P → parts_now d ≡ parts_now c) → filed ≡ [] → Turns P at c d filed
-  Leaves : stands_in c.phase ≡ true → StaysSame c d → d.phase ≡ Over causes.Ended → d.past ≡ [] →
+  Leaves : stands_in c.phase ≡ true → StaysSame c d → d.phase ≡ Over causes.Ended → d.past ≡ [] → d.flights ≡ [] →
       filed ≡ rows_by (ended_at d at) (parts_now c).past (parts_now c).first (parts_now c).last → Turns P at c d filed
 
 same : (c : Call) (phase : Phase) → StaysSame c (record c { phase = phase })
@@ -92,17 +95,30 @@ added-none before = ap (λ l. drop (length before) l) (sym (append-nil before)) 
 added-is : {A : Type 0} (before behind after : List A) → after ≡ before ++ behind → added before after ≡ behind
 added-is before behind after e = ap (λ l. drop (length before) l) e ∙ drop_at before behind (length before) refl
 
+-- what is in flight has its answers, and no row is filed
+each_rows : (site : Site) (c : Call) (flights : List Flight) (desk : Desk) → (dismissed_each site c flights desk).rows ≡ desk.rows
+each_rows site c [] desk = refl
+each_rows site c (flight ∷ flights) desk = each_rows site c flights (dismissed_flight site c flight desk)
+
+dismissing_rows : (site : Site) (loan : Loan) (c : Call) (desk : Desk) → (dismissing site (record c { phase = Lent loan }) desk).rows ≡ desk.rows
+dismissing_rows site loan c desk =
+    let d : Call = record c { phase = Lent loan } in
+    let pracks = filter (λ (flight : Flight). not (is_updating flight)) c.flights in
+    each_rows site d (filter is_updating c.flights) (dismissed_each site d pracks desk) ∙ each_rows site d pracks desk
+
 finished-turns : (phase : Phase) (site : Site) (at : ℕ) (c : Call) (desk : Desk) →
     let s = finished_in phase site at (record c { phase = phase }) desk in Turns (Unit {0}) at (record c { phase = phase }) s.call (added desk.rows s.desk.rows)
 finished-turns (Offered x) site at c desk = Keeps refl (added-none desk.rows)
 finished-turns (Stood x stage) site at c desk = Keeps refl (added-none desk.rows)
 finished-turns (Lent loan) site at c desk =
     let s = finished_in (Lent loan) site at (record c { phase = Lent loan }) desk in
-    Leaves refl (record { opening = refl; diversions = refl; answered = refl }) (ap Over (ended_so c.answered)) refl
+    Leaves refl (record { opening = refl; diversions = refl; answered = refl }) (ap Over (ended_so c.answered)) refl refl
     (added-is desk.rows (rows_by (record { answered = c.answered; at = at; holds = c.hold.holds; cause = causes.Ended }) c.past (first_of loan.left loan.meter)
     (last_of loan.left loan.meter)) s.desk.rows
-    (λ i. desk.rows ++ rows_by (record { answered = c.answered; at = at; holds = c.hold.holds; cause = ended_so c.answered i }) c.past (first_of loan.left loan.meter)
-    (last_of loan.left loan.meter)))
+    (ap (λ rows. rows ++ rows_by (record { answered = c.answered; at = at; holds = c.hold.holds; cause = cause_by c.answered causes.Ended }) c.past (first_of loan.left loan.meter)
+    (last_of loan.left loan.meter)) (dismissing_rows site loan c desk)
+    ∙ (λ i. desk.rows ++ rows_by (record { answered = c.answered; at = at; holds = c.hold.holds; cause = ended_so c.answered i }) c.past (first_of loan.left loan.meter)
+    (last_of loan.left loan.meter))))
 finished-turns (Over cause) site at c desk = Keeps refl (added-none desk.rows)
 
 -- a signal that comes to a call that stands
@@ -112,14 +128,14 @@ heard-turns law site x c stands =
     let s = step site x.now x.signal c x.desk in
     elim (law.standing site x.now x.signal c x.desk stands) as (λ g. Turns (Unit {0}) x.now.at c s.call (added x.desk.rows s.desk.rows)) [
       | going.Stands r ↦ Stays stands r.same r.stands (λ p. r.parts) (ap (added x.desk.rows) r.none ∙ added-none x.desk.rows)
-      | going.Leaves r ↦ Leaves stands r.same r.over r.past (added-is x.desk.rows _ s.desk.rows r.filed)
+      | going.Leaves r ↦ Leaves stands r.same r.over r.past r.flights (added-is x.desk.rows _ s.desk.rows r.filed)
     ]
 
 -- ---- a call of which a leg was taken out once, beside the call of a story that talks
 
 pub data After (P : Type 0) (at : ℕ) (d c : Call) (rows : List Row) : Type 0 where
   Runs : stands_in c.phase ≡ true → (P → (parts_now c ≡ parts_now d)) → rows ≡ [] → After P at d c rows
-  Gone : c.phase ≡ Over causes.Ended → c.past ≡ [] → (P → rows ≡ rows_by (ended_at c at) (parts_now d).past (parts_now d).first (parts_now d).last) → After P at d c rows
+  Gone : c.phase ≡ Over causes.Ended → c.past ≡ [] → c.flights ≡ [] → (P → rows ≡ rows_by (ended_at c at) (parts_now d).past (parts_now d).first (parts_now d).last) → After P at d c rows
 
 both-same : (c d e : Call) → StaysSame c d → StaysSame d e → StaysSame c e
 both-same c d e one two = record { opening = two.opening ∙ one.opening; diversions = two.diversions ∙ one.diversions; answered = two.answered ∙ one.answered }
@@ -153,24 +169,24 @@ after-turns P Q before now d c e rows filed (Runs stands parts none) (Keeps is n
     Runs (ap (λ (c : Call). stands_in c.phase) is ∙ stands) (λ p. ap parts_now is ∙ parts p.1) (no-more rows filed nothing ∙ none)
 after-turns P Q before now d c e rows filed (Runs stands parts none) (Stays from kept on later nothing) =
     Runs on (λ p. later p.0 ∙ parts p.1) (no-more rows filed nothing ∙ none)
-after-turns P Q before now d c e rows filed (Runs stands parts none) (Leaves from kept over past is) =
-    Gone over past (λ p.
+after-turns P Q before now d c e rows filed (Runs stands parts none) (Leaves from kept over past flights is) =
+    Gone over past flights (λ p.
     ap (λ l. l ++ filed) none ∙ is ∙ ap (rows_of_parts e now) (parts p.1)
     ∙ ap (λ b. rows_of_parts e (if b then before else now) (parts_now d)) (sym (stands-on c.phase stands)))
-after-turns P Q before now d c e rows filed (Gone over past is) (Keeps same_call nothing) =
-    Gone (ap (λ (c : Call). c.phase) same_call ∙ over) (ap (λ (c : Call). c.past) same_call ∙ past) (λ p.
+after-turns P Q before now d c e rows filed (Gone over past flights is) (Keeps same_call nothing) =
+    Gone (ap (λ (c : Call). c.phase) same_call ∙ over) (ap (λ (c : Call). c.past) same_call ∙ past) (ap (λ (c : Call). c.flights) same_call ∙ flights) (λ p.
     no-more rows filed nothing ∙ is p.1 ∙ ap (λ (c : Call). rows_of_parts c before (parts_now d)) (sym same_call)
     ∙ ap (λ phase. rows_of_parts e (if is_over phase then before else now) (parts_now d)) (sym over))
-after-turns P Q before now d c e rows filed (Gone over past is) (Stays from kept on later nothing) = not-standing c.phase over from
-after-turns P Q before now d c e rows filed (Gone over past is) (Leaves from kept left empty filed_is) = not-standing c.phase over from
+after-turns P Q before now d c e rows filed (Gone over past flights is) (Stays from kept on later nothing) = not-standing c.phase over from
+after-turns P Q before now d c e rows filed (Gone over past flights is) (Leaves from kept left empty none filed_is) = not-standing c.phase over from
 
 after-heard : CallsGoOn → (P : Type 0) (before : ℕ) (d c : Call) (rows : List Row) (site : Site) (x : Heard) → After P before d c rows →
     let s = step site x.now x.signal c x.desk in After (Unit {0} × P) (at_if c before x.now.at) d s.call (rows ++ added x.desk.rows s.desk.rows)
 after-heard law P before d c rows site x (Runs stands parts none) = after-turns P (Unit {0}) before x.now.at d c _ rows _ (Runs stands parts none) (heard-turns law site x c stands)
-after-heard law P before d c rows site x (Gone over past is) =
+after-heard law P before d c rows site x (Gone over past flights is) =
     let s = step site x.now x.signal c x.desk in
-    let r = law.ended site x.now x.signal c x.desk (ap is_over over) in
-    Gone (r.phase ∙ over) (r.past ∙ past) (λ p.
+    let r = law.ended site x.now x.signal c x.desk (ap is_over over) flights in
+    Gone (r.phase ∙ over) (r.past ∙ past) r.flights (λ p.
     no-more rows (added x.desk.rows s.desk.rows) (ap (added x.desk.rows) r.none ∙ added-none x.desk.rows) ∙ is p.1
     ∙ (λ i. rows_by (record { answered = sym r.same.answered i; at = before; holds = (sym r.hold i).holds; cause = causes.Ended }) (parts_now d).past (parts_now d).first
     (parts_now d).last)
@@ -180,7 +196,7 @@ heard-same : CallsGoOn → (P : Type 0) (before : ℕ) (d c : Call) (rows : List
     StaysSame c (step site x.now x.signal c x.desk).call
 heard-same law P before d c rows site x (Runs stands parts none) =
     elim (law.standing site x.now x.signal c x.desk stands) as (λ g. StaysSame c (step site x.now x.signal c x.desk).call) [ going.Stands r ↦ r.same | going.Leaves r ↦ r.same ]
-heard-same law P before d c rows site x (Gone over past is) = (law.ended site x.now x.signal c x.desk (ap is_over over)).same
+heard-same law P before d c rows site x (Gone over past flights is) = (law.ended site x.now x.signal c x.desk (ap is_over over) flights).same
 
 turns-same : (P : Type 0) (at : ℕ) (c d : Call) (filed : List Row) → Turns P at c d filed → StaysSame c d
 turns-same P at c d filed (Keeps is nothing) = record {
@@ -190,7 +206,7 @@ turns-same P at c d filed (Keeps is nothing) = record {
       (c : Call). c.answered) is;
 }
 turns-same P at c d filed (Stays from kept on later nothing) = kept
-turns-same P at c d filed (Leaves from kept over past is) = kept
+turns-same P at c d filed (Leaves from kept over past flights is) = kept
 
 -- it is not offered any more
 pub after-offered : (P : Type 0) (at : ℕ) (d c : Call) (rows : List Row) → After P at d c rows → is_offered c.phase ≡ false
@@ -201,7 +217,7 @@ after-offered P at d c rows (Runs stands parts none) = go c.phase stands
     go (Stood x stage) h = refl
     go (Lent loan) h = refl
     go (Over cause) h = refl
-after-offered P at d c rows (Gone over past is) = ap is_offered over
+after-offered P at d c rows (Gone over past flights is) = ap is_offered over
 
 stands-offered : (phase : Phase) → stands_in phase ≡ true → is_offered phase ≡ false
 stands-offered (Offered x) h = absurd (let e : false ≡ true = h in cc)
@@ -273,7 +289,7 @@ place-of law s x earlier heard turns (Same is rows over) =
       | Keeps same_call nothing ↦ Same (same_call ∙ is) (no-more (rows_after s earlier) filed nothing ∙ rows) (λ h.
           ap (λ b. if b then over_at s earlier else now) (ap (λ (c : Call). is_over c.phase) is ∙ h) ∙ over h)
       | Stays from kept on parts nothing ↦ later from
-      | Leaves from kept left empty filed_is ↦ later from
+      | Leaves from kept left empty none filed_is ↦ later from
     ]
 
 no-signal : (law : ChargingIsExact) (s : Start) (x : Event) (earlier : List Event) (heard : List Heard) →
@@ -308,7 +324,7 @@ abbrev pub quiet : Heard → Heard
 quiet x = record { now = x.now; signal = of_call.Silent [] []; desk = x.desk }
 
 quiet-step : (site : Site) (x : Heard) (c : Call) → step site x.now (quiet x).signal c x.desk ≡ onward c x.desk
-unfolding step
+unfolding step row
 quiet-step site x c = refl
 
 at-same : (b : Bool) (one two now : ℕ) → (b ≡ true → one ≡ two) → (if b then one else now) ≡ (if b then two else now)

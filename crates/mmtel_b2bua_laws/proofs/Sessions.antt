@@ -24,7 +24,7 @@ lives_keep law charged sessions s [] = sessions.opens s
 lives_keep law charged sessions s (Hears x ∷ earlier) =
     let c : Call = call_after s earlier in
     subst (λ own. IsSessionSeen s.site.timer (step s.site x.now x.signal c x.desk).call
-    (session_by x.now.at own x.signal (added x.desk.out (step s.site x.now x.signal c x.desk).desk.out) (session_after s earlier))) (its_number law charged s earlier)
+    (session_by x.now.at own c x.signal (added x.desk.out (step s.site x.now x.signal c x.desk).desk.out) (session_after s earlier))) (its_number law charged s earlier)
     (sessions.goes_on s.site x.now x.signal c x.desk (session_after s earlier) (lives_keep law charged sessions s earlier))
 lives_keep law charged sessions s (Releases side ∷ earlier) = sessions.lends s.site.timer side (call_after s earlier) (session_after s earlier) (lives_keep law charged sessions s earlier)
 lives_keep law charged sessions s (Restores away ∷ earlier) = sessions.takes_back s.site.timer away (call_after s earlier) (session_after s earlier) (lives_keep law charged sessions s earlier)

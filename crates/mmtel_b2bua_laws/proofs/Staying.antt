@@ -26,7 +26,7 @@ module _ (laws : OfCalls) (records : List Sheet) (site far : Site) (keys : TKey 
   did-alike (BothRelease number side) t u a alike = record { entries = released-alike laws records known number side t.entries u.entries a.alike.entries; opened = a.alike.opened; rows = a.alike.rows }
   did-alike (BothRestore number one other) t u a alike = record { entries = restored-alike laws records known number one other alike t.entries u.entries a.alike.entries; opened = a.alike.opened; rows = a.alike.rows }
   did-alike (BothFinish number at tokens) t u a alike =
-      with-alike laws records site far keys configured (finished_by site number at tokens t) (finished_by far number at tokens u) t.opened u.opened t u a.alike.opened (finishing-alike laws records site far keys configured number at tokens t u a.alike) a.alike
+      with-alike laws records site far keys configured (finished_by site number at tokens t) (finished_by far number at tokens u) t.opened u.opened t u a.alike.opened (finishing-alike laws records site far keys configured number at tokens t u a) a.alike
   did-alike (BothDrop count) t u a alike = record { entries = a.alike.entries; opened = a.alike.opened; rows = ap (λ (l : List Row). drop count l) a.alike.rows }
 
   -- ---- what holds of each call stays

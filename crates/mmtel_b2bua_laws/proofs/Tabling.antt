@@ -88,7 +88,8 @@ calls_exact law charged comes shows later attempts endings counted sessions expi
       throughout = λ keys. lives_show_throughout law charged shows later life.start life.events (life_others site deeds number life keys is) own.desks;
       seen = lives_end_as_seen law charged attempts endings life.start life.events;
       watched =
-          subst (λ (site : Site). IsSeen site.bound (no_reply_after life.start life.events) (call_after life.start life.events).phase (watch_after life.start life.events)) own.opening.0
+          subst (λ (site : Site). IsSeen site.bound (no_reply_after life.start life.events) (call_after life.start life.events).acks (call_after life.start life.events).phase
+          (watch_after life.start life.events)) own.opening.0
           (lives_watched law charged attempts life.start life.events);
       session =
           subst (λ (site : Site). IsSessionSeen site.timer (call_after life.start life.events) (session_after life.start life.events)) own.opening.0

@@ -11,6 +11,7 @@ use Rattle.mmtel_transaction.specs.declared.words.TKey.{TKey}
 use Rattle.mmtel_types.specs.declared.sides.Side.{Side}
 use Rattle.mmtel_call_decisions.specs.Decisions.{time_of}
 use Rattle.mmtel_call_decisions.specs.Site.{Site}
+use Rattle.mmtel_call_decisions.specs.declared.openings.Opening.{Opening}
 use Rattle.mmtel_call.specs.Lending.{finished, finished_in, lent_in, put_back_in}
 use Rattle.mmtel_call.specs.Table.{step}
 use Rattle.mmtel_call.specs.declared.calls.Call.{Call}
@@ -21,14 +22,14 @@ use Rattle.mmtel_call.specs.declared.signals.Signal.{Signal}
 use Rattle.mmtel_call_laws.specs.Endings.{ended_at}
 use Rattle.mmtel_call_laws.specs.GoingOn.{CallsGoOn, stands_in}
 use Rattle.mmtel_call_laws.specs.Known.{last_record}
-use Rattle.mmtel_call_laws.specs.Laws.{ChargingIsExact, ShowsItsOutcome, ShowsNothingLater}
-use Rattle.mmtel_call_laws.specs.Shown.{AsksOthers, IsOthers, is_offered, shown_by, signs_of}
+use Rattle.mmtel_call_laws.specs.Laws.{ChargingIsExact, ShowsItsOutcome, ShowsNothingLater, WaitsForOthers}
+use Rattle.mmtel_call_laws.specs.Shown.{AsksOthers, FlyOthers, IsOthers, is_offered, shown_by, signs_of}
 use Rattle.mmtel_call_laws.specs.Story as story
-use Rattle.mmtel_call_laws.specs.Story.{Heard, Start, added, next_step}
+use Rattle.mmtel_call_laws.specs.Story.{Heard, Start, added, next_step, opening_in}
 use Rattle.mmtel_call_laws.specs.Trace.Laws as story_trace
 use Rattle.mmtel_call_laws.specs.Trace.Laws.{AttemptsAreSeen, EndingsAreSeen, IsSeen}
 use Rattle.mmtel_call_laws.specs.Trace.Seen as story_seen
-use Rattle.mmtel_call_laws.specs.Trace.Seen.{Going, Mark, Watch, ends_watched, last_by, marks_of, watched_from, watched_next}
+use Rattle.mmtel_call_laws.specs.Trace.Seen.{Going, Mark, Watch, ends_in, ends_watched, last_by, marks_of, watched_from, watched_next}
 use Rattle.mmtel_call_laws.proofs.Signs.{signs-append}
 use Rattle.mmtel_b2bua_laws.specs.Known.{AreOthers}
 use Rattle.mmtel_b2bua_laws.specs.Laws.{LivesAreWatched, LivesEndAsIsSeen, LivesShowThroughout}
@@ -42,29 +43,33 @@ use Rattle.mmtel_b2bua_laws.proofs.Living.{Beside, Later, Lived, Place, Same, af
 abbrev SameLast : Watch → (one other : Option ℕ) → Type 0
 SameLast w one other = (g : Going) → w.going ≡ Some g → one ≡ other
 
-watch-next : (now : ℕ) (w : Watch) (o : Option Going) (key : TKey) (one other : Option ℕ) (heard : Signal) (marks : List Mark) → w.going ≡ o → SameLast w one other →
-    watched_from now w o key one heard marks ≡ watched_from now w o key other heard marks
-watch-next now w None key one other heard marks is same = refl
-watch-next now w (Some g) key one other heard marks is same = ap (λ last. watched_from now w (Some g) key last heard marks) (same g is)
+watch-next : (site : Site) (o : Opening) (now : ℕ) (w : Watch) (going : Option Going) (one other : Option ℕ) (heard : Signal) (marks : List Mark) → w.going ≡ going → SameLast w one other →
+    watched_from site o now w going one heard marks ≡ watched_from site o now w going other heard marks
+watch-next site o now w None one other heard marks is same = refl
+watch-next site o now w (Some g) one other heard marks is same = ap (λ last. watched_from site o now w (Some g) last heard marks) (same g is)
 
-last-next : (now : ℕ) (w : Watch) (o : Option Going) (key : TKey) (one other : Option ℕ) (heard : Signal) (marks : List Mark) → w.going ≡ o → SameLast w one other →
-    SameLast (watched_from now w o key one heard marks) (last_by one heard) (last_by other heard)
-last-next now w None key one other heard marks is same g going = absurd (none-some g (sym is ∙ going))
-last-next now w (Some before) key one other heard marks is same g going = ap (λ last. last_by last heard) (same before is)
+last-next : (site : Site) (o : Opening) (now : ℕ) (w : Watch) (going : Option Going) (one other : Option ℕ) (heard : Signal) (marks : List Mark) → w.going ≡ going → SameLast w one other →
+    SameLast (watched_from site o now w going one heard marks) (last_by one heard) (last_by other heard)
+last-next site o now w None one other heard marks is same g going = absurd (none-some g (sym is ∙ going))
+last-next site o now w (Some before) one other heard marks is same g going = ap (λ last. last_by last heard) (same before is)
 
-ends-next : (w : Watch) (o : Option Going) (key : TKey) (one other : Option ℕ) (heard : Signal) → w.going ≡ o → SameLast w one other → ends_watched key one o heard ≡ ends_watched key other o heard
+ends-next : (w : Watch) (going : Option Going) (key : TKey) (one other : Option ℕ) (heard : Signal) → w.going ≡ going → SameLast w one other →
+    ends_in key one going w.acks heard ≡ ends_in key other going w.acks heard
 ends-next w None key one other heard is same = refl
-ends-next w (Some g) key one other heard is same = ap (λ last. ends_watched key last (Some g) heard) (same g is)
+ends-next w (Some g) key one other heard is same = ap (λ last. ends_in key last (Some g) w.acks heard) (same g is)
 
 -- none is on its way, and so none comes
-none-next : (now : ℕ) (w : Watch) (key : TKey) (last : Option ℕ) (heard : Signal) (marks : List Mark) → w.going ≡ None → watched_next now w key last heard marks ≡ w
-none-next now w key last heard marks none = ap (λ o. watched_from now w o key last heard marks) none
+none-next : (site : Site) (o : Opening) (now : ℕ) (w : Watch) (last : Option ℕ) (heard : Signal) (marks : List Mark) → w.going ≡ None → watched_next site o now w last heard marks ≡ w
+none-next site o now w last heard marks none = ap (λ going. watched_from site o now w going last heard marks) none
 
-stands-none : (bound : ℕ) (time : Option ℕ) (phase : Phase) (w : Watch) → stands_in phase ≡ true → IsSeen bound time phase w → w.going ≡ None
-stands-none bound time (Offered x) w stands seen = absurd (let e : false ≡ true = stands in cc)
-stands-none bound time (Stood x stage) w stands seen = seen
-stands-none bound time (Lent loan) w stands seen = seen
-stands-none bound time (Over cause) w stands seen = seen
+none-ends : (w : Watch) (key : TKey) (last : Option ℕ) (heard : Signal) → w.going ≡ None → ends_watched key last w heard ≡ None
+none-ends w key last heard none = ap (λ going. ends_in key last going w.acks heard) none
+
+stands-none : (bound : ℕ) (time : Option ℕ) (c : Call) (phase : Phase) (w : Watch) → stands_in phase ≡ true → IsSeen bound time c.acks phase w → w.going ≡ None
+stands-none bound time c (Offered x) w stands seen = absurd (let e : false ≡ true = stands in cc)
+stands-none bound time c (Stood x stage) w stands seen = seen
+stands-none bound time c (Lent loan) w stands seen = seen
+stands-none bound time c (Over cause) w stands seen = seen
 
 -- ---- a life beside its story
 
@@ -82,14 +87,15 @@ module _ (attempts : AttemptsAreSeen) (s : Start) where
       let one = last_after s earlier in
       let other = story_seen.last_after_all s heard in
       let key = s.arrival.key in
+      let o = opening_in s in
       let marks : Call → List Mark = λ (c : Call). marks_of s.site.sip s.arrival.number (added x.desk.out (next_step s x c).desk.out) in
-      let next = watch-next x.now.at w w.going key one other x.signal (marks (call_after s earlier)) refl r.last in
+      let next = watch-next s.site o x.now.at w w.going one other x.signal (marks (call_after s earlier)) refl r.last in
       record {
-        watch = next ∙ (λ i. watched_next x.now.at (r.watch i) key other x.signal (marks (is i)));
-        last = last-next x.now.at w w.going key one other x.signal (marks (call_after s earlier)) refl r.last;
+        watch = next ∙ (λ i. watched_next s.site o x.now.at (r.watch i) other x.signal (marks (is i)));
+        last = last-next s.site o x.now.at w w.going one other x.signal (marks (call_after s earlier)) refl r.last;
         seen =
-            ap (λ o. endings_seen s earlier ++ option_to_list (option_map (ended_at x.now.at) o)) (ends-next w w.going key one other x.signal refl r.last)
-            ∙ (λ i. r.seen i ++ option_to_list (option_map (ended_at x.now.at) (ends_watched key other (r.watch i).going x.signal)));
+            ap (λ end. endings_seen s earlier ++ option_to_list (option_map (ended_at x.now.at) end)) (ends-next w w.going key one other x.signal refl r.last)
+            ∙ (λ i. r.seen i ++ option_to_list (option_map (ended_at x.now.at) (ends_watched key other (r.watch i) x.signal)));
       }
 
   -- once a leg was taken out
@@ -99,16 +105,18 @@ module _ (attempts : AttemptsAreSeen) (s : Start) where
       let w = watch_after s earlier in
       let told = story_seen.watch_after s heard in
       let key = s.arrival.key in
-      let none-told : told.going ≡ None = stands-none s.site.bound (story_trace.no_reply_after s heard) (story.call_after s heard).phase told stands (attempts s heard) in
+      let none-told : told.going ≡ None = stands-none s.site.bound (story_trace.no_reply_after s heard) (story.call_after s heard) (story.call_after s heard).phase told stands (attempts s heard) in
       let none : w.going ≡ None = ap (λ (w : Watch). w.going) r.watch ∙ none-told in
-      let still : watch_after s (Hears x ∷ earlier) ≡ w = none-next x.now.at w key (last_after s earlier) x.signal _ none in
-      let still-told : story_seen.watch_after s (quiet x ∷ heard) ≡ told = none-next x.now.at told key (story_seen.last_after_all s heard) (quiet x).signal _ none-told in
+      let o = opening_in s in
+      let still : watch_after s (Hears x ∷ earlier) ≡ w = none-next s.site o x.now.at w (last_after s earlier) x.signal _ none in
+      let still-told : story_seen.watch_after s (quiet x ∷ heard) ≡ told = none-next s.site o x.now.at told (story_seen.last_after_all s heard) (quiet x).signal _ none-told in
       record {
         watch = still ∙ r.watch ∙ sym still-told;
         last = λ g going. absurd (none-some g (sym none ∙ ap (λ (w : Watch). w.going) (sym still) ∙ going));
         seen =
-            ap (λ o. endings_seen s earlier ++ option_to_list (option_map (ended_at x.now.at) (ends_watched key (last_after s earlier) o x.signal))) none ∙ ap (λ l. l ++ []) r.seen
-            ∙ ap (λ o. story_seen.endings_seen s heard ++ option_to_list (option_map (ended_at x.now.at) (ends_watched key (story_seen.last_after_all s heard) o (quiet x).signal))) (sym none-told);
+            ap (λ end. endings_seen s earlier ++ option_to_list (option_map (ended_at x.now.at) end)) (none-ends w key (last_after s earlier) x.signal none) ∙ ap (λ l. l ++ []) r.seen
+            ∙ ap (λ end. story_seen.endings_seen s heard ++ option_to_list (option_map (ended_at x.now.at) end))
+            (sym (none-ends told key (story_seen.last_after_all s heard) (quiet x).signal none-told));
       }
 
   -- what is no signal ends nothing
@@ -132,24 +140,25 @@ lives_end_as_seen law charged attempts endings s events =
 
 -- ---- the attempt that is on its way
 
-unoffered : (bound : ℕ) (time : Option ℕ) (phase : Phase) (w : Watch) → is_offered phase ≡ false → w.going ≡ None → IsSeen bound time phase w
-unoffered bound time (Offered x) w h none = absurd (let e : true ≡ false = h in cc)
-unoffered bound time (Stood x stage) w h none = none
-unoffered bound time (Lent loan) w h none = none
-unoffered bound time (Over cause) w h none = none
+unoffered : (bound : ℕ) (time : Option ℕ) (c : Call) (phase : Phase) (w : Watch) → is_offered phase ≡ false → w.going ≡ None → IsSeen bound time c.acks phase w
+unoffered bound time c (Offered x) w h none = absurd (let e : true ≡ false = h in cc)
+unoffered bound time c (Stood x stage) w h none = none
+unoffered bound time c (Lent loan) w h none = none
+unoffered bound time c (Over cause) w h none = none
 
 time-same : (s : Start) (events : List Event) (heard : List Heard) → Lived s events heard → no_reply_after s events ≡ story_trace.no_reply_after s heard
 time-same s events heard l = λ i. time_of (last_record (known-same s events heard l i) 0 (outcome-same s events heard l i).targets)
 
 watched-at : AttemptsAreSeen → (s : Start) (events : List Event) (heard : List Heard) → Lived s events heard → SeenAlike s events heard → Place s events heard →
-    IsSeen s.site.bound (no_reply_after s events) (call_after s events).phase (watch_after s events)
+    IsSeen s.site.bound (no_reply_after s events) (call_after s events).acks (call_after s events).phase (watch_after s events)
 watched-at attempts s events heard l r (Same is rows over) =
-    subst (λ w. IsSeen s.site.bound (no_reply_after s events) (call_after s events).phase w) (sym r.watch)
-    (subst (λ (c : Call). IsSeen s.site.bound (no_reply_after s events) c.phase (story_seen.watch_after s heard)) (sym is)
-    (subst (λ time. IsSeen s.site.bound time (story.call_after s heard).phase (story_seen.watch_after s heard)) (sym (time-same s events heard l)) (attempts s heard)))
+    subst (λ w. IsSeen s.site.bound (no_reply_after s events) (call_after s events).acks (call_after s events).phase w) (sym r.watch)
+    (subst (λ (c : Call). IsSeen s.site.bound (no_reply_after s events) c.acks c.phase (story_seen.watch_after s heard)) (sym is)
+    (subst (λ time. IsSeen s.site.bound time (story.call_after s heard).acks (story.call_after s heard).phase (story_seen.watch_after s heard)) (sym (time-same s events heard l))
+    (attempts s heard)))
 watched-at attempts s events heard l r (Later stands kept after) =
-    let none = stands-none s.site.bound (story_trace.no_reply_after s heard) (story.call_after s heard).phase (story_seen.watch_after s heard) stands (attempts s heard) in
-    unoffered s.site.bound (no_reply_after s events) (call_after s events).phase (watch_after s events) (after-offered _ _ (story.call_after s heard) (call_after s events) _ after)
+    let none = stands-none s.site.bound (story_trace.no_reply_after s heard) (story.call_after s heard) (story.call_after s heard).phase (story_seen.watch_after s heard) stands (attempts s heard) in
+    unoffered s.site.bound (no_reply_after s events) (call_after s events) (call_after s events).phase (watch_after s events) (after-offered _ _ (story.call_after s heard) (call_after s events) _ after)
     (ap (λ (w : Watch). w.going) r.watch ∙ none)
 
 pub lives_watched : CallsGoOn → ChargingIsExact → AttemptsAreSeen → LivesAreWatched
@@ -180,20 +189,52 @@ finished-asks key (Stood x stage) site at c desk a = a
 finished-asks key (Lent loan) site at c desk a = tt
 finished-asks key (Over cause) site at c desk a = tt
 
-asks-after : ShowsNothingLater → (s : Start) (events : List Event) → AreOthers s.arrival.key events → AsksOthers s.arrival.key (call_after s events).phase
+-- what is in flight stays as a leg is taken out or put back, and is answered as the call ends without it
+lent-flies : (key : TKey) (phase : Phase) (side : Side) (c : Call) → FlyOthers key c.flights → FlyOthers key (lent_in phase side (record c { phase = phase })).flights
+lent-flies key (Offered x) side c f = f
+lent-flies key (Stood x (Answered waiting success)) side c f = f
+lent-flies key (Stood x (Parting waiting success)) side c f = f
+lent-flies key (Stood x Talking) side c f = f
+lent-flies key (Stood x (Asking asking q)) side c f = f
+lent-flies key (Lent loan) side c f = f
+lent-flies key (Over cause) side c f = f
+
+back-flies : (key : TKey) (phase : Phase) (away : Released) (c : Call) → FlyOthers key c.flights → FlyOthers key (put_back_in phase away (record c { phase = phase })).flights
+back-flies key (Offered x) away c f = f
+back-flies key (Stood x stage) away c f = f
+back-flies key (Lent loan) away c f = f
+back-flies key (Over cause) away c f = f
+
+finished-flies : (key : TKey) (phase : Phase) (site : Site) (at : ℕ) (c : Call) (desk : Desk) → FlyOthers key c.flights →
+    FlyOthers key (finished_in phase site at (record c { phase = phase }) desk).call.flights
+finished-flies key (Offered x) site at c desk f = f
+finished-flies key (Stood x stage) site at c desk f = f
+finished-flies key (Lent loan) site at c desk f = tt
+finished-flies key (Over cause) site at c desk f = f
+
+waits-after : ShowsNothingLater → (s : Start) (events : List Event) → AreOthers s.arrival.key events → WaitsForOthers s.arrival.key (call_after s events)
 unfolding call_after finished
-asks-after law s [] others = law.opens s s.arrival.key
-asks-after law s (Hears x ∷ earlier) others = law.asks s.site x.now x.signal (call_after s earlier) x.desk s.arrival.key (asks-after law s earlier others.1) others.0
-asks-after law s (Releases side ∷ earlier) others = let c = call_after s earlier in lent-asks s.arrival.key c.phase side c (asks-after law s earlier others.1)
-asks-after law s (Restores away ∷ earlier) others = let c = call_after s earlier in back-asks s.arrival.key c.phase away c (asks-after law s earlier others.1)
-asks-after law s (Finishes at desk ∷ earlier) others = let c = call_after s earlier in finished-asks s.arrival.key c.phase s.site at c desk (asks-after law s earlier others.1)
+waits-after law s [] others = law.opens s s.arrival.key
+waits-after law s (Hears x ∷ earlier) others = law.asks s.site x.now x.signal (call_after s earlier) x.desk s.arrival.key (waits-after law s earlier others.1) others.0
+waits-after law s (Releases side ∷ earlier) others =
+    let c = call_after s earlier in
+    let w = waits-after law s earlier others.1 in
+    (lent-asks s.arrival.key c.phase side c w.0, lent-flies s.arrival.key c.phase side c w.1)
+waits-after law s (Restores away ∷ earlier) others =
+    let c = call_after s earlier in
+    let w = waits-after law s earlier others.1 in
+    (back-asks s.arrival.key c.phase away c w.0, back-flies s.arrival.key c.phase away c w.1)
+waits-after law s (Finishes at desk ∷ earlier) others =
+    let c = call_after s earlier in
+    let w = waits-after law s earlier others.1 in
+    (finished-asks s.arrival.key c.phase s.site at c desk w.0, finished-flies s.arrival.key c.phase s.site at c desk w.1)
 
 -- all that it shows it shows while it is offered
 if-none : (key : TKey) (b : Bool) (out : List Emit) → signs_of key out ≡ [] → signs_of key out ≡ signs_of key (if b then out else [])
 if-none key true out none = refl
 if-none key false out none = none
 
-shown-heard : ShowsNothingLater → (key : TKey) (site : Site) (x : Heard) (c : Call) (b : Bool) → is_offered c.phase ≡ b → AsksOthers key c.phase → IsOthers key x.signal →
+shown-heard : ShowsNothingLater → (key : TKey) (site : Site) (x : Heard) (c : Call) (b : Bool) → is_offered c.phase ≡ b → WaitsForOthers key c → IsOthers key x.signal →
     shown_by key x.signal (added x.desk.out (step site x.now x.signal c x.desk).desk.out) ≡ signs_of key (if b then added x.desk.out (step site x.now x.signal c x.desk).desk.out else [])
 shown-heard law key site x c true h asks other = law.all site x.now x.signal c x.desk key h
 shown-heard law key site x c false h asks other = law.none site x.now x.signal c x.desk key h asks other
@@ -202,11 +243,11 @@ shown-alone : ShowsNothingLater → (s : Start) (x : Event) (earlier : List Even
     shown_in s.arrival.key x (emits_by s.site x (call_after s earlier))
     ≡ signs_of s.arrival.key (if is_offered (call_after s earlier).phase then emits_by s.site x (call_after s earlier) else [])
 shown-alone law s (Hears x) earlier others =
-    let c = call_after s earlier in shown-heard law s.arrival.key s.site x c (is_offered c.phase) refl (asks-after law s earlier others.1) others.0
+    let c = call_after s earlier in shown-heard law s.arrival.key s.site x c (is_offered c.phase) refl (waits-after law s earlier others.1) others.0
 shown-alone law s (Releases side) earlier others = if-none s.arrival.key (is_offered (call_after s earlier).phase) [] refl
 shown-alone law s (Restores away) earlier others = if-none s.arrival.key (is_offered (call_after s earlier).phase) [] refl
 shown-alone law s (Finishes at desk) earlier others =
-    let c = call_after s earlier in if-none s.arrival.key (is_offered c.phase) (added desk.out (finished s.site at c desk).desk.out) (law.ends s.site at c desk s.arrival.key)
+    let c = call_after s earlier in if-none s.arrival.key (is_offered c.phase) (added desk.out (finished s.site at c desk).desk.out) (law.ends s.site at c desk s.arrival.key (waits-after law s earlier others.1).1)
 
 all-shown : ShowsNothingLater → (s : Start) (events : List Event) → AreOthers s.arrival.key events → signs_after s events ≡ signs_of s.arrival.key (emits_while_offered s events)
 unfolding signs_after emits_while_offered

@@ -133,7 +133,7 @@ pub record TablesStayAlike : Type 0 where
       HearAlike records site far keys one other t u → AlikeDesks (trust_of site keys) (heard_by site one.heard t).desk (heard_by far other.heard u).desk
   -- and of what the end of a call without its leg brings forth
   pub ends : (records : List Sheet) (site far : Site) (keys : TKey → Bool) (number at : ℕ) (tokens : Drawn) (t u : Table) → Configured records site far →
-      AlikeTables records (trusts site) t u →
+      StandAlike records site keys t u →
       AlikeDesks (trust_of site keys) (finished_by site number at tokens t).desk (finished_by far number at tokens u).desk
   -- the leg that is taken out is the same but for private places
   pub legs : (records : List Sheet) (known : Peer → Bool) (number : ℕ) (side : Side) (t u : Table) → AlikeTables records known t u →

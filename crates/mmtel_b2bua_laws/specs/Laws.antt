@@ -44,9 +44,10 @@ LivesShowThroughout = (s : Start) (events : List Event) → AreOthers s.arrival.
 abbrev pub LivesEndAsIsSeen : Type 0
 LivesEndAsIsSeen = (s : Start) (events : List Event) → endings_after s events ≡ endings_seen s events
 
--- while it is offered its attempt is the one that is on its way, with its deadlines, each at its moment; and else none is on its way
+-- while it is offered its attempt is the one that is on its way, with its deadlines, each at its moment, and with the reliable answers that wait for their PRACK; and else
+-- none is on its way
 abbrev pub LivesAreWatched : Type 0
-LivesAreWatched = (s : Start) (events : List Event) → IsSeen s.site.bound (no_reply_after s events) (call_after s events).phase (watch_after s events)
+LivesAreWatched = (s : Start) (events : List Event) → IsSeen s.site.bound (no_reply_after s events) (call_after s events).acks (call_after s events).phase (watch_after s events)
 
 -- the deadline of its session that counts is that of the last 2xx which it passed on
 abbrev pub LivesKeepTheirSession : Type 0
@@ -128,7 +129,9 @@ pub record CallIsExact (site : Site) (deeds : List Deed) (number : ℕ) (life : 
       signs_after life.start life.events
       ≡ signs_of_targets (opening_in life.start) (outcome_after life.start life.events).targets ++ sign_of_result (outcome_after life.start life.events).result
   pub seen : endings_after life.start life.events ≡ endings_seen life.start life.events
-  pub watched : IsSeen site.bound (no_reply_after life.start life.events) (call_after life.start life.events).phase (watch_after life.start life.events)
+  pub watched :
+      IsSeen site.bound (no_reply_after life.start life.events) (call_after life.start life.events).acks (call_after life.start life.events).phase
+      (watch_after life.start life.events)
   pub session : IsSessionSeen site.timer (call_after life.start life.events) (session_after life.start life.events)
   pub expires : (later earlier : List Event) (x : Heard) (number : ℕ) → life.events ≡ later ++ Hears x ∷ earlier → x.signal ≡ signal.Due (due.Expired number) →
       ExpiresOn life.start earlier x number

@@ -1,5 +1,5 @@
--- What is seen of a life from outside: what it shows in each step, its attempts, by what goes out and is heard while it is offered (RFC 3261 §13.2.1, §13.3.1, §14 and §21), and
--- its session (RFC 4028 §10).
+-- What is seen of a life from outside: what it shows in each step, its attempts, by what goes out and is heard while it is offered (RFC 3261 §13.2.1, §13.3.1, §14 and §21,
+-- RFC 3262 §3), and its session (RFC 4028 §10).
 -- A leg that is taken out or put back, or the end without one, is of an answered call, of which no attempt is on its way.
 use Rattle.std.specs.Prelude.{ℕ, Option, None, List, [], ◌∷◌, ◌++◌, option_to_list}
 use Rattle.std.specs.Option.{option_map}
@@ -7,13 +7,14 @@ use Rattle.mmtel_precedence.specs.Calls.{Ended}
 use Rattle.mmtel_transaction.specs.declared.words.Emit.{Emit}
 use Rattle.mmtel_transaction.specs.declared.words.TKey.{TKey}
 use Rattle.mmtel_call_decisions.specs.Decisions.{time_of}
+use Rattle.mmtel_call_decisions.specs.Requests.{number_of}
 use Rattle.mmtel_call.specs.declared.calls.Call.{Call}
 use Rattle.mmtel_call_laws.specs.Endings.{ended_at}
 use Rattle.mmtel_call_laws.specs.Known.{last_record}
 use Rattle.mmtel_call_laws.specs.Session.Seen.{Session, agreed_by, expiries_of, session_at_first, session_by}
 use Rattle.mmtel_call_laws.specs.Shown.{Sign, shown_by, signs_of}
-use Rattle.mmtel_call_laws.specs.Story.{Start, added, first_step}
-use Rattle.mmtel_call_laws.specs.Trace.Seen.{Going, Mark, Watch, ends_watched, first_last, last_by, marks_first, marks_of, nothing_yet, on_marks, watched_next}
+use Rattle.mmtel_call_laws.specs.Story.{Start, added, first_step, opening_in}
+use Rattle.mmtel_call_laws.specs.Trace.Seen.{Mark, Watch, ends_watched, first_last, last_by, marks_first, marks_of, nothing_yet, on_marks, watched_next}
 use Rattle.mmtel_b2bua_laws.specs.Known.{known_after, outcome_after}
 use Rattle.mmtel_b2bua_laws.specs.Lives.{Event, Finishes, Hears, Releases, Restores, call_after, emits_by}
 
@@ -48,27 +49,27 @@ last_after s (x ∷ earlier) = last_in (last_after s earlier) x
 abbrev pub marks_in : Start → Event → Call → List Mark
 marks_in s x c = marks_of s.site.sip s.arrival.number (emits_by s.site x c)
 
-abbrev pub watched_in : Watch → (key : TKey) → (last : Option ℕ) → Event → List Mark → Watch
-watched_in w key last (Hears x) marks = watched_next x.now.at w key last x.signal marks
-watched_in w key last (Releases side) marks = w
-watched_in w key last (Restores away) marks = w
-watched_in w key last (Finishes at desk) marks = w
+abbrev pub watched_in : Start → Watch → (last : Option ℕ) → Event → List Mark → Watch
+watched_in s w last (Hears x) marks = watched_next s.site (opening_in s) x.now.at w last x.signal marks
+watched_in s w last (Releases side) marks = w
+watched_in s w last (Restores away) marks = w
+watched_in s w last (Finishes at desk) marks = w
 
 unfoldable pub watch_after : Start → List Event → Watch
-watch_after s [] = on_marks s.now.at nothing_yet (marks_first s)
-watch_after s (x ∷ earlier) = watched_in (watch_after s earlier) s.arrival.key (last_after s earlier) x (marks_in s x (call_after s earlier))
+watch_after s [] = on_marks s.now.at (nothing_yet (number_of s.arrival.invite)) (marks_first s)
+watch_after s (x ∷ earlier) = watched_in s (watch_after s earlier) (last_after s earlier) x (marks_in s x (call_after s earlier))
 
 -- ---- how attempts ended, by that alone
 
-abbrev pub ends_in : (key : TKey) → (last : Option ℕ) → Option Going → Event → List Ended
-ends_in key last going (Hears x) = option_to_list (option_map (ended_at x.now.at) (ends_watched key last going x.signal))
-ends_in key last going (Releases side) = []
-ends_in key last going (Restores away) = []
-ends_in key last going (Finishes at desk) = []
+abbrev pub ends_in : (key : TKey) → (last : Option ℕ) → Watch → Event → List Ended
+ends_in key last w (Hears x) = option_to_list (option_map (ended_at x.now.at) (ends_watched key last w x.signal))
+ends_in key last w (Releases side) = []
+ends_in key last w (Restores away) = []
+ends_in key last w (Finishes at desk) = []
 
 unfoldable pub endings_seen : Start → List Event → List Ended
 endings_seen s [] = []
-endings_seen s (x ∷ earlier) = endings_seen s earlier ++ ends_in s.arrival.key (last_after s earlier) (watch_after s earlier).going x
+endings_seen s (x ∷ earlier) = endings_seen s earlier ++ ends_in s.arrival.key (last_after s earlier) (watch_after s earlier) x
 
 -- ---- how long it may ring
 
@@ -80,7 +81,7 @@ no_reply_after s events = time_of (last_record (known_after s events) 0 (outcome
 
 -- as a leg is taken out or put back nothing is passed on and nothing goes out; where the call ends without one no 2xx is heard
 abbrev pub session_in : Start → Event → Call → Session → Session
-session_in s (Hears x) c w = session_by x.now.at s.arrival.number x.signal (emits_by s.site (Hears x) c) w
+session_in s (Hears x) c w = session_by x.now.at s.arrival.number c x.signal (emits_by s.site (Hears x) c) w
 session_in s (Releases side) c w = w
 session_in s (Restores away) c w = w
 session_in s (Finishes at desk) c w = agreed_by at w None (expiries_of s.arrival.number (emits_by s.site (Finishes at desk) c))

@@ -7,7 +7,7 @@ use mmtel_call_laws::{
     public_parts_tell_what_is_asked, what_calls_keep,
 };
 
-/// Whatever is done on a table of calls, how each call opened and the request that it keeps are asked by their own peers, where the requests that are heard are, and its
+/// Whatever is done on a table of calls, how each call opened and the requests that it keeps are asked by their own peers, where the requests that are heard are, and its
 /// records are among those that stood.
 pub fn tables_keep()
     ensures law { TablesKeep }

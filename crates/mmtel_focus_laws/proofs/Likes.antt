@@ -97,7 +97,7 @@ module _ (heads : Heads) (site : Site) (keys : TKey → Bool) where
       AlikeDesks T (answered_at contact key (shown m) tag code [] named body x) (answered_at contact key m.said tag code [] named body y)
   answered-alike contact key m tag code named body x y asked a =
       emitted-alike T (emit.Reply key (own_answer contact (shown m) tag code [] named body)) (emit.Reply key (own_answer contact m.said tag code [] named body)) x y
-      (reply-seen heads T key m.said.heard.trusted (private_places m.role m.said.heard) m.said.heard (own_reply contact m.said.source tag code [] named body) [] [] asked.request (asked.told ∙ sym asked.known) (λ name own. refl) (λ name own. refl) (λ e. refl)) a
+      (reply-seen heads T key m.said.heard.trusted (private_places m.role m.said.heard) m.said.heard (own_reply contact m.said.source tag code [] named body) [] [] asked.request (asked.told ∙ sym asked.known) (λ name own. refl) (λ name own. refl) refl (λ e. refl)) a
 
   pub answered-like : (contact : List ℕ) (key : TKey) (p : Pair) (tag : List ℕ) (code : ℕ) (named : List Line) (body : List ℕ) (x y : Desk) → AreRequests T key p → AlikeDesks T x y →
       AlikeDesks T (answered_at contact key p.one.said tag code [] named body x) (answered_at contact key p.other.said tag code [] named body y)

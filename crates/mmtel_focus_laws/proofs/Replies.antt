@@ -380,7 +380,7 @@ module _ (own : ℕ → Bool) where
   success_rest : (sip : Addr) (l : Loose) (remote : Remote) (o : Option Dialogue) (desk : Desk) → Sends desk → Sends (on_success_in sip l remote o desk).desk
   success_rest sip l remote (Some d) desk had = emit_in _ (drew desk) tt had
   success_rest sip l remote None desk had =
-      let d : Dialogue = left_ones.made_from l.within l.invitation.early l.invitation.dialogue remote in
+      let d : Dialogue = left_ones.made_from l.within l.invitation.early l.invitation.asked l.invitation.dialogue remote in
       emit_in _ (drew (acked sip d desk)) tt (emit_in _ (drew desk) tt had)
 
   late_response : (sip : Addr) (key : TKey) (m : HeardMessage) (l : Loose) (desk : Desk) → Sends desk → Sends (left_ones.on_response sip key m l desk).desk

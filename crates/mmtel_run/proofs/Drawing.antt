@@ -1,6 +1,6 @@
 -- What calls bring forth keeps the text that tokens are drawn of, and draws on: no number is drawn back.
-use Rattle.std.proofs.Common.{◌≡◌, ℕ, zero, suc, ◌≤◌, ◌<◌, ◌^◌, List, [], refl, ◌∙◌, Bool, true, false, Option, Some, None, Result, Ok, Err, arith, codes}
-use Rattle.std.specs.Prelude.{◌==◌, nat_lt, not, position, slice_get, if◌then◌else◌}
+use Rattle.std.proofs.Common.{◌≡◌, ℕ, zero, suc, ◌≤◌, ◌<◌, ◌^◌, List, [], ◌∷◌, refl, ◌∙◌, Bool, true, false, Option, Some, None, Result, Ok, Err, arith, codes}
+use Rattle.std.specs.Prelude.{◌==◌, ◌&&◌, filter, nat_lt, not, position, slice_get, if◌then◌else◌}
 use Rattle.mmtel_answers.specs.Said.{Said, status_of}
 use Rattle.mmtel_b2bua.specs.Entries.{busy_beside, heard_by, is_numbered, sent_it}
 use Rattle.mmtel_b2bua.specs.Histories.{table_after}
@@ -13,6 +13,7 @@ use Rattle.mmtel_b2bua.specs.declared.signals.Signal.TheVariants as of_table
 use Rattle.mmtel_call_decisions.specs.Decisions.{decided_after, decided_at, handed_on, is_status, its_sheet, peer_for, service_at, target_of, time_of}
 use Rattle.mmtel_desk.specs.Invites.{invite_answered, invite_silent}
 use Rattle.mmtel_call_decisions.specs.Opening.{first_of, opening_of, refusal_of}
+use Rattle.mmtel_call_decisions.specs.Reliable.{reliable_number}
 use Rattle.mmtel_call_decisions.specs.Requests.{is_same_side}
 use Rattle.mmtel_call_decisions.specs.Site.{Site}
 use Rattle.mmtel_call_decisions.specs.declared.openings.Arrival.{Arrival}
@@ -20,17 +21,27 @@ use Rattle.mmtel_call_decisions.specs.declared.openings.Service.{Service}
 use Rattle.mmtel_call.specs.Answered.{acknowledges, acked_across, parted}
 use Rattle.mmtel_call.specs.Closing.{Step, onward, over, with_past}
 use Rattle.mmtel_call.specs.Diverting.{at_target, divert, diverted, goes_on, is_diverted, made, made_unless, on_end, on_turn, passed_by, refusal_by, refused, refused_by, told_of}
-use Rattle.mmtel_call.specs.Leaving.{acked_again, answered_at, answered_loose, answered_other, answered_taken, answered_taken_at, as_loose, forked, is_fork, is_success, is_taken, is_talking, repeated, without_silent}
+use Rattle.mmtel_call.specs.Flights.{agreed as agreed_in_flight, answered_flight, answered_in_flight, dismissed, dismissed_all, dismissed_each, dismissed_flight, dismissing}
+use Rattle.mmtel_call.specs.Flights.{final_of_flight, is_in_flight, is_updating, relayed_back_to, settled, settled_in, silent_flight, silent_in_flight, updating, without_flight}
+use Rattle.mmtel_call.specs.Leaving.{acked_again, answered_at, answered_loose, answered_other, answered_taken, answered_taken_at, as_loose, forked, is_fork, is_success, is_taken}
+use Rattle.mmtel_call.specs.Leaving.{is_talking, repeated, silent_other, silent_other_at}
 use Rattle.mmtel_call.specs.Lending.{finished, finished_in}
 use Rattle.mmtel_call.specs.Opening.{caller_of, new_call, opened, unless_refused}
+use Rattle.mmtel_call.specs.Reliable.{acknowledged_by, acknowledging, answer_named, on_rack, own_for, prack_refused, relayed_reliably}
 use Rattle.mmtel_call.specs.Reinvites.{agreed, cancelled_across, ends_dialog, on_response_across, proceeding_across}
-use Rattle.mmtel_call.specs.Requests.{is_bye, is_invite, unheard, unlisted}
-use Rattle.mmtel_call.specs.Ringing.{answered, armed_in, cancelled_attempt, failed, given_up, heard_by as trial_heard, left, on_cancel, on_due, on_heard, on_request_if, on_response, proceeding, says_offered, silenced, timed_out, tried}
+use Rattle.mmtel_call.specs.Requests.{is_bye, is_invite, is_prack, is_update, unheard, unlisted}
+use Rattle.mmtel_call.specs.Ringing.{answered, armed, armed_in, cancelled_attempt, failed, given_up, given_up_by, heard_by as trial_heard, left, on_cancel, on_due, on_heard}
+use Rattle.mmtel_call.specs.Ringing.{on_other, on_prack_of, on_request_if, on_response, proceeding, proceeding_by, relayed_if, says_offered, silenced, timed_out}
+use Rattle.mmtel_call.specs.Ringing.{tried}
 use Rattle.mmtel_call.specs.Sending.{relayed_to_caller, replied_to, told_caller}
 use Rattle.mmtel_call.specs.Stages.{has_left, is_due_at, left_by, on_ack_at, on_bye, on_cancel_at, on_heard_at, on_invite, on_request_at_if, on_response_at, on_silence_at, rung_out}
-use Rattle.mmtel_call.specs.Table.{ack_in, answer_to, cancel_in, due_in, is_current, request_in, response_in, silence_in, silence_of, step}
+use Rattle.mmtel_call.specs.Table.{ack_in, answer_to, cancel_in, due_in, is_current, leaves, request_in, response_in, row, silence_in, silence_of, step}
+use Rattle.mmtel_call.specs.Updates.{later, on_update, on_update_at, takes_updates, unless_updating, updated_across, updated_early}
 use Rattle.mmtel_call.specs.declared.calls.Attempt.{Attempt}
 use Rattle.mmtel_call.specs.declared.calls.Call.{Call}
+use Rattle.mmtel_call.specs.declared.calls.Flight.{Flight}
+use Rattle.mmtel_call.specs.declared.calls.FlightKind.{FlightKind}
+use Rattle.mmtel_call.specs.declared.calls.FlightKind.TheVariants.{Prack, Update}
 use Rattle.mmtel_call.specs.declared.calls.Pair.{Pair}
 use Rattle.mmtel_call.specs.declared.calls.Phase.{Phase}
 use Rattle.mmtel_call.specs.declared.calls.Phase.TheVariants.{Lent, Offered, Over, Stood}
@@ -43,7 +54,7 @@ use Rattle.mmtel_call.specs.declared.signals.Signal.{Signal}
 use Rattle.mmtel_call.specs.declared.signals.Signal.TheVariants as signal
 use Rattle.mmtel_desk.specs.Desks.{drew, fresh, token}
 use Rattle.mmtel_desk.specs.Invitations.{has_said, is_cancellable, knows}
-use Rattle.mmtel_desk.specs.Loose.{ended_before, is_of, late_cancelled, on_response as loose_response, on_success_in, told_late, with_invitation}
+use Rattle.mmtel_desk.specs.Loose.{is_of, late_cancelled, on_response as loose_response, on_success_in, told_late, with_invitation}
 use Rattle.mmtel_desk.specs.Sending.{cancel_sent, cancelled, final_acked}
 use Rattle.mmtel_desk.specs.declared.desks.Desk.{Desk}
 use Rattle.mmtel_desk.specs.declared.invitations.Invitation.{Invitation}
@@ -60,6 +71,8 @@ use Rattle.mmtel_precedence.specs.Calls.{End, NoReply, NotReachable, Standing}
 use Rattle.mmtel_precedence.specs.Services.{DueDiversion}
 use Rattle.mmtel_precedence.specs.Turns.{AfterEnd, EndAnswered, EndDivert, EndRefuse, Turn, TurnDivert, TurnOffer, TurnRefuse}
 use Rattle.mmtel_precedence.specs.Verdicts.{too_many}
+use Rattle.mmtel_reliable.specs.Acks.{has_own}
+use Rattle.mmtel_reliable.specs.declared.racks.Rack.{Rack}
 use Rattle.mmtel_sheet_values.specs.View.{InForce}
 use Rattle.mmtel_targets.specs.declared.targets.Target.{Target}
 use Rattle.mmtel_transaction.specs.declared.words.DueWord.{DueWord}
@@ -67,7 +80,9 @@ use Rattle.mmtel_transaction.specs.declared.words.DueWord.TheVariants as due
 use Rattle.mmtel_transaction.specs.declared.words.TKey.{TKey}
 use Rattle.mmtel_trust.specs.Digest.{HeardMessage}
 use Rattle.mmtel_types.specs.declared.addrs.Addr.{Addr}
+use Rattle.mmtel_types.specs.Causes.{status_of as status_of_cause}
 use Rattle.mmtel_types.specs.declared.causes.Cause.{Cause}
+use Rattle.mmtel_types.specs.declared.causes.Cause.TheVariants as causes
 use Rattle.mmtel_types.specs.declared.numbers.Account.{Account}
 use Rattle.mmtel_types.specs.declared.sides.Side.{Side}
 use Rattle.mmtel_types.specs.declared.sides.Side.TheVariants.{Caller, Callee}
@@ -187,11 +202,19 @@ armed_in-on : (time : Option ℕ) (at : ℕ) (attempt : Attempt) (c : Call) (d :
 armed_in-on None at attempt c d = none d
 armed_in-on (Some time) at attempt c d = none d
 
+armed-on : (code at : ℕ) (attempt : Attempt) (c : Call) (d : Desk) → On d (armed code at attempt c d)
+armed-on code at attempt c d = either (rings code && not attempt.rang) d (armed_in (time_of (its_sheet attempt.service)) at attempt c d) d (armed_in-on (time_of (its_sheet attempt.service)) at attempt c d) (none d)
+
+reliably-on : (o : Option ℕ) (rseq : ℕ) (site : Site) (at : ℕ) (x : Trial) (key : TKey) (m : Said) (code : ℕ) (c : Call) (d : Desk) → On d (relayed_if o rseq site at x key m code c d).desk
+reliably-on None rseq site at x key m code c d = none d
+reliably-on (Some own) rseq site at x key m code c d = armed-on code at x.attempt c (relayed_reliably site c x.attempt.service own m d)
+
+proceeding_by-on : (o : Option ℕ) (site : Site) (at : ℕ) (x : Trial) (key : TKey) (m : Said) (code : ℕ) (c : Call) (d : Desk) → On d (proceeding_by o site at x key m code c d).desk
+proceeding_by-on None site at x key m code c d = armed-on code at x.attempt c (relayed_to_caller site c x.attempt.service m d)
+proceeding_by-on (Some rseq) site at x key m code c d = reliably-on (own_for rseq x m c) rseq site at x key m code c d
+
 proceeding-on : (site : Site) (at : ℕ) (x : Trial) (key : TKey) (m : Said) (code : ℕ) (c : Call) (d : Desk) → On d (proceeding site at x key m code c d).desk
-proceeding-on site at x key m code c d =
-    let relayed = relayed_to_caller site c x.attempt.service m d in
-    either (Rattle.std.specs.Prelude.◌&&◌ (rings code) (not x.attempt.rang)) d (armed_in (time_of (its_sheet x.attempt.service)) at x.attempt c relayed) relayed
-    (armed_in-on (time_of (its_sheet x.attempt.service)) at x.attempt c relayed) (none d)
+proceeding-on site at x key m code c d = proceeding_by-on (reliable_number site c.opening m) site at x key m code c d
 
 response-on : (site : Site) (now : Standing) (x : Trial) (key : TKey) (m : Said) (code : ℕ) (c : Call) (d : Desk) → On d (on_response site now x key m code c d).desk
 response-on site now x key m code c d =
@@ -207,24 +230,68 @@ timed-on : (site : Site) (now : Standing) (x : Trial) (how : End) (c : Call) (d 
 timed-on site now x how c d =
     then_on d (cancelled_attempt site x d) (timed_out site now x how c d).desk (attempt-on site x d) (goes-on site now x how None (left x c) (cancelled_attempt site x d))
 
+given_up_by-on : (cause : Cause) (site : Site) (at : ℕ) (x : Trial) (c : Call) (d : Desk) → On d (given_up_by cause site at x c d).desk
+given_up_by-on cause site at x c d = attempt-on site x (told_caller site c (status_of_cause cause) d)
+
+given_up-on : (site : Site) (at : ℕ) (x : Trial) (c : Call) (d : Desk) → On d (given_up site at x c d).desk
+given_up-on site at x c d = given_up_by-on causes.Cancelled site at x c d
+
 due-on : (what : DueWord) (site : Site) (now : Standing) (x : Trial) (c : Call) (d : Desk) → On d (on_due site now x what c d).desk
 due-on (due.NoReply number) site now x c d = either_step (number == x.attempt.number) d (timed_out site now x NoReply c d) (onward c d) (timed-on site now x NoReply c d) (none d)
-due-on (due.NoPrack number) site now x c d = none d
+due-on (due.NoPrack own) site now x c d =
+    either_step (has_own own c.acks.waiting) d (given_up_by causes.Unacknowledged site now.at x c d) (onward c d) (given_up_by-on causes.Unacknowledged site now.at x c d) (none d)
 due-on (due.Cap number) site now x c d = either_step (number == x.attempt.number) d (timed_out site now x (end_by_time x.attempt.rang) c d) (onward c d) (timed-on site now x (end_by_time x.attempt.rang) c d) (none d)
 due-on (due.NoAck number) site now x c d = none d
 due-on (due.Expired number) site now x c d = none d
-
-given_up-on : (site : Site) (at : ℕ) (x : Trial) (c : Call) (d : Desk) → On d (given_up site at x c d).desk
-given_up-on site at x c d = attempt-on site x (told_caller site c 487 d)
 
 cancel-on : (site : Site) (at : ℕ) (x : Trial) (key : TKey) (m : Said) (invite : TKey) (c : Call) (d : Desk) → On d (on_cancel site at x key m invite c d).desk
 cancel-on site at x key m invite c d =
     either_step (invite.0 == c.opening.key.0) d (given_up site at x c (replied_to site c key m 200 d)) (onward c (replied_to site c key m 200 d)) (given_up-on site at x c (replied_to site c key m 200 d)) (none d)
 
+-- what waits for a PRACK is not sent again
+settled-on : (site : Site) (own : Option ℕ) (c : Call) (d : Desk) → On d (settled site own c d)
+settled-on site own c d = either site.reliable d _ d (none d) (none d)
+
+-- a PRACK
+acknowledging-on : (site : Site) (x : Trial) (key : TKey) (m : Said) (rack : Rack) (o : Option ℕ) (c : Call) (d : Desk) → On d (acknowledging site x key m rack o c d).desk
+acknowledging-on site x key m rack None c d = none d
+acknowledging-on site x key m rack (Some answer) c d =
+    then_on d (settled site (Some rack.answer) c d) (acknowledging site x key m rack (Some answer) c d).desk (settled-on site (Some rack.answer) c d) (once (settled site (Some rack.answer) c d))
+
+rack-on : (site : Site) (x : Trial) (key : TKey) (m : Said) (o : Option Rack) (c : Call) (d : Desk) → On d (on_rack site x key m o c d).desk
+rack-on site x key m None c d = none d
+rack-on site x key m (Some rack) c d = acknowledging-on site x key m rack (answer_named x c rack) c d
+
+prack_of-on : (side : Side) (site : Site) (x : Trial) (key : TKey) (m : Said) (c : Call) (d : Desk) → On d (on_prack_of side site x key m c d).desk
+prack_of-on Caller site x key m c d = rack-on site x key m (acknowledged_by m) c d
+prack_of-on Callee site x key m c d = none d
+
+-- an UPDATE, which goes to the other side if none is in flight
+updating-on : (o : Option Side) (across : Call → Desk → Step) (site : Site) (side : Side) (key : TKey) (m : Said) (c : Call) (d : Desk) → On d (across c d).desk → On d (unless_updating o across site side key m c d).desk
+updating-on None across site side key m c d on = on
+updating-on (Some other) across site side key m c d on = either_step (is_same_side other side) d _ _ (none d) (none d)
+
+update-on : (site : Site) (x : Trial) (side : Side) (key : TKey) (m : Said) (c : Call) (d : Desk) → On d (on_update site x side key m c d).desk
+update-on site x side key m c d =
+    either_step (takes_updates x) d (unless_updating (updating c.flights) (updated_early site x side key m) site side key m c d) (later site key m c d)
+    (updating-on (updating c.flights) (updated_early site x side key m) site side key m c d (once d)) (none d)
+
+update_at-on : (stage : Stage) (site : Site) (x : Pair) (side : Side) (key : TKey) (m : Said) (c : Call) (d : Desk) → On d (on_update_at stage site x side key m c d).desk
+update_at-on (Answered waiting success) site x side key m c d = none d
+update_at-on (Parting waiting success) site x side key m c d = none d
+update_at-on Talking site x side key m c d = updating-on (updating c.flights) (updated_across site x side key m) site side key m c d (once d)
+update_at-on (Asking asking q) site x side key m c d = none d
+
+other_offered-on : (site : Site) (x : Trial) (side : Side) (key : TKey) (m : Said) (c : Call) (d : Desk) → On d (on_other site x side key m c d).desk
+other_offered-on site x side key m c d =
+    either_step (is_prack m) d (on_prack_of side site x key m c d) _ (prack_of-on side site x key m c d)
+    (either_step (is_update m) d (on_update site x side key m c d) (onward c (unlisted site c key m d)) (update-on site x side key m c d) (in_order-on site c key m d))
+
 heard-on : (site : Site) (at : ℕ) (x : Trial) (side : Side) (key : TKey) (m : Said) (c : Call) (d : Desk) → On d (on_heard site at x side key m c d).desk
 heard-on site at x Caller key m c d =
-    either_step (is_bye m) d (given_up site at x c (replied_to site c key m 200 d)) (onward c (unlisted site c key m d)) (given_up-on site at x c (replied_to site c key m 200 d)) (in_order-on site c key m d)
-heard-on site at x Callee key m c d = in_order-on site c key m d
+    either_step (is_bye m) d (given_up site at x c (replied_to site c key m 200 d)) (on_other site x Caller key m c d) (given_up-on site at x c (replied_to site c key m 200 d))
+    (other_offered-on site x Caller key m c d)
+heard-on site at x Callee key m c d = other_offered-on site x Callee key m c d
 
 request_if-on : (r : Result (Unit {0}) DialogueFault) (site : Site) (at : ℕ) (x : Trial) (side : Side) (key : TKey) (m : Said) (c : Call) (d : Desk) → On d (on_request_if r site at x side key m c d).desk
 request_if-on (Ok heard) site at x side key m c d = heard-on site at (trial_heard side m x) side key m (record c { phase = Offered (trial_heard side m x) }) d
@@ -251,7 +318,9 @@ bye-on stage site at x side key m c d =
 heard_at-on : (stage : Stage) (site : Site) (at : ℕ) (x : Pair) (side : Side) (key : TKey) (m : Said) (c : Call) (d : Desk) → On d (on_heard_at stage site at x side key m c d).desk
 heard_at-on stage site at x side key m c d =
     either_step (is_invite m) d (on_invite stage site x side key m c d) _ (invite-on stage site x side key m c d)
-    (either_step (is_bye m) d (on_bye stage site at x side key m c d) (onward c (unlisted site c key m d)) (bye-on stage site at x side key m c d) (in_order-on site c key m d))
+    (either_step (is_bye m) d (on_bye stage site at x side key m c d) _ (bye-on stage site at x side key m c d)
+    (either_step (is_update m) d (on_update_at stage site x side key m c d) _ (update_at-on stage site x side key m c d)
+    (either_step (is_prack m) d (prack_refused site key m c d) (onward c (unlisted site c key m d)) (none d) (in_order-on site c key m d))))
 
 request_at_if-on : (r : Result (Unit {0}) DialogueFault) (stage : Stage) (site : Site) (at : ℕ) (x : Pair) (side : Side) (key : TKey) (m : Said) (c : Call) (d : Desk) → On d (on_request_at_if r stage site at x side key m c d).desk
 request_at_if-on (Ok heard) stage site at x side key m c d = heard_at-on stage site at _ side key m _ d
@@ -330,17 +399,72 @@ taken-on site key m at (Some t) c d =
     (either_step (is_fork t m) d (forked site key m at t c d) (repeated t c d) (loose-on site.sip key m.heard (as_loose t) d)
     (told-on (is_talking c.phase) d (acked_again t t.invitation.ack d) (again-on t t.invitation.ack d)))
 
-taken_at-on : (site : Site) (key : TKey) (m : Said) (o : Option ℕ) (c : Call) (d : Desk) → On d (answered_taken_at site key m o c d).desk
-taken_at-on site key m None c d = none d
-taken_at-on site key m (Some at) c d = taken-on site key m at (slice_get c.taken at) c d
+-- what is in flight
+agreed-on : (kind : FlightKind) (site : Site) (at : ℕ) (side : Side) (request response : Said) (c : Call) (d : Desk) → On d (agreed_in_flight kind site at side request response c d).desk
+agreed-on Prack site at side request response c d = none d
+agreed-on Update site at side request response c d = none d
 
-answered_at-on : (site : Site) (key : TKey) (m : Said) (branch : List ℕ) (o : Option ℕ) (c : Call) (d : Desk) → On d (answered_at site key m branch o c d).desk
-answered_at-on site key m branch None c d = taken_at-on site key m (position (is_taken branch) c.taken) c d
-answered_at-on site key m branch (Some at) c d = answered_loose-on site key m at (slice_get c.loose at) c d
+final-on : (site : Site) (at : ℕ) (flight : Flight) (m : Said) (code : ℕ) (c : Call) (d : Desk) → On d (final_of_flight site at flight m code c d).desk
+final-on site at flight m code c d =
+    let back : Desk = relayed_back_to site flight m c d in
+    either_step (is_success code) d (agreed_in_flight flight.kind site at flight.side flight.asked.request m c back) (onward c back)
+    (agreed-on flight.kind site at flight.side flight.asked.request m c back) (none d)
 
-other-on : (site : Site) (key : TKey) (m : Said) (branch : List ℕ) (c : Call) (d : Desk) → On d (answered_other site key m branch c d).desk
+flight-on : (site : Site) (at : ℕ) (m : Said) (code place : ℕ) (o : Option Flight) (c : Call) (d : Desk) → On d (answered_flight site at m code place o c d).desk
+flight-on site at m code place None c d = none d
+flight-on site at m code place (Some flight) c d =
+    either_step (nat_lt code 200) d (onward c d) (final_of_flight site at flight m code (without_flight place c) d) (none d) (final-on site at flight m code (without_flight place c) d)
+
+flying-on : (site : Site) (at : ℕ) (m : Said) (o : Option ℕ) (c : Call) (d : Desk) → On d (answered_in_flight site at m o c d).desk
+flying-on site at m None c d = none d
+flying-on site at m (Some place) c d = flight-on site at m (status_of m.heard.start) place (slice_get c.flights place) c d
+
+taken_at-on : (site : Site) (at : ℕ) (key : TKey) (m : Said) (branch : List ℕ) (o : Option ℕ) (c : Call) (d : Desk) → On d (answered_taken_at site at key m branch o c d).desk
+taken_at-on site at key m branch None c d = flying-on site at m (position (is_in_flight branch) c.flights) c d
+taken_at-on site at key m branch (Some place) c d = taken-on site key m place (slice_get c.taken place) c d
+
+answered_at-on : (site : Site) (at : ℕ) (key : TKey) (m : Said) (branch : List ℕ) (o : Option ℕ) (c : Call) (d : Desk) → On d (answered_at site at key m branch o c d).desk
+answered_at-on site at key m branch None c d = taken_at-on site at key m branch (position (is_taken branch) c.taken) c d
+answered_at-on site at key m branch (Some place) c d = answered_loose-on site key m place (slice_get c.loose place) c d
+
+other-on : (site : Site) (at : ℕ) (key : TKey) (m : Said) (branch : List ℕ) (c : Call) (d : Desk) → On d (answered_other site at key m branch c d).desk
 unfolding answered_other
-other-on site key m branch c d = answered_at-on site key m branch (position (is_of branch) c.loose) c d
+other-on site at key m branch c d = answered_at-on site at key m branch (position (is_of branch) c.loose) c d
+
+silent_flight-on : (site : Site) (place : ℕ) (o : Option Flight) (c : Call) (d : Desk) → On d (silent_flight site place o c d).desk
+silent_flight-on site place None c d = none d
+silent_flight-on site place (Some flight) c d = none d
+
+silent_flying-on : (site : Site) (o : Option ℕ) (c : Call) (d : Desk) → On d (silent_in_flight site o c d).desk
+silent_flying-on site None c d = none d
+silent_flying-on site (Some place) c d = silent_flight-on site place (slice_get c.flights place) c d
+
+silent_at-on : (site : Site) (branch : List ℕ) (o : Option ℕ) (c : Call) (d : Desk) → On d (silent_other_at site branch o c d).desk
+silent_at-on site branch None c d = silent_flying-on site (position (is_in_flight branch) c.flights) c d
+silent_at-on site branch (Some place) c d = none d
+
+silent-on : (site : Site) (branch : List ℕ) (c : Call) (d : Desk) → On d (silent_other site branch c d).desk
+silent-on site branch c d = silent_at-on site branch (position (is_of branch) c.loose) c d
+
+-- ---- what is in flight is answered
+
+each-on : (site : Site) (c : Call) (flights : List Flight) (d : Desk) → On d (dismissed_each site c flights d)
+each-on site c [] d = none d
+each-on site c (flight ∷ flights) d = each-on site c flights (dismissed_flight site c flight d)
+
+all-on : (site : Site) (c : Call) (d : Desk) → On d (dismissed_all site c d)
+all-on site c d =
+    let pracks : List Flight = filter (λ flight. not (is_updating flight)) c.flights in
+    then_on d (dismissed_each site c pracks d) (dismissed_all site c d) (each-on site c pracks d) (each-on site c (filter is_updating c.flights) (dismissed_each site c pracks d))
+
+settled_in-on : (p : Phase) (site : Site) (c : Call) (d : Desk) → On d (settled_in p site c d)
+settled_in-on (Offered x) site c d = settled-on site None c d
+settled_in-on (Stood x stage) site c d = none d
+settled_in-on (Lent loan) site c d = none d
+settled_in-on (Over cause) site c d = none d
+
+dismissing-on : (site : Site) (c : Call) (d : Desk) → On d (dismissing site c d)
+dismissing-on site c d = then_on d (dismissed_all site c d) (dismissing site c d) (all-on site c d) (settled_in-on c.phase site c (dismissed_all site c d))
 
 -- ---- by phase
 
@@ -383,22 +507,28 @@ due_in-on (Over cause) site now what c d = none d
 answer_to-on : (o : Option (List ℕ)) (site : Site) (now : Standing) (key : TKey) (m : Said) (c : Call) (d : Desk) → On d (answer_to o site now key m c d).desk
 answer_to-on None site now key m c d = none d
 answer_to-on (Some branch) site now key m c d =
-    either_step (is_current branch c) d (response_in c.phase site now key m c d) (answered_other site key m branch c d) (response_in-on c.phase site now key m c d) (other-on site key m branch c d)
+    either_step (is_current branch c) d (response_in c.phase site now key m c d) (answered_other site now.at key m branch c d) (response_in-on c.phase site now key m c d) (other-on site now.at key m branch c d)
 
 silence_of-on : (o : Option (List ℕ)) (site : Site) (now : Standing) (c : Call) (d : Desk) → On d (silence_of o site now c d).desk
 silence_of-on None site now c d = none d
 silence_of-on (Some branch) site now c d =
-    either_step (is_current branch c) d (silence_in c.phase site now c d) (onward (without_silent branch c) d) (silence_in-on c.phase site now c d) (none d)
+    either_step (is_current branch c) d (silence_in c.phase site now c d) (silent_other site branch c d) (silence_in-on c.phase site now c d) (silent-on site branch c d)
+
+row-on : (site : Site) (now : Standing) (x : Signal) (c : Call) (d : Desk) → On d (row site now x c d).desk
+unfolding row
+row-on site now (signal.Request side key request) c d = request_in-on c.phase site now.at side key request c d
+row-on site now (signal.Ack side ack) c d = ack_in-on c.phase site now.at side ack c d
+row-on site now (signal.Cancel key cancel invite) c d = cancel_in-on c.phase site now.at key cancel invite c d
+row-on site now (signal.Answer key response) c d = answer_to-on (invite_answered response) site now key response c d
+row-on site now (signal.Silent branch method) c d = silence_of-on (invite_silent branch method) site now c d
+row-on site now (signal.Due what) c d = due_in-on c.phase site now what c d
+row-on site now (signal.Ended key) c d = none d
 
 step-on : (site : Site) (now : Standing) (x : Signal) (c : Call) (d : Desk) → On d (step site now x c d).desk
 unfolding step
-step-on site now (signal.Request side key request) c d = request_in-on c.phase site now.at side key request c d
-step-on site now (signal.Ack side ack) c d = ack_in-on c.phase site now.at side ack c d
-step-on site now (signal.Cancel key cancel invite) c d = cancel_in-on c.phase site now.at key cancel invite c d
-step-on site now (signal.Answer key response) c d = answer_to-on (invite_answered response) site now key response c d
-step-on site now (signal.Silent branch method) c d = silence_of-on (invite_silent branch method) site now c d
-step-on site now (signal.Due what) c d = due_in-on c.phase site now what c d
-step-on site now (signal.Ended key) c d = none d
+step-on site now x c d =
+    either_step (leaves x c) d (row site now x (dismissed c) (dismissing site c d)) (row site now x c d)
+    (then_on d (dismissing site c d) (row site now x (dismissed c) (dismissing site c d)).desk (dismissing-on site c d) (row-on site now x (dismissed c) (dismissing site c d))) (row-on site now x c d)
 
 -- ---- how it opens
 
@@ -450,7 +580,7 @@ module _ (site : Site) (at : ℕ) (view : InForce) where
 finished_in-on : (p : Phase) (site : Site) (at : ℕ) (c : Call) (d : Desk) → On d (finished_in p site at c d).desk
 finished_in-on (Offered x) site at c d = none d
 finished_in-on (Stood x stage) site at c d = none d
-finished_in-on (Lent loan) site at c d = once d
+finished_in-on (Lent loan) site at c d = then_on d (dismissing site c d) (finished_in (Lent loan) site at c d).desk (dismissing-on site c d) (once (dismissing site c d))
 finished_in-on (Over cause) site at c d = none d
 
 end_of-on : (site : Site) (at : ℕ) (d : Desk) (e : Entry) → On d (end_of site at d e).desk

@@ -9,6 +9,7 @@ emit_deeds at (emit.Ask peer message) w = refl
 emit_deeds at (emit.Reply key message) w = refl
 emit_deeds at (emit.Plain peer text) w = refl
 emit_deeds at (emit.Ack key message) w = refl
+emit_deeds at (emit.Settled key own) w = refl
 emit_deeds at (emit.Arm call what when) w = refl
 emit_deeds at (emit.ArmSeat room seat what when) w = refl
 
@@ -21,6 +22,7 @@ emit_rooms at (emit.Ask peer message) w = refl
 emit_rooms at (emit.Reply key message) w = refl
 emit_rooms at (emit.Plain peer text) w = refl
 emit_rooms at (emit.Ack key message) w = refl
+emit_rooms at (emit.Settled key own) w = refl
 emit_rooms at (emit.Arm call what when) w = refl
 emit_rooms at (emit.ArmSeat room seat what when) w = refl
 

@@ -148,6 +148,7 @@ emit_same at (emit.Ask peer message) w = record { rows = refl; deeds = refl; roo
 emit_same at (emit.Reply key message) w = record { rows = refl; deeds = refl; rooms = refl }
 emit_same at (emit.Plain peer text) w = record { rows = refl; deeds = refl; rooms = refl }
 emit_same at (emit.Ack key message) w = record { rows = refl; deeds = refl; rooms = refl }
+emit_same at (emit.Settled key own) w = record { rows = refl; deeds = refl; rooms = refl }
 emit_same at (emit.Arm call what when) w = record { rows = refl; deeds = refl; rooms = refl }
 emit_same at (emit.ArmSeat room seat what when) w = record { rows = refl; deeds = refl; rooms = refl }
 

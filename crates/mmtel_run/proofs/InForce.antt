@@ -110,6 +110,7 @@ emit_texts at (emit.Ask peer message) w = refl
 emit_texts at (emit.Reply key message) w = refl
 emit_texts at (emit.Plain peer text) w = refl
 emit_texts at (emit.Ack key message) w = refl
+emit_texts at (emit.Settled key own) w = refl
 emit_texts at (emit.Arm call what when) w = refl
 emit_texts at (emit.ArmSeat room seat what when) w = refl
 

@@ -1,6 +1,7 @@
 -- The deadlines of calls and of seats of rooms, and which of all deadlines comes first (RFC 3261 §17; §13.3.1.4, TS 24.604 §4.8, RFC 3515 §2.4.5).
 use Rattle.std.specs.Prelude.{ℕ, ◌==◌, ◌&&◌, ◌||◌, nat_lt, nat_le, Bool, true, false, if◌then◌else◌, List, [], ◌∷◌, Option, Some, None}
 use Rattle.mmtel_transaction.specs.Answers.{Next}
+use Rattle.mmtel_transaction.specs.Deadlines.{step_due}
 use Rattle.mmtel_transaction.specs.declared.words.DueWord.{DueWord}
 use Rattle.mmtel_transaction.specs.declared.words.DueWord.TheVariants as due
 use Rattle.mmtel_transaction.specs.declared.words.RoomWord.{RoomWord}
@@ -74,7 +75,7 @@ pub data Deadline : Type 0 where
 
 -- that of a message comes before that of a call or a seat, unless its moment is later, or of one moment its step
 abbrev pub comes_before : Next → Armed → Bool
-comes_before next armed = nat_lt next.at armed.at || (next.at == armed.at && nat_le next.entry.step armed.step)
+comes_before next armed = nat_lt next.at armed.at || (next.at == armed.at && nat_le (step_due next.entry) armed.step)
 
 abbrev pub first_of : Option Next → Option Chosen → Option Deadline
 first_of None None = None

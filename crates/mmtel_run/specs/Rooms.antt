@@ -108,6 +108,7 @@ accepts (emit.Ask peer message) = false
 accepts (emit.Reply key message) = status_of message.start == 202
 accepts (emit.Plain peer text) = false
 accepts (emit.Ack key message) = false
+accepts (emit.Settled key own) = false
 accepts (emit.Arm call what when) = false
 accepts (emit.ArmSeat room seat what when) = false
 

@@ -35,7 +35,7 @@ use Rattle.mmtel_scan.specs.Numbers.{token_text}
 use Rattle.mmtel_sheet_values.specs.View.{is_registered}
 use Rattle.mmtel_sheet_values.specs.declared.values.Sheet.{Sheet}
 use Rattle.mmtel_transaction.specs.Answers.{next_due, hears, hear_says, fires, says_due, peer_of, is_merged}
-use Rattle.mmtel_transaction.specs.Calls.{Done, DidBegin, DidAsk, DidReply, DidAck, live}
+use Rattle.mmtel_transaction.specs.Calls.{Done, DidBegin, DidAsk, DidReply, DidAck, DidSettle, live}
 use Rattle.mmtel_transaction.specs.Tokens.{Drawn}
 use Rattle.mmtel_transaction.specs.declared.words.Due.{Due}
 use Rattle.mmtel_transaction.specs.declared.words.Due.TheVariants as due
@@ -154,6 +154,7 @@ emit_one at (emit.Ask peer message) world = offering (offer.To peer at (message_
 emit_one at (emit.Reply key message) world = offering (to_peer at (message_text message) (peer_of key.0 (live world.acts))) (acting (DidReply key.0 message at) world)
 emit_one at (emit.Plain peer text) world = offering (offer.To peer at text ∷ []) world
 emit_one at (emit.Ack key message) world = offering (to_peer at (message_text message) (peer_of key.0 (live world.acts))) (acting (DidAck key.0 message) world)
+emit_one at (emit.Settled key own) world = acting (DidSettle key.0 own) world
 emit_one at (emit.Arm call what when) world = arming (record { alarm = OfCall call what; at = when; step = world.steps - 1 }) world
 emit_one at (emit.ArmSeat room seat what when) world = arming (record { alarm = OfSeat room seat what; at = when; step = world.steps - 1 }) world
 

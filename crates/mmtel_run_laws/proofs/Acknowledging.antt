@@ -186,6 +186,7 @@ emit_more acks (emit.Reply key m) is = is
 emit_more acks (emit.Plain peer text) is =
     record { dialogue = is.dialogue; given = is.given; passes = given_more acks is.dialogue is.given is.passes; clean = is.clean; is = is.is }
 emit_more acks (emit.Ack key m) is = is
+emit_more acks (emit.Settled key own) is = is
 emit_more acks (emit.Arm call what at) is = is
 emit_more acks (emit.ArmSeat room seat what at) is = is
 

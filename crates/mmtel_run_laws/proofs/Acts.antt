@@ -1,12 +1,12 @@
 -- What was asked of peers in a run: each client transaction was opened by it, and requests whose answer is waited for have numbers of their own, so one branch is of one peer (RFC 3261 §8.1.1.7, §17.1.3).
-use Rattle.std.proofs.Common.{◌≡◌, ◌<◌, ◌≤◌, ◌^◌, ◌==◌, ◌||◌, ◌&&◌, Bool, true, false, not, ℕ, suc, List, [], ◌∷◌, ◌++◌, length, map, Option, Some, None, refl, sym, ap, ◌∙◌, subst, inl, inr, arith, codes, nat_lt}
+use Rattle.std.proofs.Common.{◌≡◌, ◌<◌, ◌≤◌, ◌+◌, ◌^◌, ◌==◌, ◌||◌, ◌&&◌, Bool, true, false, not, ℕ, suc, List, [], ◌∷◌, ◌++◌, length, map, Option, Some, None, refl, sym, ap, ◌∙◌, subst, inl, inr, arith, codes, nat_lt}
 use Rattle.std.specs.Prelude.{◌⊎◌, if◌then◌else◌, filter, is_some}
 use Rattle.std.specs.List.{find}
 use Rattle.std.specs.Option.{option_map}
 use Rattle.std.specs.Str.{bytes_eq}
 use Rattle.std.proofs.lemmas.Bool.{cases_Bool}
 use Rattle.std.proofs.lemmas.List.{append_cancel_left}
-use Rattle.mmtel_call_laws.specs.Branches.Sent.{AreNumbered, Each, IsAwaited, IsNotAwaited, IsNumbered, WasSent, asks_in}
+use Rattle.mmtel_call_laws.specs.Branches.Sent.{AreNumbered, Each, IsAwaited, IsNotAwaited, IsNumbered, WasAsked, WasSent, asks_in}
 use Rattle.mmtel_desk.specs.Invites.{is_awaited_method}
 use Rattle.mmtel_lex.specs.Grammar.{IsToken}
 use Rattle.mmtel_message.specs.Fields.{five_at}
@@ -18,12 +18,14 @@ use Rattle.mmtel_scan.specs.Numbers.{token_text}
 use Rattle.mmtel_scan.proofs.Runs.{and_true}
 use Rattle.mmtel_transaction.specs.Answers.{by_key, is_client_of, is_full, is_invite_of, is_server_of, part_ack, part_of, part_request, part_response, peer_of}
 use Rattle.mmtel_transaction.specs.Belonging.{OwnersAreLive, if_refused}
-use Rattle.mmtel_transaction.specs.Calls.{DidAck, DidAsk, DidBegin, DidFire, DidHear, DidReply, Done, change, entry_of, heard_change, heard_opens, is_live, live, offers, opened, opens, step_of}
-use Rattle.mmtel_transaction.specs.Changes.{acked, acked_2xx, answered, finished, fired, hit, is_ack_of, kept, rang, replied}
-use Rattle.mmtel_transaction.specs.Deadlines.{resend_at}
+use Rattle.mmtel_transaction.specs.Calls.{DidAck, DidAsk, DidBegin, DidFire, DidHear, DidReply, DidSettle, Done, change, entry_of, heard_change, heard_opens, is_live, live, offers, opened, opens, step_of}
+use Rattle.mmtel_transaction.specs.Changes.{acked, acked_2xx, answer_of, answered, finished, fired, fired_by, hit, is_ack_of, kept, offered, rang, replied, settled, with_answers}
+use Rattle.mmtel_transaction.specs.Deadlines.{foremost_in, planned_at}
 use Rattle.mmtel_transaction.specs.Heads.{head_of, is_ack, is_cancel, is_invite, is_provisional, is_refusal}
 use Rattle.mmtel_transaction.specs.Laws.{TokensDiffer}
+use Rattle.mmtel_transaction.specs.declared.entries.Alarm.{Alarm}
 use Rattle.mmtel_transaction.specs.declared.entries.Entry.{Entry}
+use Rattle.mmtel_transaction.specs.declared.entries.ReliableAnswer.{ReliableAnswer}
 use Rattle.mmtel_transaction.specs.declared.words.Emit.{Emit}
 use Rattle.mmtel_transaction.specs.declared.words.Emit.TheVariants as emit
 use Rattle.mmtel_transaction.specs.declared.heads.Head.{Head}
@@ -75,6 +77,7 @@ asks_of (DidAsk peer m now ∷ h) = (peer, m) ∷ asks_of h
 asks_of (DidReply key m now ∷ h) = asks_of h
 asks_of (DidAck key m ∷ h) = asks_of h
 asks_of (DidFire key ∷ h) = asks_of h
+asks_of (DidSettle key own ∷ h) = asks_of h
 
 -- once this went out too
 abbrev pub asks_after : List Emit → List (Peer × Message Start) → List (Peer × Message Start)
@@ -83,12 +86,13 @@ asks_after (emit.Ask peer m ∷ out) asks = asks_after out ((peer, m) ∷ asks)
 asks_after (emit.Reply key m ∷ out) asks = asks_after out asks
 asks_after (emit.Plain peer text ∷ out) asks = asks_after out asks
 asks_after (emit.Ack key m ∷ out) asks = asks_after out asks
+asks_after (emit.Settled key own ∷ out) asks = asks_after out asks
 asks_after (emit.Arm call what at ∷ out) asks = asks_after out asks
 asks_after (emit.ArmSeat room seat what at ∷ out) asks = asks_after out asks
 
--- an INVITE that was sent before, or is among these, was sent then
-module _ (sip : Addr) (branch : List ℕ) (peer : Peer) where
-  pub sent_after : (out : List Emit) (asks : List (Peer × Message Start)) → WasSent sip asks branch peer ⊎ WasSent sip (asks_in out) branch peer → WasSent sip (asks_after out asks) branch peer
+-- a request that was sent before, or is among these, was sent then
+module _ (sip : Addr) (method branch : List ℕ) (peer : Peer) where
+  pub sent_after : (out : List Emit) (asks : List (Peer × Message Start)) → WasAsked sip asks method branch peer ⊎ WasAsked sip (asks_in out) method branch peer → WasAsked sip (asks_after out asks) method branch peer
   sent_after [] asks (inl is) = is
   sent_after [] asks (inr is) = absurd is
   sent_after (emit.Ask p m ∷ out) asks (inl is) = sent_after out ((p, m) ∷ asks) (inl (inr is))
@@ -97,26 +101,27 @@ module _ (sip : Addr) (branch : List ℕ) (peer : Peer) where
   sent_after (emit.Reply key m ∷ out) asks is = sent_after out asks is
   sent_after (emit.Plain p text ∷ out) asks is = sent_after out asks is
   sent_after (emit.Ack key m ∷ out) asks is = sent_after out asks is
+  sent_after (emit.Settled key own ∷ out) asks is = sent_after out asks is
   sent_after (emit.Arm call what at ∷ out) asks is = sent_after out asks is
   sent_after (emit.ArmSeat room seat what at ∷ out) asks is = sent_after out asks is
 
-  pub sent_parted : (asks others : List (Peer × Message Start)) → WasSent sip (asks ++ others) branch peer → WasSent sip asks branch peer ⊎ WasSent sip others branch peer
+  pub sent_parted : (asks others : List (Peer × Message Start)) → WasAsked sip (asks ++ others) method branch peer → WasAsked sip asks method branch peer ⊎ WasAsked sip others method branch peer
   sent_parted [] others is = inr is
   sent_parted (ask ∷ asks) others (inl here) = inl (inl here)
   sent_parted (ask ∷ asks) others (inr there) = part_of_rest (sent_parted asks others there)
     where
-      part_of_rest : WasSent sip asks branch peer ⊎ WasSent sip others branch peer → WasSent sip (ask ∷ asks) branch peer ⊎ WasSent sip others branch peer
+      part_of_rest : WasAsked sip asks method branch peer ⊎ WasAsked sip others method branch peer → WasAsked sip (ask ∷ asks) method branch peer ⊎ WasAsked sip others method branch peer
       part_of_rest (inl is) = inl (inr is)
       part_of_rest (inr is) = inr is
 
-abbrev WasAsked : List (Peer × Message Start) → Peer → Message Start → Type 0
-WasAsked [] peer m = ⊥
-WasAsked (ask ∷ asks) peer m = ((ask.0 ≡ peer) × (ask.1 ≡ m)) ⊎ WasAsked asks peer m
+abbrev HasAsked : List (Peer × Message Start) → Peer → Message Start → Type 0
+HasAsked [] peer m = ⊥
+HasAsked (ask ∷ asks) peer m = ((ask.0 ≡ peer) × (ask.1 ≡ m)) ⊎ HasAsked asks peer m
 
 -- ---- a client transaction was opened by what was asked, and keeps its peer and its request
 
 record IsAsked (asks : List (Peer × Message Start)) (e : Entry) : Type 0 where
-  client : e.is_server ≡ false → (m : Message Start) × WasAsked asks e.peer m × (e.asked ≡ head_of m)
+  client : e.is_server ≡ false → (m : Message Start) × HasAsked asks e.peer m × (e.asked ≡ head_of m)
 
 module _ (asks : List (Peer × Message Start)) where
   either : (b : Bool) (x y : Entry) → IsAsked asks x → IsAsked asks y → IsAsked asks (if b then x else y)
@@ -126,11 +131,21 @@ module _ (asks : List (Peer × Message Start)) where
   hit_asked : (key : ℕ) (f : Entry → Entry) (e : Entry) → IsAsked asks e → IsAsked asks (f e) → IsAsked asks (hit key f e)
   hit_asked key f e is after = either (e.key == key) (f e) e after is
 
+  fired_by_asked : (first : Option (ℕ × Alarm)) (step : ℕ) (e : Entry) → IsAsked asks e → IsAsked asks (fired_by first step e)
+  fired_by_asked None step e is = either (is_some (planned_at e)) (record e { shots = e.shots + 1; step = step }) (record e { is_over = true }) (record { client = is.client }) (record { client = is.client })
+  fired_by_asked (Some first) step e is = record { client = is.client }
+
   fired_asked : (step : ℕ) (e : Entry) → IsAsked asks e → IsAsked asks (fired step e)
-  fired_asked step e is = elim (cases_Bool (is_some (resend_at e))) [
-    | inl y ↦ rw y (record { client = is.client })
-    | inr n ↦ rw n (record { client = is.client })
-  ]
+  fired_asked step e is = fired_by_asked (foremost_in e) step e is
+
+  answers_asked : (answer : Option ReliableAnswer) (e : Entry) → IsAsked asks e → IsAsked asks (with_answers answer e)
+  answers_asked None e is = is
+  answers_asked (Some answer) e is =
+      either (not e.is_server || not (e.done == 0)) e (record e { reliable = e.reliable ++ answer ∷ [] }) is (record { client = is.client })
+
+  settled_asked : (own : Option ℕ) (e : Entry) → IsAsked asks e → IsAsked asks (settled own e)
+  settled_asked None e is = record { client = is.client }
+  settled_asked (Some own) e is = record { client = is.client }
 
   replied_asked : (step order status : ℕ) (text tag : List ℕ) (now : ℕ) (e : Entry) → IsAsked asks e → IsAsked asks (replied step order status text tag now e)
   replied_asked step order status text tag now e is = elim (cases_Bool (not e.is_server || not (e.done == 0))) [
@@ -140,6 +155,11 @@ module _ (asks : List (Peer × Message Start)) where
       | inr q ↦ rw (n, q) (record { client = is.client })
     ]
   ]
+
+  offered_asked : (step order : ℕ) (m : Message Start) (now : ℕ) (e : Entry) → IsAsked asks e → IsAsked asks (offered step order m now e)
+  offered_asked step order m now e is =
+      replied_asked step order (head_of m).status (message_text m) (head_of m).to_tag now (with_answers (answer_of step order m (message_text m) now) e)
+      (answers_asked (answer_of step order m (message_text m) now) e is)
 
   rang_asked : (step now : ℕ) (e : Entry) → IsAsked asks e → IsAsked asks (rang step now e)
   rang_asked step now e is = elim (cases_Bool (e.is_early || not (e.done == 0))) [
@@ -191,22 +211,23 @@ module _ (asks : List (Peer × Message Start)) where
   change_asked step order (DidBegin n) e is = is
   change_asked step order (DidHear p m now t) e is = heard_asked step m now t e is
   change_asked step order (DidAsk p m now) e is = is
-  change_asked step order (DidReply key m now) e is =
-      hit_asked key (replied step order (head_of m).status (message_text m) (head_of m).to_tag now) e is (replied_asked step order (head_of m).status (message_text m) (head_of m).to_tag now e is)
+  change_asked step order (DidReply key m now) e is = hit_asked key (offered step order m now) e is (offered_asked step order m now e is)
   change_asked step order (DidAck key m) e is = hit_asked key (kept (message_text m)) e is (kept_asked (message_text m) e is)
   change_asked step order (DidFire key) e is = hit_asked key (fired step) e is (fired_asked step e is)
+  change_asked step order (DidSettle key own) e is = hit_asked key (settled own) e is (settled_asked own e is)
 
   entry_asked : (h : List Done) (e : Entry) → IsAsked asks e → IsAsked asks (entry_of h e)
   entry_asked [] e is = is
   entry_asked (c ∷ h) e is = either (nat_lt e.key (length (opened h))) (change (step_of h) (offers h) c (entry_of h e)) e (change_asked (step_of h) (offers h) c (entry_of h e) (entry_asked h e is)) is
 
-later : (c : Done) (h : List Done) (peer : Peer) (m : Message Start) → WasAsked (asks_of h) peer m → WasAsked (asks_of (c ∷ h)) peer m
+later : (c : Done) (h : List Done) (peer : Peer) (m : Message Start) → HasAsked (asks_of h) peer m → HasAsked (asks_of (c ∷ h)) peer m
 later (DidBegin step) h peer m is = is
 later (DidHear p n now taken) h peer m is = is
 later (DidAsk p n now) h peer m is = inr is
 later (DidReply key n now) h peer m is = is
 later (DidAck key n) h peer m is = is
 later (DidFire key) h peer m is = is
+later (DidSettle key own) h peer m is = is
 
 later_asked : (c : Done) (h : List Done) (e : Entry) → IsAsked (asks_of h) e → IsAsked (asks_of (c ∷ h)) e
 later_asked c h e is = record { client = λ none. let x = is.client none in (x.0, later c h e.peer x.0 x.1, x.2) }
@@ -229,6 +250,7 @@ new_asked step order key (DidAsk p m now) h = (record { client = λ none. (m, in
 new_asked step order key (DidReply k m now) h = tt
 new_asked step order key (DidAck k m) h = tt
 new_asked step order key (DidFire k) h = tt
+new_asked step order key (DidSettle k own) h = tt
 
 opened_asked : (h : List Done) → Each (IsAsked (asks_of h)) (opened h)
 opened_asked [] = tt
@@ -259,6 +281,7 @@ module _ (sip : Addr) (text : List ℕ) where
   number_on low next (emit.Reply key m) is = omega (arith, is)
   number_on low next (emit.Plain peer sample) is = omega (arith, is)
   number_on low next (emit.Ack key m) is = omega (arith, is)
+  number_on low next (emit.Settled key own) is = omega (arith, is)
   number_on low next (emit.Arm call what at) is = omega (arith, is)
   number_on low next (emit.ArmSeat room seat what at) is = omega (arith, is)
 
@@ -278,6 +301,7 @@ module _ (sip : Addr) (text : List ℕ) where
   after_one low next high (emit.Reply key m) out asks is f rest = rest asks (subst (λ (n : ℕ). Falls (suc n) asks) is f)
   after_one low next high (emit.Plain peer sample) out asks is f rest = rest asks (subst (λ (n : ℕ). Falls (suc n) asks) is f)
   after_one low next high (emit.Ack key m) out asks is f rest = rest asks (subst (λ (n : ℕ). Falls (suc n) asks) is f)
+  after_one low next high (emit.Settled key own) out asks is f rest = rest asks (subst (λ (n : ℕ). Falls (suc n) asks) is f)
   after_one low next high (emit.Arm call what at) out asks is f rest = rest asks (subst (λ (n : ℕ). Falls (suc n) asks) is f)
   after_one low next high (emit.ArmSeat room seat what at) out asks is f rest = rest asks (subst (λ (n : ℕ). Falls (suc n) asks) is f)
 
@@ -337,7 +361,7 @@ module _ (sip : Addr) (text : List ℕ) where
   kind_more ask asks peer m (inl none) = inl none
   kind_more ask asks peer m (inr x) = inr (x.0, x.1, x.2, inr x.3)
 
-  kind_of : (high : ℕ) (asks : List (Peer × Message Start)) (peer : Peer) (m : Message Start) → high ≤ 2 ^ 60 → Falls high asks → WasAsked asks peer m → Kind asks peer m
+  kind_of : (high : ℕ) (asks : List (Peer × Message Start)) (peer : Peer) (m : Message Start) → high ≤ 2 ^ 60 → Falls high asks → HasAsked asks peer m → Kind asks peer m
   kind_of high [] peer m top f is = absurd is
   kind_of high (ask ∷ asks) peer m top (inl none) (inl here) = inl (subst IsNotAwaited here.1 none.0)
   kind_of high (ask ∷ asks) peer m top (inr x) (inl here) =

@@ -64,6 +64,7 @@ emit_adds at (emit.Ask peer message) b w = ap (λ (os : List Offer). record (emi
 emit_adds at (emit.Reply key message) b w = ap (λ (os : List Offer). record (emit_one at (emit.Reply key message) w) { offers = os }) (append_assoc b w.offers _)
 emit_adds at (emit.Plain peer text) b w = ap (λ (os : List Offer). record (emit_one at (emit.Plain peer text) w) { offers = os }) (append_assoc b w.offers _)
 emit_adds at (emit.Ack key message) b w = ap (λ (os : List Offer). record (emit_one at (emit.Ack key message) w) { offers = os }) (append_assoc b w.offers _)
+emit_adds at (emit.Settled key own) b w = refl
 emit_adds at (emit.Arm call what when) b w = refl
 emit_adds at (emit.ArmSeat room seat what when) b w = refl
 

@@ -2,6 +2,7 @@
 use Rattle.std.proofs.Common.{◌≡◌, ◌<◌, ◌≤◌, le_refl, ℕ, zero, suc, ◌+◌, ◌==◌, Bool, true, false, not, ◌&&◌, ◌||◌, List, [], ◌∷◌, ◌++◌, length, Option, Some, None, refl, sym, ap, ◌∙◌, subst, IfSome, map, cond, arith, append_assoc, length-append}
 use Rattle.std.specs.Prelude.{if◌then◌else◌, nat_lt, nat_le, filter, find, is_some, option_map, slice_get}
 use Rattle.std.specs.List.{list_any}
+use Rattle.std.specs.Option.{option_or}
 use Rattle.std.specs.Str.{bytes_eq}
 use Rattle.std.proofs.lemmas.Bool.Decides.{nat_tests}
 use Rattle.std.proofs.lemmas.Bool.{eqb-true, eq-eqb, ne_eqb}
@@ -11,13 +12,16 @@ use Rattle.mmtel_message.specs.Message.{Message}
 use Rattle.mmtel_message.specs.Texts.{message_text}
 use Rattle.mmtel_message.specs.declared.messages.Start.{Start}
 use Rattle.mmtel_transaction.specs.Answers.{Next, due_one, is_before, is_client_of, is_full, is_of, is_server_of, next_due, part_ack, part_of, part_request, part_response, peer_of, sooner}
-use Rattle.mmtel_transaction.specs.Calls.{Done, DidAck, DidAsk, DidBegin, DidFire, DidHear, DidReply, change, entry_of, heard_change, heard_opens, is_live, live, offers, opened, opens, step_of}
-use Rattle.mmtel_transaction.specs.Changes.{acked, answered, finished, fired, hit, is_ack_of, kept, rang, replied}
-use Rattle.mmtel_transaction.specs.Deadlines.{deadline, resend_at}
+use Rattle.mmtel_transaction.specs.Calls.{Done, DidAck, DidAsk, DidBegin, DidFire, DidSettle, DidHear, DidReply, change, entry_of, heard_change, heard_opens, is_live, live, offers, opened, opens, step_of}
+use Rattle.mmtel_transaction.specs.Changes.{acked, answer_of, answered, finished, fired, fired_by, hit, is_ack_of, kept, offered, rang, replied, settled, with_answers}
+use Rattle.mmtel_transaction.specs.Deadlines.{deadline, foremost_in, last_at, last_by, planned_at, resend_by}
 use Rattle.mmtel_transaction.specs.Heads.{head_of, is_success, is_ack, is_invite, is_provisional, is_refusal, is_same_call}
 use Rattle.mmtel_transaction.specs.Runs.{IsNextOf, IsRun}
+use Rattle.mmtel_transaction.specs.declared.entries.Alarm.{Alarm}
 use Rattle.mmtel_transaction.specs.declared.entries.Entry.{Entry}
+use Rattle.mmtel_transaction.specs.declared.entries.Plan.{Plan}
 use Rattle.mmtel_transaction.specs.declared.entries.Plan.TheVariants.{Idle}
+use Rattle.mmtel_transaction.specs.declared.entries.ReliableAnswer.{ReliableAnswer}
 use Rattle.mmtel_transaction.specs.declared.heads.Head.{Head}
 use Rattle.mmtel_transaction.specs.declared.parts.Part.{Part}
 use Rattle.mmtel_transaction.specs.declared.parts.Part.TheVariants as part
@@ -48,6 +52,18 @@ answered-key step status now e =
 replied-key : (step order status : ℕ) (text to_tag : List ℕ) (now : ℕ) (e : Entry) → (replied step order status text to_tag now e).key ≡ e.key
 replied-key step order status text to_tag now e = if-key (not e.is_server || not (e.done == 0)) e _ e.key refl (if-key (is_provisional status) _ _ e.key refl refl)
 
+answers-key : (answer : Option ReliableAnswer) (e : Entry) → (with_answers answer e).key ≡ e.key
+answers-key None e = refl
+answers-key (Some answer) e = if-key (not e.is_server || not (e.done == 0)) e _ e.key refl refl
+
+fired-key : (first : Option (ℕ × Alarm)) (step : ℕ) (e : Entry) → (fired_by first step e).key ≡ e.key
+fired-key None step e = if-key (is_some (planned_at e)) _ _ e.key refl refl
+fired-key (Some first) step e = refl
+
+settled-key : (own : Option ℕ) (e : Entry) → (settled own e).key ≡ e.key
+settled-key None e = refl
+settled-key (Some own) e = refl
+
 heard-key : (step : ℕ) (m : Message Start) (now : ℕ) (taken : Part) (e : Entry) → (heard_change step m now taken e).key ≡ e.key
 heard-key step m now part.Fresh e = refl
 heard-key step m now part.Full e = refl
@@ -62,9 +78,12 @@ change-key : (step order : ℕ) (c : Done) (e : Entry) → (change step order c 
 change-key step order (DidBegin n) e = refl
 change-key step order (DidHear p m now taken) e = heard-key step m now taken e
 change-key step order (DidAsk p m now) e = refl
-change-key step order (DidReply key m now) e = if-key (e.key == key) _ e e.key (replied-key step order (head_of m).status (message_text m) (head_of m).to_tag now e) refl
+change-key step order (DidReply key m now) e =
+    let answer : Option ReliableAnswer = answer_of step order m (message_text m) now in
+    if-key (e.key == key) _ e e.key (replied-key step order (head_of m).status (message_text m) (head_of m).to_tag now (with_answers answer e) ∙ answers-key answer e) refl
 change-key step order (DidAck key m) e = if-key (e.key == key) _ e e.key (if-key (not e.is_server && e.is_refused) _ e e.key refl refl) refl
-change-key step order (DidFire key) e = if-key (e.key == key) _ e e.key (if-key (is_some (resend_at e)) _ _ e.key refl refl) refl
+change-key step order (DidFire key) e = if-key (e.key == key) _ e e.key (fired-key (foremost_in e) step e) refl
+change-key step order (DidSettle key own) e = if-key (e.key == key) _ e e.key (settled-key own e) refl
 
 entry-key : (h : List Done) (e : Entry) → (entry_of h e).key ≡ e.key
 entry-key [] e = refl
@@ -96,6 +115,7 @@ numbered-new step order key (DidAsk p m now) = (refl, tt)
 numbered-new step order key (DidReply k m now) = tt
 numbered-new step order key (DidAck k m) = tt
 numbered-new step order key (DidFire k) = tt
+numbered-new step order key (DidSettle k own) = tt
 
 numbered : (h : List Done) → Numbered 0 (opened h)
 numbered [] = tt
@@ -276,6 +296,23 @@ provisional-waits b server undone p x y z s u e w =
     subst (λ server. IsWaiting p (if not server || not undone then x else if b then y else z)) (sym s)
     (subst (λ undone. IsWaiting p (if not undone then x else if b then y else z)) (sym u) (subst (λ b. IsWaiting p (if b then y else z)) (sym e) w))
 
+-- a reliable answer that it offers, or sends again, or that is settled, is no final
+answers-wait : (p : Peer) (answer : Option ReliableAnswer) (e : Entry) → IsWaiting p e → IsWaiting p (with_answers answer e)
+answers-wait p None e w = w
+answers-wait p (Some answer) e w = go (not e.is_server || not (e.done == 0))
+  where
+    go : (b : Bool) → IsWaiting p (if b then e else record e { reliable = e.reliable ++ answer ∷ [] })
+    go true = w
+    go false = record { server = w.server; peer = w.peer; plan = w.plan; done = w.done; refused = w.refused; over = w.over }
+
+fired-waits : (p : Peer) (step : ℕ) (e : Entry) → IsWaiting p e → (first : Option (ℕ × Alarm)) → (first ≡ None → ⊥) → IsWaiting p (fired_by first step e)
+fired-waits p step e w None some = absurd (some refl)
+fired-waits p step e w (Some first) some = record { server = w.server; peer = w.peer; plan = w.plan; done = w.done; refused = w.refused; over = w.over }
+
+settled-waits : (p : Peer) (own : Option ℕ) (e : Entry) → IsWaiting p e → IsWaiting p (settled own e)
+settled-waits p None e w = record { server = w.server; peer = w.peer; plan = w.plan; done = w.done; refused = w.refused; over = w.over }
+settled-waits p (Some own) e w = record { server = w.server; peer = w.peer; plan = w.plan; done = w.done; refused = w.refused; over = w.over }
+
 module _ (p : Peer) (h : List Done) (x : Entry) (n : ℕ) (key : x.key ≡ n) (at : slice_get (now_all h) n ≡ Some x) (w : IsWaiting p x) where
   -- a call of another transaction, or none of this kind
   unless-hit : (k : ℕ) (f : Entry → Entry) → (k ≡ n → IsWaiting p (f x)) → IsWaiting p (hit k f x)
@@ -312,11 +349,13 @@ module _ (p : Peer) (h : List Done) (x : Entry) (n : ℕ) (key : x.key ≡ n) (a
   heard-waits step m now part.Stray to = w
 
   reply-waits : (step order : ℕ) (k : ℕ) (m : Message Start) (now : ℕ) → is_final_in n (DidReply k m now) ≡ false → IsWaiting p (change step order (DidReply k m now) x)
-  reply-waits step order k m now none = unless-hit k (replied step order (head_of m).status (message_text m) (head_of m).to_tag now) (λ same.
+  reply-waits step order k m now none = unless-hit k (offered step order m now) (λ same.
       let test : (k == n) ≡ true = eq-eqb k n same in
       let provisional : is_provisional (head_of m).status ≡ true = not-final (k == n) (is_provisional (head_of m).status) test none in
-      provisional-waits (is_provisional (head_of m).status) x.is_server (x.done == 0) p x _ _ w.server (ap (λ done. done == 0) w.done) provisional
-      (record { server = w.server; peer = w.peer; plan = w.plan; done = w.done; refused = w.refused; over = w.over }))
+      let e : Entry = with_answers (answer_of step order m (message_text m) now) x in
+      let v : IsWaiting p e = answers-wait p (answer_of step order m (message_text m) now) x w in
+      provisional-waits (is_provisional (head_of m).status) e.is_server (e.done == 0) p e _ _ v.server (ap (λ done. done == 0) v.done) provisional
+      (record { server = v.server; peer = v.peer; plan = v.plan; done = v.done; refused = v.refused; over = v.over }))
     where
       not-final : (b c : Bool) → b ≡ true → (b && not c) ≡ false → c ≡ true
       not-final true true e f = refl
@@ -327,12 +366,13 @@ module _ (p : Peer) (h : List Done) (x : Entry) (n : ℕ) (key : x.key ≡ n) (a
   ack-waits step order k m = unless-hit k (kept (message_text m)) (λ same. subst (λ b. IsWaiting p (if not b && x.is_refused then record x { last = Some (message_text m) } else x)) (sym w.server) w)
 
   fire-waits : (step order : ℕ) (k : ℕ) → IsNextOf k h → IsWaiting p (change step order (DidFire k) x)
-  fire-waits step order k first = unless-hit k (fired step) (λ same.
+  fire-waits step order k first = unless-hit k (fired step) (λ same. fired-waits p step x w (foremost_in x) (λ none.
       let known = subst (IsNext (IsAt (now_all h))) first.first (next-is (IsAt (now_all h)) first.now (live h) (live-at h)) in
       let one : first.next.entry ≡ x = one-at (now_all h) n first.next.entry x known.0 (first.same ∙ same) at in
       let due : deadline x ≡ Some first.next.at = ap deadline (sym one) ∙ known.1 in
-      let none : deadline x ≡ None = ap (λ plan. Rattle.std.specs.Option.option_or (Rattle.mmtel_transaction.specs.Deadlines.resend_by plan x.start x.at x.shots) (Rattle.mmtel_transaction.specs.Deadlines.last_by plan x.start x.at)) w.plan in
-      absurd (none-some first.next.at (sym none ∙ due)))
+      let none_due : deadline x ≡ None = ap (λ (o : Option (ℕ × Alarm)). option_or (option_or (option_map (λ (f : ℕ × Alarm). f.1.at) o) (planned_at x)) (last_at x)) none
+      ∙ ap (λ (plan : Plan). option_or (resend_by plan x.start x.at x.shots) (last_by plan x.start x.at)) w.plan in
+      none-some first.next.at (sym none_due ∙ due)))
 
   change-waits : (c : Done) → IsRun (c ∷ h) → is_final_in n c ≡ false → IsWaiting p (change (step_of h) (offers h) c x)
   change-waits (DidBegin step) run none = w
@@ -342,6 +382,7 @@ module _ (p : Peer) (h : List Done) (x : Entry) (n : ℕ) (key : x.key ≡ n) (a
   change-waits (DidReply k m now) run none = reply-waits (step_of h) (offers h) k m now none
   change-waits (DidAck k m) run none = ack-waits (step_of h) (offers h) k m
   change-waits (DidFire k) run none = fire-waits (step_of h) (offers h) k run.0
+  change-waits (DidSettle k own) run none = unless-hit k (settled own) (λ same. settled-waits p own x w)
 
 -- ---- every run
 
@@ -352,6 +393,7 @@ run_before (DidAsk p m now) h r = r
 run_before (DidReply key m now) h r = r
 run_before (DidAck key m) h r = r
 run_before (DidFire key) h r = r.1
+run_before (DidSettle key own) h r = r
 
 none-of : (b c : Bool) → (b || c) ≡ false → (b ≡ false) × (c ≡ false)
 none-of true c e = absurd (let f : true ≡ false = e in cc)

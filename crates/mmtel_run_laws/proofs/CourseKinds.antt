@@ -1,9 +1,13 @@
 -- What is decided of a request tells what it is: in a dialog it enters that one, and what opens a call is an INVITE without To tag. And what the transactions take a message for tells whether it is a request.
-use Rattle.std.proofs.Common.{◌≡◌, ℕ, Bool, true, false, ◌&&◌, List, [], ◌∷◌, refl, ap, sym, ◌∙◌, Option, Some, None, Result, Ok, Err, codes, inl, inr}
+use Rattle.std.proofs.Common.{◌≡◌, ℕ, Bool, true, false, not, ◌&&◌, ◌||◌, List, [], ◌∷◌, ◌++◌, refl, ap, sym, ◌∙◌, subst, Option, Some, None, Result, Ok, Err, codes, inl, inr}
 use Rattle.std.specs.Prelude.{if◌then◌else◌, is_none, is_some}
-use Rattle.std.specs.List.{find}
+use Rattle.std.specs.List.{find, list_any}
+use Rattle.std.specs.Str.{bytes_eq}
 use Rattle.std.proofs.lemmas.Bool.{cases_Bool}
+use Rattle.std.proofs.lemmas.Slice.Eq.{bytes_eq-Decides}
+use Rattle.mmtel_answers.specs.Said.{Said}
 use Rattle.mmtel_b2bua.specs.declared.entries.Entry.{Entry}
+use Rattle.mmtel_call_laws.specs.Secret.Premises.{goes_across}
 use Rattle.mmtel_directory.specs.declared.directories.Directory.{Directory}
 use Rattle.mmtel_leg.specs.Dialogues.{request_uri}
 use Rattle.mmtel_lex.specs.Reading.{Refusal, uri_of}
@@ -28,9 +32,11 @@ use Rattle.mmtel_types.specs.declared.numbers.Account.{Account}
 use Rattle.mmtel_types.specs.declared.numbers.CallNo.{CallNo}
 use Rattle.mmtel_types.specs.declared.numbers.RoomNo.{RoomNo}
 use Rattle.mmtel_types.specs.declared.sides.Side.{Side}
+use Rattle.mmtel_types.specs.declared.sides.Side.TheVariants.{Caller, Callee}
 use Rattle.mmtel_run.specs.Answers.{Answer, plainly}
 use Rattle.mmtel_run.specs.Calls.{find_dialog, name_by, named_by}
-use Rattle.mmtel_run.specs.Refusals.{Course, Enter, EnterRoom, JoinRoom, Open, OpenRoom, Refuse, Register, by_method, course, course_by, first_that_applies, in_dialog, invited, invited_at, is_factory, is_register, is_room, refusals, registration, registration_of, to_account}
+use Rattle.mmtel_run.specs.Refusals.{Course, Enter, EnterRoom, JoinRoom, Open, OpenRoom, Refuse, Register, always_known, by_method, course, course_by, first_that_applies, in_dialog, invited, invited_at, is_factory, is_known_method, is_register, is_room, known_if_reliable, known_if_waiting, refusals, registration, registration_of, to_account}
+use Rattle.mmtel_run.specs.Events.{message_in}
 use Rattle.mmtel_run.specs.Rooms.{Holder, InCall, InRoom, in_call_or, in_room}
 use Rattle.mmtel_run_laws.specs.Belonging.{is_opening}
 use Rattle.mmtel_run_laws.proofs.Fits.{true_false}
@@ -199,6 +205,55 @@ pub opens_opening : (d : Directory) (merged full : Bool) (named : Option Holder)
 unfolding course
 opens_opening d merged full named m e = opens_by d merged full named (public_part m) (first_that_applies (refusals d merged (is_some named) (public_part m))) refl e
 
+-- ---- what enters a dialog has a method that is known: no PRACK and no UPDATE where these are off
+
+not_false : (b : Bool) → not b ≡ false → b ≡ true
+not_false true e = refl
+not_false false e = absurd (true_false e)
+
+known_by : (d : Directory) (merged full : Bool) (named : Option Holder) (m : HeardMessage) (x : Holder) (o : Option Answer) → first_that_applies (refusals d merged (is_some named) m) ≡ o
+    → course_by d full named m o ≡ in_dialog x → is_known_method d m.start ≡ true
+known_by d merged full named m x None none e = not_false (is_known_method d m.start) (passes (refusals d merged (is_some named) m) none).0
+known_by d merged full named m x (Some answer) none e = absurd (true_false (sym (ap enters e ∙ enters_there x)))
+
+abbrev methods : (reliable waiting : Bool) → List (List ℕ)
+methods reliable waiting = always_known ++ (known_if_reliable reliable ++ known_if_waiting waiting)
+
+unlisted : (reliable waiting : Bool) (start : Start) (name : List ℕ) → reliable ≡ false → ((w : Bool) → list_any (λ (n : List ℕ). bytes_eq name n) (methods false w) ≡ false)
+    → list_any (λ (n : List ℕ). is_method n start) (methods reliable waiting) ≡ true → is_method name start ≡ false
+unlisted true waiting start name off none known = absurd (true_false off)
+unlisted false waiting (Request method uri) name off none known = elim (cases_Bool (bytes_eq method name)) [
+  | inl y ↦
+      let same : method ≡ name = (bytes_eq-Decides method name).0 y in
+      absurd (true_false (sym known ∙ subst (λ (b : List ℕ). list_any (λ (n : List ℕ). bytes_eq b n) (methods false waiting) ≡ false) (sym same) (none waiting)))
+  | inr n ↦ n
+]
+unlisted false waiting (Status code phrase) name off none known = refl
+
+no_prack : (w : Bool) → list_any (λ (n : List ℕ). bytes_eq (codes "PRACK") n) (methods false w) ≡ false
+no_prack true = refl
+no_prack false = refl
+
+no_update : (w : Bool) → list_any (λ (n : List ℕ). bytes_eq (codes "UPDATE") n) (methods false w) ≡ false
+no_update true = refl
+no_update false = refl
+
+neither : (b c : Bool) → b ≡ false → c ≡ false → (b || c) ≡ false
+neither false false e f = refl
+neither false true e f = absurd (true_false f)
+neither true c e f = absurd (true_false e)
+
+across_by : (side : Side) (m : Said) → is_method (codes "PRACK") m.heard.start ≡ false → is_method (codes "UPDATE") m.heard.start ≡ false → goes_across side m ≡ false
+across_by Caller m e f = neither (is_method (codes "PRACK") m.heard.start) (is_method (codes "UPDATE") m.heard.start) e f
+across_by Callee m e f = f
+
+pub known_across : (d : Directory) (merged full : Bool) (named : Option Holder) (side : Side) (m : Said) (x : Holder) → course d merged full named m.heard ≡ in_dialog x → d.reliable ≡ false →
+    goes_across side m ≡ false
+unfolding course
+known_across d merged full named side m x e off =
+    let known = known_by d merged full named (public_part m.heard) x (first_that_applies (refusals d merged (is_some named) (public_part m.heard))) refl e in
+    across_by side m (unlisted d.reliable d.names.mwi m.heard.start (codes "PRACK") off no_prack known) (unlisted d.reliable d.names.mwi m.heard.start (codes "UPDATE") off no_update known)
+
 -- ---- requests and responses
 
 request_by : (start : Start) (o : Option Five) → (head_with start o).is_request ≡ faults.is_request start
@@ -258,3 +313,48 @@ full_request m es e = sym (tells m es) ∙ ap of_request e
 
 pub answer_response : (m : Message Start) (es : List transactions.Entry) (key : ℕ) → part_of (head_of m) es ≡ part.Answer key → faults.is_request m.start ≡ false
 answer_response m es key e = sym (tells m es) ∙ ap of_request e
+
+-- ---- an ACK of a 2xx
+
+abbrev of_ack : Part → Bool
+of_ack part.Fresh = false
+of_ack part.Full = false
+of_ack (part.Repeat key) = false
+of_ack (part.Same key) = false
+of_ack (part.Answer key) = false
+of_ack (part.Acked key) = false
+of_ack part.AckOf2xx = true
+of_ack part.Stray = false
+
+request_ack : (full : Bool) (o : Option transactions.Entry) → of_ack (part_request full o) ≡ false
+request_ack full (Some e) = refl
+request_ack true None = refl
+request_ack false None = refl
+
+response_ack : (m : Head) (o : Option transactions.Entry) → of_ack (part_response m o) ≡ false
+response_ack m None = refl
+response_ack m (Some e) = elim (cases_Bool (is_invite e.asked && e.is_refused && is_refusal m.status)) [
+  | inl y ↦ ap (λ (b : Bool). of_ack (if b then part.Same e.key else part.Answer e.key)) y
+  | inr n ↦ ap (λ (b : Bool). of_ack (if b then part.Same e.key else part.Answer e.key)) n
+]
+
+ack_by : (b c : Bool) (m : Head) (es : List transactions.Entry)
+    → of_ack (if b then (if c then part_ack (find (is_server_of m) es) else part_request (is_full es) (find (is_server_of m) es)) else part_response m (find (is_client_of m) es)) ≡ true → c ≡ true
+ack_by true true m es e = refl
+ack_by true false m es e = absurd (true_false (sym e ∙ request_ack (is_full es) (find (is_server_of m) es)))
+ack_by false c m es e = absurd (true_false (sym e ∙ response_ack m (find (is_client_of m) es)))
+
+pub ack_taken : (m : Message Start) (es : List transactions.Entry) → part_of (head_of m) es ≡ part.AckOf2xx → is_ack (head_of m) ≡ true
+ack_taken m es e = ack_by (head_of m).is_request (is_ack (head_of m)) (head_of m) es (ap of_ack e)
+
+-- is neither PRACK nor UPDATE
+apart : (start : Start) (o : Option Five) (name : List ℕ) → bytes_eq (codes "ACK") name ≡ false → bytes_eq (head_with start o).method (codes "ACK") ≡ true → is_method name start ≡ false
+apart (Request method uri) None name other e = subst (λ (b : List ℕ). bytes_eq b name ≡ false) (sym ((bytes_eq-Decides method (codes "ACK")).0 e)) other
+apart (Request method uri) (Some five) name other e = subst (λ (b : List ℕ). bytes_eq b name ≡ false) (sym ((bytes_eq-Decides method (codes "ACK")).0 e)) other
+apart (Status code phrase) o name other e = refl
+
+pub no_ack_across : (side : Side) (m : Said) → is_ack (head_of (message_in m.heard)) ≡ true → goes_across side m ≡ false
+unfolding head_of
+no_ack_across side m e =
+    let five : Option Five = five_at (message_in m.heard).lines in
+    across_by side m (apart m.heard.start five (codes "PRACK") refl e) (apart m.heard.start five (codes "UPDATE") refl e)

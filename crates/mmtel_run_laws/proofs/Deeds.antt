@@ -187,7 +187,7 @@ module _ (law : TextsDecideNothing) (tables : TablesStayAlike) (told : CallsAreT
   finishing-alike at call v w a k =
       let tokens : Drawn = tokens_now token w in
       let s = tables.deeds records (site_of d) (site_of e) keys (BothFinish call.0 at tokens) (bare (calls_in d v)) (bare (calls_in e w)) sites.configured (stands_alike v w a) tt in
-      let desks = tables.ends records (site_of d) (site_of e) keys call.0 at tokens (bare (calls_in d v)) (bare (calls_in e w)) sites.configured (tables_alike v w a) in
+      let desks = tables.ends records (site_of d) (site_of e) keys call.0 at tokens (bare (calls_in d v)) (bare (calls_in e w)) sites.configured (stands_alike v w a) in
       subst (λ (t : Drawn). Two (finishing_by d at call t v) (finishing e token at call w)) (sym (tokens_same v w a))
       (bringing-alike at (Finishes call.0 at tokens) (Finishes call.0 at tokens) (finished_by (site_of d) call.0 at tokens (calls_in d v)).desk (finished_by (site_of e) call.0 at tokens (calls_in e w)).desk v w a
       s.alike.entries s.alike.opened s.one s.other desks k)

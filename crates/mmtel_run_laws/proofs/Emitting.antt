@@ -5,7 +5,7 @@ use Rattle.std.specs.List.{list_any}
 use Rattle.std.proofs.lemmas.Bool.{cases_Bool}
 use Rattle.std.proofs.lemmas.Bool.Decides.{nat_tests}
 use Rattle.mmtel_b2bua_laws.specs.Alike.{AreKept}
-use Rattle.mmtel_call_laws.specs.Secret.Seen.{Acked, Armed, Asked, Replied, Seen, Sent, Trust, seen, seen_all, trust_of}
+use Rattle.mmtel_call_laws.specs.Secret.Seen.{Acked, Armed, Asked, Replied, Seen, Sent, Settled, Trust, seen, seen_all, trust_of}
 use Rattle.mmtel_directory.specs.declared.directories.Directory.{Directory}
 use Rattle.mmtel_message.specs.Message.{Message}
 use Rattle.mmtel_message.specs.Texts.{message_text}
@@ -16,7 +16,7 @@ use Rattle.mmtel_sheet_values.specs.declared.values.Sheet.{Sheet}
 use Rattle.mmtel_transaction.specs.Alike.{Alike, TextsDecideNothing, blank_if}
 use Rattle.mmtel_transaction.specs.Answers.{peer_of, tkey}
 use Rattle.mmtel_transaction.specs.Calls.{Done, live}
-use Rattle.mmtel_transaction.specs.Heads.{head_of}
+use Rattle.mmtel_transaction.specs.Heads.{head_of, reliable_number}
 use Rattle.mmtel_transaction.specs.declared.heads.Head.{Head}
 use Rattle.mmtel_transaction.specs.declared.words.Emit.{Emit}
 use Rattle.mmtel_transaction.specs.declared.words.Emit.TheVariants as emit
@@ -73,9 +73,10 @@ some_peer = record { 0 = 0 }
 
 abbrev seen_peer : Seen → Peer
 seen_peer (Asked p h x) = p
-seen_peer (Replied key h x) = some_peer
+seen_peer (Replied key h number x) = some_peer
 seen_peer (Sent p x) = p
 seen_peer (Acked key x) = some_peer
+seen_peer (Settled key own) = some_peer
 seen_peer (Armed x) = some_peer
 
 abbrev no_head : Head
@@ -83,30 +84,43 @@ no_head = record { is_request = false; status = 0; method = []; branch = []; sen
 
 abbrev seen_head : Seen → Head
 seen_head (Asked p h x) = h
-seen_head (Replied key h x) = h
+seen_head (Replied key h number x) = h
 seen_head (Sent p x) = no_head
 seen_head (Acked key x) = no_head
+seen_head (Settled key own) = no_head
 seen_head (Armed x) = no_head
+
+-- the number of a reliable answer, and of those that are settled
+abbrev seen_number : Seen → Option ℕ
+seen_number (Asked p h x) = None
+seen_number (Replied key h number x) = number
+seen_number (Sent p x) = None
+seen_number (Acked key x) = None
+seen_number (Settled key own) = own
+seen_number (Armed x) = None
 
 abbrev seen_text : Seen → List ℕ
 seen_text (Asked p h x) = x
-seen_text (Replied key h x) = x
+seen_text (Replied key h number x) = x
 seen_text (Sent p x) = x
 seen_text (Acked key x) = x
+seen_text (Settled key own) = []
 seen_text (Armed x) = []
 
 abbrev seen_key : Seen → TKey
 seen_key (Asked p h x) = tkey 0
-seen_key (Replied key h x) = key
+seen_key (Replied key h number x) = key
 seen_key (Sent p x) = tkey 0
 seen_key (Acked key x) = key
+seen_key (Settled key own) = key
 seen_key (Armed x) = tkey 0
 
 abbrev seen_emit : Seen → Emit
 seen_emit (Asked p h x) = emit.Plain p []
-seen_emit (Replied key h x) = emit.Plain some_peer []
+seen_emit (Replied key h number x) = emit.Plain some_peer []
 seen_emit (Sent p x) = emit.Plain p []
 seen_emit (Acked key x) = emit.Plain some_peer []
+seen_emit (Settled key own) = emit.Plain some_peer []
 seen_emit (Armed x) = x
 
 abbrev first_seen : Seen → List Seen → Seen
@@ -204,12 +218,13 @@ module _ (law : TextsDecideNothing) (records : List Sheet) (d e : Directory) (ke
 
   -- ---- what is emitted, where two messages differ in what only a trusted peer is sent
 
-  pub reply-alike : (at : ℕ) (key : TKey) (m n : Message Start) (v w : World) → head_of m ≡ head_of n → ((q : Peer) → peer_of key.0 (live w.acts) ≡ Some q → trusts d q ≡ false → message_text m ≡ message_text n) → Two v w → Two (emit_one at (emit.Reply key m) v) (emit_one at (emit.Reply key n) w)
-  reply-alike at key m n v w head text a =
+  pub reply-alike : (at : ℕ) (key : TKey) (m n : Message Start) (v w : World) → head_of m ≡ head_of n → reliable_number m ≡ reliable_number n
+      → ((q : Peer) → peer_of key.0 (live w.acts) ≡ Some q → trusts d q ≡ false → message_text m ≡ message_text n) → Two v w → Two (emit_one at (emit.Reply key m) v) (emit_one at (emit.Reply key n) w)
+  reply-alike at key m n v w head number text a =
       let peers = ((law (trusts d) v.acts w.acts a.alike.acts).0).peer key.0 in
       offering-alike (to_peer at (message_text m) (peer_of key.0 (live v.acts))) (to_peer at (message_text n) (peer_of key.0 (live w.acts))) _ _
       (λ p strange. ap (λ (o : Option Peer). view p (to_peer at (message_text m) o)) peers ∙ peer_offer d p at (message_text m) (message_text n) (peer_of key.0 (live w.acts)) strange text)
-      (acting-alike _ _ v w (((law (trusts d) v.acts w.acts a.alike.acts).1).replies key.0 m n at head text) a)
+      (acting-alike _ _ v w (((law (trusts d) v.acts w.acts a.alike.acts).1).replies key.0 m n at head number text) a)
 
   ask-alike : (at : ℕ) (peer : Peer) (m n : Message Start) (v w : World) → head_of m ≡ head_of n → (trusts d peer ≡ false → message_text m ≡ message_text n) → Two v w → Two (emit_one at (emit.Ask peer m) v) (emit_one at (emit.Ask peer n) w)
   ask-alike at peer m n v w head text a =
@@ -226,6 +241,9 @@ module _ (law : TextsDecideNothing) (records : List Sheet) (d e : Directory) (ke
       offering-alike (to_peer at (message_text m) (peer_of key.0 (live v.acts))) (to_peer at (message_text n) (peer_of key.0 (live w.acts))) _ _
       (λ p strange. ap (λ (o : Option Peer). view p (to_peer at (message_text m) o)) peers ∙ peer_offer d p at (message_text m) (message_text n) (peer_of key.0 (live w.acts)) strange text)
       (acting-alike _ _ v w (((law (trusts d) v.acts w.acts a.alike.acts).1).acks key.0 m n text) a)
+
+  settle-alike : (at : ℕ) (key : TKey) (own : Option ℕ) (v w : World) → Two v w → Two (emit_one at (emit.Settled key own) v) (emit_one at (emit.Settled key own) w)
+  settle-alike at key own v w a = acting-alike _ _ v w (((law (trusts d) v.acts w.acts a.alike.acts).1).settles key.0 own) a
 
   arm-alike : (x : Alarm) (when : ℕ) (v w : World) → Two v w
       → Two (arming (record { alarm = x; at = when; step = v.steps - 1 }) v) (arming (record { alarm = x; at = when; step = w.steps - 1 }) w)
@@ -258,16 +276,18 @@ module _ (law : TextsDecideNothing) (records : List Sheet) (d e : Directory) (ke
   emit-alike at (emit.Ask p m) (emit.Reply other n) v w k e a = absurd cc
   emit-alike at (emit.Ask p m) (emit.Plain q y) v w k e a = absurd cc
   emit-alike at (emit.Ask p m) (emit.Ack other n) v w k e a = absurd cc
+  emit-alike at (emit.Ask p m) (emit.Settled key own) v w k e a = absurd cc
   emit-alike at (emit.Ask p m) (emit.Arm call2 what2 when2) v w k e a = absurd cc
   emit-alike at (emit.Ask p m) (emit.ArmSeat room2 seat2 what2 when2) v w k e a = absurd cc
   emit-alike at (emit.Reply key m) (emit.Ask q n) v w k e a = absurd cc
   emit-alike at (emit.Reply key m) (emit.Reply other n) v w k e a =
       subst (λ (x : TKey). Two (emit_one at (emit.Reply x m) v) (emit_one at (emit.Reply other n) w)) (sym (ap seen_key e))
-      (reply-alike at other m n v w (ap seen_head e)
+      (reply-alike at other m n v w (ap seen_head e) (ap seen_number e)
       (λ p of strange. text_of (keys other) (message_text m) (message_text n) (subst (λ (x : TKey). blank_if (keys x) (message_text m) ≡ blank_if (keys other) (message_text n)) (ap seen_key e) (ap seen_text e))
       (knows w.acts k other.0 p of ∙ strange)) a)
   emit-alike at (emit.Reply key m) (emit.Plain q y) v w k e a = absurd cc
   emit-alike at (emit.Reply key m) (emit.Ack other n) v w k e a = absurd cc
+  emit-alike at (emit.Reply key m) (emit.Settled answered own) v w k e a = absurd cc
   emit-alike at (emit.Reply key m) (emit.Arm call2 what2 when2) v w k e a = absurd cc
   emit-alike at (emit.Reply key m) (emit.ArmSeat room2 seat2 what2 when2) v w k e a = absurd cc
   emit-alike at (emit.Plain p x) (emit.Ask q n) v w k e a = absurd cc
@@ -276,6 +296,7 @@ module _ (law : TextsDecideNothing) (records : List Sheet) (d e : Directory) (ke
       subst (λ (z : Peer). Two (emit_one at (emit.Plain z x) v) (emit_one at (emit.Plain q y) w)) (sym (ap seen_peer e))
       (plain-alike at q x y v w (λ strange. text_of (trusts d q) x y (subst (λ (z : Peer). blank_if (trusts d z) x ≡ blank_if (trusts d q) y) (ap seen_peer e) (ap seen_text e)) strange) a)
   emit-alike at (emit.Plain p x) (emit.Ack other n) v w k e a = absurd cc
+  emit-alike at (emit.Plain p x) (emit.Settled key own) v w k e a = absurd cc
   emit-alike at (emit.Plain p x) (emit.Arm call2 what2 when2) v w k e a = absurd cc
   emit-alike at (emit.Plain p x) (emit.ArmSeat room2 seat2 what2 when2) v w k e a = absurd cc
   emit-alike at (emit.Ack key m) (emit.Ask q n) v w k e a = absurd cc
@@ -286,12 +307,23 @@ module _ (law : TextsDecideNothing) (records : List Sheet) (d e : Directory) (ke
       (ack-alike at other m n v w
       (λ p of strange. text_of (keys other) (message_text m) (message_text n) (subst (λ (x : TKey). blank_if (keys x) (message_text m) ≡ blank_if (keys other) (message_text n)) (ap seen_key e) (ap seen_text e))
       (knows w.acts k other.0 p of ∙ strange)) a)
+  emit-alike at (emit.Ack key m) (emit.Settled answered own) v w k e a = absurd cc
   emit-alike at (emit.Ack key m) (emit.Arm call2 what2 when2) v w k e a = absurd cc
   emit-alike at (emit.Ack key m) (emit.ArmSeat room2 seat2 what2 when2) v w k e a = absurd cc
+  emit-alike at (emit.Settled key own) (emit.Ask q n) v w k e a = absurd cc
+  emit-alike at (emit.Settled key own) (emit.Reply other n) v w k e a = absurd cc
+  emit-alike at (emit.Settled key own) (emit.Plain q y) v w k e a = absurd cc
+  emit-alike at (emit.Settled key own) (emit.Ack other n) v w k e a = absurd cc
+  emit-alike at (emit.Settled key own) (emit.Settled other owned) v w k e a =
+      subst (λ (x : TKey). Two (emit_one at (emit.Settled x own) v) (emit_one at (emit.Settled other owned) w)) (sym (ap seen_key e))
+      (subst (λ (o : Option ℕ). Two (emit_one at (emit.Settled other o) v) (emit_one at (emit.Settled other owned) w)) (sym (ap seen_number e)) (settle-alike at other owned v w a))
+  emit-alike at (emit.Settled key own) (emit.Arm call2 what2 when2) v w k e a = absurd cc
+  emit-alike at (emit.Settled key own) (emit.ArmSeat room2 seat2 what2 when2) v w k e a = absurd cc
   emit-alike at (emit.Arm call what when) (emit.Ask q n) v w k e a = absurd cc
   emit-alike at (emit.Arm call what when) (emit.Reply other n) v w k e a = absurd cc
   emit-alike at (emit.Arm call what when) (emit.Plain q y) v w k e a = absurd cc
   emit-alike at (emit.Arm call what when) (emit.Ack other n) v w k e a = absurd cc
+  emit-alike at (emit.Arm call what when) (emit.Settled key own) v w k e a = absurd cc
   emit-alike at (emit.Arm call what when) (emit.Arm call2 what2 when2) v w k e a =
       subst (λ (z : Emit). Two (emit_one at z v) (emit_one at (emit.Arm call2 what2 when2) w)) (sym (ap seen_emit e)) (arm-alike (OfCall call2 what2) when2 v w a)
   emit-alike at (emit.Arm call what when) (emit.ArmSeat room2 seat2 what2 when2) v w k e a = absurd cc
@@ -299,6 +331,7 @@ module _ (law : TextsDecideNothing) (records : List Sheet) (d e : Directory) (ke
   emit-alike at (emit.ArmSeat room seat what when) (emit.Reply other n) v w k e a = absurd cc
   emit-alike at (emit.ArmSeat room seat what when) (emit.Plain q y) v w k e a = absurd cc
   emit-alike at (emit.ArmSeat room seat what when) (emit.Ack other n) v w k e a = absurd cc
+  emit-alike at (emit.ArmSeat room seat what when) (emit.Settled key own) v w k e a = absurd cc
   emit-alike at (emit.ArmSeat room seat what when) (emit.Arm call2 what2 when2) v w k e a = absurd cc
   emit-alike at (emit.ArmSeat room seat what when) (emit.ArmSeat room2 seat2 what2 when2) v w k e a =
       subst (λ (z : Emit). Two (emit_one at z v) (emit_one at (emit.ArmSeat room2 seat2 what2 when2) w)) (sym (ap seen_emit e)) (arm-alike (OfSeat room2 seat2 what2) when2 v w a)

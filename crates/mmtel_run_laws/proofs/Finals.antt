@@ -16,7 +16,7 @@ use Rattle.mmtel_message.specs.Texts.{message_text}
 use Rattle.mmtel_message.specs.declared.messages.Start.{Start as StartLine}
 use Rattle.mmtel_precedence.specs.Calls.{Answered, Final, NotOffered, Offer, Offered, Pending, Result, Target}
 use Rattle.mmtel_transaction.specs.Answers.{peer_of}
-use Rattle.mmtel_transaction.specs.Calls.{Done, DidAck, DidAsk, DidBegin, DidFire, DidHear, DidReply, live, opened}
+use Rattle.mmtel_transaction.specs.Calls.{Done, DidAck, DidAsk, DidBegin, DidFire, DidHear, DidReply, DidSettle, live, opened}
 use Rattle.mmtel_transaction.specs.Heads.{head_of, is_provisional}
 use Rattle.mmtel_transaction.specs.Runs.{IsRun}
 use Rattle.mmtel_transaction.specs.declared.entries.Entry.{Entry}
@@ -120,6 +120,7 @@ module _ (key : TKey) where
       subst (λ b. 1 ≤ finals (if b then final_sign (status_in message.start) else [])) (sym (eq-eqb asked.0 key.0 is.0)) (code-final (status_in message.start) status)
   reply-final m (emit.Plain peer text) final is = absurd is
   reply-final m (emit.Ack asked message) final is = absurd is
+  reply-final m (emit.Settled key own) final is = absurd is
   reply-final m (emit.Arm call what at) final is = absurd is
   reply-final m (emit.ArmSeat room seat what at) final is = absurd is
 
@@ -133,6 +134,7 @@ module _ (key : TKey) where
   same-reply m n (emit.Reply asked message) is so = sym is.1 ∙ so.1
   same-reply m n (emit.Plain peer text) is so = absurd is
   same-reply m n (emit.Ack asked message) is so = absurd is
+  same-reply m n (emit.Settled key own) is so = absurd is
   same-reply m n (emit.Arm call what at) is so = absurd is
   same-reply m n (emit.ArmSeat room seat what at) is so = absurd is
 
@@ -182,6 +184,7 @@ here k (DidReply j m now) older none h = go (j == k) (is_provisional (head_of m)
     }
 here k (DidAck j m) older none h = not-so h
 here k (DidFire j) older none h = not-so h
+here k (DidSettle j own) older none h = not-so h
 
 first-final : (k : ℕ) (acts : List Done) → list_any (is_final_in k) acts ≡ true → FirstFinal k acts
 first-final k [] h = not-so h
@@ -211,6 +214,7 @@ handed-so w k m (emit.Reply key message) is (at, h) =
     (at, subst (λ k. IsHanded w k m (DidReply k m at)) is.0 (subst (λ (m : Message StartLine). IsHanded w key.0 m (DidReply key.0 m at)) is.1 h))
 handed-so w k m (emit.Plain peer text) is g = absurd is
 handed-so w k m (emit.Ack key message) is g = absurd is
+handed-so w k m (emit.Settled key own) is g = absurd is
 handed-so w k m (emit.Arm call what at) is g = absurd is
 handed-so w k m (emit.ArmSeat room seat what at) is g = absurd is
 
@@ -261,6 +265,7 @@ module _ (w : World) (s : Start) (events : List Event) (emits : List Emit) (is :
   comes-so (emit.Reply key message) each = each key.0 message (refl, refl)
   comes-so (emit.Plain peer text) each = tt
   comes-so (emit.Ack key message) each = tt
+  comes-so (emit.Settled key own) each = tt
   comes-so (emit.Arm call what at) each = tt
   comes-so (emit.ArmSeat room seat what at) each = tt
 

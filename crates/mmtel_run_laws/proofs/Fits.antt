@@ -9,15 +9,17 @@ use Rattle.mmtel_b2bua.specs.Lending.{entry_at, entry_of}
 use Rattle.mmtel_b2bua.specs.declared.entries.Entry.{Entry}
 use Rattle.mmtel_call_decisions.specs.Showing.{facing}
 use Rattle.mmtel_call_decisions.specs.Site.{Site, trusts}
+use Rattle.mmtel_call.specs.Flights.{is_in_flight, service_in}
 use Rattle.mmtel_call.specs.Leaving.{is_taken}
 use Rattle.mmtel_call.specs.Table.{current, is_current}
 use Rattle.mmtel_call.specs.declared.calls.Call.{Call}
+use Rattle.mmtel_call.specs.declared.calls.Flight.{Flight}
 use Rattle.mmtel_call.specs.declared.calls.Phase.{Phase}
 use Rattle.mmtel_call.specs.declared.calls.Phase.TheVariants.{Lent, Offered, Over, Stood}
 use Rattle.mmtel_call.specs.declared.calls.Stage.TheVariants.{Answered, Asking, Parting, Talking}
 use Rattle.mmtel_call.specs.declared.calls.Taken.{Taken}
 use Rattle.mmtel_call_laws.specs.Secret.Common.{MessagesAreWhole}
-use Rattle.mmtel_call_laws.specs.Secret.Premises.{HearsOther, IsAnswer, IsWhole}
+use Rattle.mmtel_call_laws.specs.Secret.Premises.{HearsOther, IsAnswer, IsWhole, goes_across}
 use Rattle.mmtel_call_laws.specs.Secret.Roles.{Opens, Plain, Role, Says, hides, private_places}
 use Rattle.mmtel_call_laws.specs.Secret.Seen.{Trust, trust_of}
 use Rattle.mmtel_call_laws.specs.Secret.Table.{AnswersIn, AnswersOne, FitsIn}
@@ -31,7 +33,7 @@ use Rattle.mmtel_types.specs.Sides.{other_of}
 use Rattle.mmtel_types.specs.declared.numbers.Peer.{Peer}
 use Rattle.mmtel_types.specs.declared.sides.Side.{Side}
 use Rattle.mmtel_types.specs.declared.sides.Side.TheVariants.{Callee, Caller}
-use Rattle.mmtel_run_laws.specs.Belonging.{awaited_role, comes_from, loose_at, of_loose, of_taken, other_role, request_role_in, request_role_of, response_role_of, said_by, side_role, taken_at, unshown_response}
+use Rattle.mmtel_run_laws.specs.Belonging.{awaited_role, comes_from, flight_at, loose_at, of_loose, of_taken, other_role, request_role_in, request_role_of, response_role_of, said_by, side_role, taken_at, unshown_request, unshown_response}
 
 -- ---- a side that is restricted, and its own peer
 
@@ -51,20 +53,31 @@ said_own true own side m e = elim (cases_Bool (comes_from own m)) [
 
 -- ---- requests
 
-pub fits_in : (p : Phase) (c : Call) (side : Side) (m : Said) → FitsIn p c side m (request_role_in p c.opening side m)
-fits_in (Offered x) c side m = tt
-fits_in (Stood x stage) c Caller m = λ e. said_restricted (facing c.opening x.service Caller m).restricted x.caller.dialogue.peer Caller m e
-fits_in (Stood x stage) c Callee m = λ e. said_restricted (facing c.opening x.service Callee m).restricted x.callee.dialogue.peer Callee m e
-fits_in (Lent loan) c side m = tt
-fits_in (Over cause) c side m = tt
+-- one that goes to the other side while the call is offered: where reliable answers and UPDATE are off, there is none
+across_fits : (reliable across restricted : Bool) (own : Peer) (side : Side) (m : Said) → (reliable ≡ false → across ≡ false) → across ≡ true
+    → hides (if reliable && across then said_by restricted own side m else unshown_request) ≡ true → restricted ≡ true
+across_fits true true restricted own side m off is e = said_restricted restricted own side m e
+across_fits false true restricted own side m off is e = absurd (true_false (off refl))
+across_fits reliable false restricted own side m off is e = absurd (true_false (sym is))
+
+pub fits_in : (reliable : Bool) (p : Phase) (c : Call) (side : Side) (m : Said) → (reliable ≡ false → goes_across side m ≡ false) → FitsIn p c side m (request_role_in reliable p c.opening side m)
+fits_in reliable (Offered x) c Caller m off =
+    λ is e. across_fits reliable (goes_across Caller m) (facing c.opening x.attempt.service Caller m).restricted x.caller.dialogue.peer Caller m off is e
+fits_in reliable (Offered x) c Callee m off =
+    λ is e. across_fits reliable (goes_across Callee m) (facing c.opening x.attempt.service Callee m).restricted x.callee.leg.dialogue.peer Callee m off is e
+fits_in reliable (Stood x stage) c Caller m off = λ e. said_restricted (facing c.opening x.service Caller m).restricted x.caller.dialogue.peer Caller m e
+fits_in reliable (Stood x stage) c Callee m off = λ e. said_restricted (facing c.opening x.service Callee m).restricted x.callee.dialogue.peer Callee m e
+fits_in reliable (Lent loan) c side m off = tt
+fits_in reliable (Over cause) c side m off = tt
 
 pub entry_found : (number place : ℕ) (e : Entry) (es : List Entry) → position (is_numbered number) es ≡ Some place → slice_get es place ≡ Some e → entry_of number es ≡ Some e
 entry_found number place e es p g = ap (λ (o : Option ℕ). entry_at o es) p ∙ g
 
-pub request_fits : (number place : ℕ) (side : Side) (m : Said) (e : Entry) (es : List Entry) → position (is_numbered number) es ≡ Some place → slice_get es place ≡ Some e
-    → FitsIn e.call.phase e.call side m (request_role_of side m (entry_of number es))
-request_fits number place side m e es p g =
-    subst (λ (o : Option Entry). FitsIn e.call.phase e.call side m (request_role_of side m o)) (sym (entry_found number place e es p g)) (fits_in e.call.phase e.call side m)
+pub request_fits : (reliable : Bool) (number place : ℕ) (side : Side) (m : Said) (e : Entry) (es : List Entry) → (reliable ≡ false → goes_across side m ≡ false)
+    → position (is_numbered number) es ≡ Some place → slice_get es place ≡ Some e → FitsIn e.call.phase e.call side m (request_role_of reliable side m (entry_of number es))
+request_fits reliable number place side m e es off p g =
+    subst (λ (o : Option Entry). FitsIn e.call.phase e.call side m (request_role_of reliable side m o)) (sym (entry_found number place e es p g))
+    (fits_in reliable e.call.phase e.call side m off)
 
 -- ---- responses
 
@@ -125,18 +138,61 @@ module _ (wholes : MessagesAreWhole) (site : Site) (keys : TKey → Bool) where
     both_own true false e = absurd (true_false (sym e))
     both_own false other e = absurd (true_false (sym e))
 
+    some_loose : (y z : Loose) → Some z ≡ Some y → z ≡ y
+    some_loose y z e = cc
+
+    some_taken : (y z : Taken) → Some z ≡ Some y → z ≡ y
+    some_taken y z e = cc
+
+    some_flight : (y z : Flight) → Some z ≡ Some y → z ≡ y
+    some_flight y z e = cc
+
+    loose_own : (c : Call) (l : Option Loose) (x : Option Taken) (f : Option Flight) (y : Loose) → l ≡ Some y → hides (other_role c m l x f) ≡ true → comes_from y.invitation.dialogue.peer m ≡ true
+    loose_own c None x f y is e = absurd (let n : None ≡ Some y = is in cc)
+    loose_own c (Some z) x f y is e =
+        subst (λ (w : Loose). comes_from w.invitation.dialogue.peer m ≡ true) (some_loose y z is) (both_own (of_loose m (Some z)) (of_taken m x) e).0
+
+    taken_own : (c : Call) (l : Option Loose) (x : Option Taken) (f : Option Flight) (y : Taken) → x ≡ Some y → hides (other_role c m l x f) ≡ true → comes_from y.invitation.dialogue.peer m ≡ true
+    taken_own c l None f y is e = absurd (let n : None ≡ Some y = is in cc)
+    taken_own c None (Some z) f y is e = subst (λ (w : Taken). comes_from w.invitation.dialogue.peer m ≡ true) (some_taken y z is) (both_own true (of_taken m (Some z)) e).1
+    taken_own c (Some l) (Some z) f y is e =
+        subst (λ (w : Taken). comes_from w.invitation.dialogue.peer m ≡ true) (some_taken y z is) (both_own (of_loose m (Some l)) (of_taken m (Some z)) e).1
+
+    -- what is in flight: its other side is restricted, where that hides anything
+    flight_own : (c : Call) (l : Option Loose) (x : Option Taken) (f : Option Flight) (y : Flight) → l ≡ None → x ≡ None → f ≡ Some y → hides (other_role c m l x f) ≡ true
+        → (facing c.opening (service_in c.phase) (other_of y.side) m).restricted ≡ true
+    flight_own c None None None y none gone is e = absurd (let n : None ≡ Some y = is in cc)
+    flight_own c None None (Some z) y none gone is e =
+        subst (λ (w : Flight). (facing c.opening (service_in c.phase) (other_of w.side) m).restricted ≡ true) (some_flight y z is)
+        (said_restricted (facing c.opening (service_in c.phase) (other_of z.side) m).restricted z.asked.invitation.dialogue.peer (other_of z.side) m e)
+    flight_own c None (Some x) f y none gone is e = absurd (let n : None ≡ Some x = sym gone in cc)
+    flight_own c (Some l) x f y none gone is e = absurd (let n : None ≡ Some l = sym none in cc)
+
+    abbrev left_at : (branch : List ℕ) → Call → Option Loose
+    left_at branch c = loose_at (position (is_of branch) c.loose) c.loose
+
+    abbrev had_at : (branch : List ℕ) → Call → Option Taken
+    had_at branch c = taken_at (position (is_taken branch) c.taken) c.taken
+
+    abbrev flying_at : (branch : List ℕ) → Call → Option Flight
+    flying_at branch c = flight_at (position (is_in_flight branch) c.flights) c.flights
+
+    abbrev role_of_other : (branch : List ℕ) → Call → Role
+    role_of_other branch c = other_role c m (left_at branch c) (had_at branch c) (flying_at branch c)
+
     others : (key : TKey) (branch : List ℕ) (c : Call)
         → ((at : ℕ) (l : Loose) → position (is_of branch) c.loose ≡ Some at → slice_get c.loose at ≡ Some l → keys key ≡ trusts site l.invitation.dialogue.peer)
         → ((at : ℕ) (x : Taken) → position (is_taken branch) c.taken ≡ Some at → slice_get c.taken at ≡ Some x → keys key ≡ trusts site x.invitation.dialogue.peer)
-        → HearsOther T key branch (other_role m (loose_at (position (is_of branch) c.loose) c.loose) (taken_at (position (is_taken branch) c.taken) c.taken)) m c
+        → HearsOther T key branch (role_of_other branch c) m c
     others key branch c loose taken =
-        let l : Option Loose = loose_at (position (is_of branch) c.loose) c.loose in
-        let x : Option Taken = taken_at (position (is_taken branch) c.taken) c.taken in
+        let l : Option Loose = left_at branch c in
+        let x : Option Taken = had_at branch c in
+        let f : Option Flight = flying_at branch c in
         record {
-          loose = λ at y p g. is_answer key (other_role m l x) y.invitation.dialogue.peer
-              (λ e. sym (ap (of_loose m) (ap (λ (o : Option ℕ). loose_at o c.loose) p ∙ g)) ∙ (both_own (of_loose m l) (of_taken m x) e).0) (loose at y p g);
-          taken = λ at y p g. is_answer key (other_role m l x) y.invitation.dialogue.peer
-              (λ e. sym (ap (of_taken m) (ap (λ (o : Option ℕ). taken_at o c.taken) p ∙ g)) ∙ (both_own (of_loose m l) (of_taken m x) e).1) (taken at y p g);
+          loose = λ at y p g. is_answer key (other_role c m l x f) y.invitation.dialogue.peer (loose_own c l x f y (ap (λ (o : Option ℕ). loose_at o c.loose) p ∙ g)) (loose at y p g);
+          taken = λ at y p g. is_answer key (other_role c m l x f) y.invitation.dialogue.peer (taken_own c l x f y (ap (λ (o : Option ℕ). taken_at o c.taken) p ∙ g)) (taken at y p g);
+          flights = λ none gone at y p g. flight_own c l x f y (ap (λ (o : Option ℕ). loose_at o c.loose) none) (ap (λ (o : Option ℕ). taken_at o c.taken) gone)
+              (ap (λ (o : Option ℕ). flight_at o c.flights) p ∙ g);
         }
 
     -- what ties the client transaction, where it is known whom the server trusts of it
@@ -148,10 +204,10 @@ module _ (wholes : MessagesAreWhole) (site : Site) (keys : TKey → Bool) where
     one_fits : (key : TKey) (branch : List ℕ) (c : Call) → KeyIsTied key branch c → AnswersOne (Some branch) T key (response_role_of branch m c) m c
     one_fits key branch c tie = (
       λ is. subst (λ (b : Bool). AnswersIn c.phase T key
-          (if b then awaited_role c.phase c.opening m else other_role m (loose_at (position (is_of branch) c.loose) c.loose) (taken_at (position (is_taken branch) c.taken) c.taken)) m c) (sym is)
+          (if b then awaited_role c.phase c.opening m else role_of_other branch c) m c) (sym is)
           (awaited c.phase key c (λ i e. tie.awaited i is e)),
       λ is. subst (λ (b : Bool). HearsOther T key branch
-          (if b then awaited_role c.phase c.opening m else other_role m (loose_at (position (is_of branch) c.loose) c.loose) (taken_at (position (is_taken branch) c.taken) c.taken)) m c) (sym is)
+          (if b then awaited_role c.phase c.opening m else role_of_other branch c) m c) (sym is)
           (others key branch c tie.loose tie.taken),
     )
 

@@ -15,7 +15,7 @@ use Rattle.mmtel_message.specs.declared.messages.Start.{Start}
 use Rattle.mmtel_outside.specs.declared.events.Offer.{Offer}
 use Rattle.mmtel_outside.specs.declared.events.Offer.TheVariants as offer
 use Rattle.mmtel_transaction.specs.Answers.{peer_of}
-use Rattle.mmtel_transaction.specs.Calls.{Done, DidAck, DidAsk, DidBegin, DidFire, DidHear, DidReply, live}
+use Rattle.mmtel_transaction.specs.Calls.{Done, DidAck, DidAsk, DidBegin, DidFire, DidSettle, DidHear, DidReply, live}
 use Rattle.mmtel_transaction.specs.Settling.{BeginsChangeNothing}
 use Rattle.mmtel_transaction.specs.declared.words.Emit.{Emit}
 use Rattle.mmtel_transaction.specs.declared.words.Emit.TheVariants as emit
@@ -62,6 +62,7 @@ emit_extends at (emit.Ask peer message) w = record { acts = DidAsk peer message 
 emit_extends at (emit.Reply key message) w = record { acts = DidReply key.0 message at ∷ []; on_acts = refl; offers = _; offered = refl }
 emit_extends at (emit.Plain peer text) w = record { acts = []; on_acts = refl; offers = _; offered = refl }
 emit_extends at (emit.Ack key message) w = record { acts = DidAck key.0 message ∷ []; on_acts = refl; offers = _; offered = refl }
+emit_extends at (emit.Settled key own) w = record { acts = DidSettle key.0 own ∷ []; on_acts = refl; offers = []; offered = sym (append-nil w.offers) }
 emit_extends at (emit.Arm call what when) w = extends_refl w _ refl refl
 emit_extends at (emit.ArmSeat room seat what when) w = extends_refl w _ refl refl
 
@@ -74,6 +75,7 @@ emit_deeds at (emit.Ask peer message) w = refl
 emit_deeds at (emit.Reply key message) w = refl
 emit_deeds at (emit.Plain peer text) w = refl
 emit_deeds at (emit.Ack key message) w = refl
+emit_deeds at (emit.Settled key own) w = refl
 emit_deeds at (emit.Arm call what when) w = refl
 emit_deeds at (emit.ArmSeat room seat what when) w = refl
 
@@ -99,6 +101,7 @@ goes_more w v (emit.Ask peer message) e g = offered_more w v peer (message_text 
 goes_more w v (emit.Reply key message) e (at, g) = (at, handed_more w v key.0 message (DidReply key.0 message at) e g)
 goes_more w v (emit.Plain peer text) e g = offered_more w v peer text e g
 goes_more w v (emit.Ack key message) e g = handed_more w v key.0 message (DidAck key.0 message) e g
+goes_more w v (emit.Settled key own) e g = tt
 goes_more w v (emit.Arm call what at) e g = tt
 goes_more w v (emit.ArmSeat room seat what at) e g = tt
 
@@ -129,6 +132,7 @@ emit_goes at (emit.Ack key message) w = record {
   done = refl;
   offered = λ peer is. (at, in-right _ w.offers _ (to_peer_is at (message_text message) peer (peer_of key.0 (live w.acts)) is));
 }
+emit_goes at (emit.Settled key own) w = tt
 emit_goes at (emit.Arm call what when) w = tt
 emit_goes at (emit.ArmSeat room seat what when) w = tt
 
@@ -148,6 +152,7 @@ IsSaidBy w (DidAsk peer message now) older = Unit {0}
 IsSaidBy w (DidReply key message now) older = (peer : Peer) → peer_of key (live older) ≡ Some peer → IsOfferedTo w peer (message_text message)
 IsSaidBy w (DidAck key message) older = Unit {0}
 IsSaidBy w (DidFire key) older = Unit {0}
+IsSaidBy w (DidSettle key own) older = Unit {0}
 
 abbrev pub SaidIn : World → List Done → Type 0
 SaidIn w [] = Unit {0}
@@ -160,6 +165,7 @@ said-by-more w v (DidAsk peer message now) older e s = tt
 said-by-more w v (DidReply key message now) older e s = λ peer is. offered_more w v peer (message_text message) e (s peer is)
 said-by-more w v (DidAck key message) older e s = tt
 said-by-more w v (DidFire key) older e s = tt
+said-by-more w v (DidSettle key own) older e s = tt
 
 said_more : (w v : World) (acts : List Done) → Extends w v → SaidIn w acts → SaidIn v acts
 said_more w v [] e s = tt
@@ -172,6 +178,7 @@ unsent-said w (DidAsk peer message now) older u = absurd u
 unsent-said w (DidReply key message now) older u = absurd u
 unsent-said w (DidAck key message) older u = absurd u
 unsent-said w (DidFire key) older u = tt
+unsent-said w (DidSettle key own) older u = tt
 
 abbrev SaidOn : World → World → Type 0
 SaidOn w v = SaidIn w w.acts → SaidIn v v.acts
@@ -187,6 +194,7 @@ emit_said at (emit.Reply key message) w s = (
 )
 emit_said at (emit.Plain peer text) w s = said_more w _ w.acts (emit_extends at (emit.Plain peer text) w) s
 emit_said at (emit.Ack key message) w s = (tt, said_more w _ w.acts (emit_extends at (emit.Ack key message) w) s)
+emit_said at (emit.Settled key own) w s = (tt, said_more w _ w.acts (emit_extends at (emit.Settled key own) w) s)
 emit_said at (emit.Arm call what when) w s = same_said w _ refl (emit_extends at (emit.Arm call what when) w) s
 emit_said at (emit.ArmSeat room seat what when) w s = same_said w _ refl (emit_extends at (emit.ArmSeat room seat what when) w) s
 

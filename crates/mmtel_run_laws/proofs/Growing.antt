@@ -18,7 +18,7 @@ use Rattle.mmtel_focus.specs.declared.signals.RoomSignal.TheVariants as of_room
 use Rattle.mmtel_leg.specs.declared.legs.Released.{Released}
 use Rattle.mmtel_desk.specs.Invites.{invite_answered, invite_silent}
 use Rattle.mmtel_transaction.specs.Answers.{Next, fires, hear_says, is_merged, next_due, part_of, says_due}
-use Rattle.mmtel_transaction.specs.Calls.{DidAck, DidAsk, DidBegin, DidFire, DidHear, DidReply, Done, live}
+use Rattle.mmtel_transaction.specs.Calls.{DidAck, DidAsk, DidBegin, DidFire, DidSettle, DidHear, DidReply, Done, live}
 use Rattle.mmtel_transaction.specs.Heads.{head_of}
 use Rattle.mmtel_transaction.specs.declared.words.Due.{Due}
 use Rattle.mmtel_transaction.specs.declared.words.Due.TheVariants as due
@@ -53,6 +53,7 @@ module _ (P : List Done → Type 0) (older : (x : Done) (h : List Done) → P (x
   emit_before at (emit.Reply key message) w e = older (DidReply key.0 message at) w.acts e
   emit_before at (emit.Plain peer text) w e = e
   emit_before at (emit.Ack key message) w e = older (DidAck key.0 message) w.acts e
+  emit_before at (emit.Settled key own) w e = older (DidSettle key.0 own) w.acts e
   emit_before at (emit.Arm call what when) w e = e
   emit_before at (emit.ArmSeat room seat what when) w e = e
 

@@ -30,7 +30,7 @@ use Rattle.mmtel_focus_laws.specs.Replies.{DeedIsOf, RoomsReplyInTheirOwn, Signa
 use Rattle.mmtel_leg.specs.declared.legs.Released.{Released}
 use Rattle.mmtel_sheet_values.specs.View.{InForce}
 use Rattle.mmtel_transaction.specs.Answers.{Next, due_one, fires, is_before, is_invite_of, is_merged, key_of, next_due, part_of, says, says_due, says_opened, sooner, text_again, tkey}
-use Rattle.mmtel_transaction.specs.Calls.{Done, DidAck, DidAsk, DidBegin, DidFire, DidHear, DidReply, live, offers, opened, opens, step_of}
+use Rattle.mmtel_transaction.specs.Calls.{Done, DidAck, DidAsk, DidBegin, DidFire, DidSettle, DidHear, DidReply, live, offers, opened, opens, step_of}
 use Rattle.mmtel_transaction.specs.Deadlines.{deadline, ends, resend_at}
 use Rattle.mmtel_transaction.specs.Heads.{head_of, is_cancel}
 use Rattle.mmtel_transaction.specs.Runs.{IsRun}
@@ -341,6 +341,7 @@ module _ (d : Directory) (token : List ℕ) (back : LegsGoBack) (own_law : Rooms
   emit_still at (emit.Reply key message) w so t = quiet w _ refl refl refl refl (grows (DidReply key.0 message at) w.acts (λ r. r) so) t
   emit_still at (emit.Plain peer text) w so t = quiet w _ refl refl refl refl (grows_refl w.acts) t
   emit_still at (emit.Ack key message) w so t = quiet w _ refl refl refl refl (grows (DidAck key.0 message) w.acts (λ r. r) tt) t
+  emit_still at (emit.Settled key own) w so t = quiet w _ refl refl refl refl (grows (DidSettle key.0 own) w.acts (λ r. r) so) t
   emit_still at (emit.Arm call what when) w so t = quiet w _ refl refl refl refl (grows_refl w.acts) t
   emit_still at (emit.ArmSeat room seat what when) w so t = quiet w _ refl refl refl refl (grows_refl w.acts) t
 
@@ -350,6 +351,7 @@ module _ (d : Directory) (token : List ℕ) (back : LegsGoBack) (own_law : Rooms
   emit_deeds at (emit.Reply key message) w = refl
   emit_deeds at (emit.Plain peer text) w = refl
   emit_deeds at (emit.Ack key message) w = refl
+  emit_deeds at (emit.Settled key own) w = refl
   emit_deeds at (emit.Arm call what when) w = refl
   emit_deeds at (emit.ArmSeat room seat what when) w = refl
 
@@ -358,6 +360,7 @@ module _ (d : Directory) (token : List ℕ) (back : LegsGoBack) (own_law : Rooms
   emit_keys at (emit.Reply key message) w = keys_grow (DidReply key.0 message at) w.acts
   emit_keys at (emit.Plain peer text) w = le_refl (keys w.acts)
   emit_keys at (emit.Ack key message) w = keys_grow (DidAck key.0 message) w.acts
+  emit_keys at (emit.Settled key own) w = keys_grow (DidSettle key.0 own) w.acts
   emit_keys at (emit.Arm call what when) w = le_refl (keys w.acts)
   emit_keys at (emit.ArmSeat room seat what when) w = le_refl (keys w.acts)
 

@@ -10,7 +10,7 @@ use Rattle.mmtel_charging.specs.Meters.{Noted}
 use Rattle.mmtel_desk.specs.Desks.{drew, emitted, fresh, token}
 use Rattle.mmtel_desk.specs.Invitations.{is_cancellable, knows, sent}
 use Rattle.mmtel_desk.specs.Loose as left_ones
-use Rattle.mmtel_desk.specs.Loose.{Rest, ended_before, late_cancelled, made_from, on_success_in, told_late, with_invitation}
+use Rattle.mmtel_desk.specs.Loose.{Rest, ended_before, made_from, on_success_in, told_late, with_invitation}
 use Rattle.mmtel_desk.specs.Sending.{ack_text, acked, asked_with, bye, cancel_sent, cancelled}
 use Rattle.mmtel_desk.specs.declared.desks.Desk.{Desk}
 use Rattle.mmtel_desk.specs.declared.invitations.Invitation.{Invitation}
@@ -18,7 +18,7 @@ use Rattle.mmtel_desk.specs.declared.invitations.Loose.{Loose}
 use Rattle.mmtel_desk.specs.Invites.{invite_answered, invite_silent}
 use Rattle.mmtel_focus.specs.Answers as answers
 use Rattle.mmtel_focus.specs.Histories as histories
-use Rattle.mmtel_focus.specs.Histories.{Adopts, Closes, Deed, Drops, Hears, Joins, Leaves, Notifies, Opens, brought_after, no_tokens, table_after}
+use Rattle.mmtel_focus.specs.Histories.{Adopts, Closes, Deed, Drops, Hears, Joins, Leaves, Notifies, Opens, brought_after, table_after}
 use Rattle.mmtel_focus.specs.Joining as joining
 use Rattle.mmtel_focus.specs.Referrals.{referral_in}
 use Rattle.mmtel_focus.specs.Requests as requests
@@ -130,6 +130,7 @@ module _ (was : List ℕ → Peer → Type 0) (site : Site) (text : List ℕ) (l
   AskWasSent (emit.Reply key m) = Unit {0}
   AskWasSent (emit.Plain peer sample) = Unit {0}
   AskWasSent (emit.Ack key m) = Unit {0}
+  AskWasSent (emit.Settled key own) = Unit {0}
   AskWasSent (emit.Arm call what at) = Unit {0}
   AskWasSent (emit.ArmSeat room seat what at) = Unit {0}
 
@@ -754,7 +755,7 @@ module _ (was : List ℕ → Peer → Type 0) (site : Site) (text : List ℕ) (l
   rest_success : (l : Loose) (remote : Remote) (o : Option Dialogue) (desk : Desk) → Rests l desk (on_success_in site.sip l remote o desk)
   rest_success l remote (Some d) desk = record { desk_in = acked_goes d desk; left_in = λ is. (is, tt) }
   rest_success l remote None desk =
-      let d : Dialogue = made_from l.within l.invitation.early l.invitation.dialogue remote in
+      let d : Dialogue = made_from l.within l.invitation.early l.invitation.asked l.invitation.dialogue remote in
       record { desk_in = then_goes desk (acked site.sip d desk) (bye site.sip d (acked site.sip d desk)) (acked_goes d desk) (bye_goes d (acked site.sip d desk)); left_in = λ is. (is, tt) }
 
   if_rest : (b : Bool) (l : Loose) (desk : Desk) (one two : Rest) → Rests l desk one → Rests l desk two → Rests l desk (if b then one else two)
@@ -958,6 +959,7 @@ each_asked was site (emit.Ask peer m ∷ out) sub = (λ branch is. sub branch pe
 each_asked was site (emit.Reply key m ∷ out) sub = (tt, each_asked was site out sub)
 each_asked was site (emit.Plain peer text ∷ out) sub = (tt, each_asked was site out sub)
 each_asked was site (emit.Ack key m ∷ out) sub = (tt, each_asked was site out sub)
+each_asked was site (emit.Settled key own ∷ out) sub = (tt, each_asked was site out sub)
 each_asked was site (emit.Arm call what at ∷ out) sub = (tt, each_asked was site out sub)
 each_asked was site (emit.ArmSeat room seat what at ∷ out) sub = (tt, each_asked was site out sub)
 

@@ -11,7 +11,7 @@ use Rattle.mmtel_call_laws.specs.Heads.Emits.{Each}
 use Rattle.mmtel_leg.specs.declared.legs.Released.{Released}
 use Rattle.mmtel_message.specs.Message.{Message}
 use Rattle.mmtel_message.specs.declared.messages.Start.{Start}
-use Rattle.mmtel_transaction.specs.Calls.{Done, DidAck, DidAsk, DidBegin, DidFire, DidHear, DidReply, heard_opens, offers, opened, opens, step_of}
+use Rattle.mmtel_transaction.specs.Calls.{Done, DidAck, DidAsk, DidBegin, DidFire, DidSettle, DidHear, DidReply, heard_opens, offers, opened, opens, step_of}
 use Rattle.mmtel_transaction.specs.declared.parts.Part.{Part}
 use Rattle.mmtel_transaction.specs.declared.parts.Part.TheVariants as part
 use Rattle.mmtel_transaction.specs.declared.words.TKey.{TKey}
@@ -42,6 +42,7 @@ one-more step order key (DidAsk p m now) = omega arith
 one-more step order key (DidReply k m now) = omega arith
 one-more step order key (DidAck k m) = omega arith
 one-more step order key (DidFire k) = omega arith
+one-more step order key (DidSettle k own) = omega arith
 
 pub keys_grow : (x : Done) (h : List Done) → keys h ≤ keys (x ∷ h)
 keys_grow x h = omega (arith, length-append (opened h) (opens (step_of h) (offers h) (length (opened h)) x))

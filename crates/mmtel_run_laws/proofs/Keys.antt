@@ -10,11 +10,14 @@ use Rattle.mmtel_message.specs.Message.{Message}
 use Rattle.mmtel_message.specs.Texts.{message_text}
 use Rattle.mmtel_message.specs.declared.messages.Start.{Start}
 use Rattle.mmtel_transaction.specs.Answers.{is_of, peer_of}
-use Rattle.mmtel_transaction.specs.Calls.{DidAck, DidAsk, DidBegin, DidFire, DidHear, DidReply, Done, change, entry_of, heard_change, heard_opens, is_live, live, offers, opened, opens, step_of}
-use Rattle.mmtel_transaction.specs.Changes.{acked, acked_2xx, answered, finished, fired, hit, kept, rang, replied}
+use Rattle.mmtel_transaction.specs.Calls.{DidAck, DidAsk, DidBegin, DidFire, DidHear, DidReply, DidSettle, Done, change, entry_of, heard_change, heard_opens, is_live, live, offers, opened, opens, step_of}
+use Rattle.mmtel_transaction.specs.Changes.{acked, acked_2xx, answer_of, answered, finished, fired, fired_by, hit, kept, offered, rang, replied, settled, with_answers}
+use Rattle.mmtel_transaction.specs.Deadlines.{foremost_in}
 use Rattle.mmtel_transaction.specs.Heads.{head_of, is_invite, is_provisional}
 use Rattle.mmtel_transaction.specs.OnePeer.{KeepsPeers}
+use Rattle.mmtel_transaction.specs.declared.entries.Alarm.{Alarm}
 use Rattle.mmtel_transaction.specs.declared.entries.Entry.{Entry}
+use Rattle.mmtel_transaction.specs.declared.entries.ReliableAnswer.{ReliableAnswer}
 use Rattle.mmtel_transaction.specs.declared.heads.Head.{Head}
 use Rattle.mmtel_transaction.specs.declared.parts.Part.{Part}
 use Rattle.mmtel_transaction.specs.declared.parts.Part.TheVariants as part
@@ -29,8 +32,12 @@ if_key : (b : Bool) (x y : Entry) (n : ℕ) → x.key ≡ n → y.key ≡ n → 
 if_key true x y n e f = e
 if_key false x y n e f = f
 
+fired_by_key : (first : Option (ℕ × Alarm)) (step : ℕ) (e : Entry) → (fired_by first step e).key ≡ e.key
+fired_by_key None step e = if_key _ _ _ e.key refl refl
+fired_by_key (Some first) step e = refl
+
 fired_key : (step : ℕ) (e : Entry) → (fired step e).key ≡ e.key
-fired_key step e = if_key _ _ _ e.key refl refl
+fired_key step e = fired_by_key (foremost_in e) step e
 
 replied_key : (step order status : ℕ) (text tag : List ℕ) (now : ℕ) (e : Entry) → (replied step order status text tag now e).key ≡ e.key
 replied_key step order status text tag now e = elim (cases_Bool (not e.is_server || not (e.done == 0))) [
@@ -40,6 +47,19 @@ replied_key step order status text tag now e = elim (cases_Bool (not e.is_server
     | inr q ↦ rw (n, q) refl
   ]
 ]
+
+answers_key : (answer : Option ReliableAnswer) (e : Entry) → (with_answers answer e).key ≡ e.key
+answers_key None e = refl
+answers_key (Some answer) e = if_key (not e.is_server || not (e.done == 0)) e _ e.key refl refl
+
+offered_key : (step order : ℕ) (m : Message Start) (now : ℕ) (e : Entry) → (offered step order m now e).key ≡ e.key
+offered_key step order m now e =
+    replied_key step order (head_of m).status (message_text m) (head_of m).to_tag now (with_answers (answer_of step order m (message_text m) now) e)
+    ∙ answers_key (answer_of step order m (message_text m) now) e
+
+settled_key : (own : Option ℕ) (e : Entry) → (settled own e).key ≡ e.key
+settled_key None e = refl
+settled_key (Some own) e = refl
 
 rang_key : (step now : ℕ) (e : Entry) → (rang step now e).key ≡ e.key
 rang_key step now e = if_key _ _ _ e.key refl refl
@@ -82,9 +102,10 @@ change_key : (step order : ℕ) (c : Done) (e : Entry) → (change step order c 
 change_key step order (DidBegin n) e = refl
 change_key step order (DidHear p m now t) e = heard_key step m now t e
 change_key step order (DidAsk p m now) e = refl
-change_key step order (DidReply key m now) e = hit_key key (replied step order (head_of m).status (message_text m) (head_of m).to_tag now) e (replied_key step order (head_of m).status (message_text m) (head_of m).to_tag now e)
+change_key step order (DidReply key m now) e = hit_key key (offered step order m now) e (offered_key step order m now e)
 change_key step order (DidAck key m) e = hit_key key (kept (message_text m)) e (kept_key (message_text m) e)
 change_key step order (DidFire key) e = hit_key key (fired step) e (fired_key step e)
+change_key step order (DidSettle key own) e = hit_key key (settled own) e (settled_key own e)
 
 entry_key : (h : List Done) (e : Entry) → (entry_of h e).key ≡ e.key
 entry_key [] e = refl
@@ -122,6 +143,7 @@ next_below step order key (DidAsk p m now) = (omega arith, tt)
 next_below step order key (DidReply k m now) = tt
 next_below step order key (DidAck k m) = tt
 next_below step order key (DidFire k) = tt
+next_below step order key (DidSettle k own) = tt
 
 opened_below : (h : List Done) → AllBelow (length (opened h)) (opened h)
 opened_below [] = tt

@@ -12,7 +12,7 @@ use Rattle.mmtel_call_laws.specs.Replies.{IsRepliedIn}
 use Rattle.mmtel_message.specs.Message.{Message}
 use Rattle.mmtel_message.specs.declared.messages.Start.{Start}
 use Rattle.mmtel_transaction.specs.Answers.{tkey}
-use Rattle.mmtel_transaction.specs.Calls.{Done, DidAck, DidAsk, DidBegin, DidFire, DidHear, DidReply}
+use Rattle.mmtel_transaction.specs.Calls.{Done, DidAck, DidAsk, DidBegin, DidFire, DidHear, DidReply, DidSettle}
 use Rattle.mmtel_transaction.specs.declared.words.Emit.{Emit}
 use Rattle.mmtel_transaction.specs.declared.words.Emit.TheVariants as emit
 use Rattle.mmtel_run_laws.proofs.Keyed.{HasKey, HasNoKey, IsBelow, all_below, keys, keys_grow}
@@ -24,6 +24,7 @@ IsReply k m (emit.Ask peer message) = ⊥
 IsReply k m (emit.Reply key message) = (key.0 ≡ k) × (message ≡ m)
 IsReply k m (emit.Plain peer text) = ⊥
 IsReply k m (emit.Ack key message) = ⊥
+IsReply k m (emit.Settled key own) = ⊥
 IsReply k m (emit.Arm call what at) = ⊥
 IsReply k m (emit.ArmSeat room seat what at) = ⊥
 
@@ -60,6 +61,7 @@ IsAnswered site n deeds (DidAsk p m now) = Unit {0}
 IsAnswered site n deeds (DidReply k m now) = MayReply site n deeds k m
 IsAnswered site n deeds (DidAck k m) = Unit {0}
 IsAnswered site n deeds (DidFire k) = Unit {0}
+IsAnswered site n deeds (DidSettle k own) = Unit {0}
 
 -- each reply, of the transactions that were opened before it
 abbrev pub AllAnswered : Site → List Deed → List Done → Type 0
@@ -72,6 +74,7 @@ RepliesSo P (emit.Ask peer message) = Unit {0}
 RepliesSo P (emit.Reply key message) = P key.0 message
 RepliesSo P (emit.Plain peer text) = Unit {0}
 RepliesSo P (emit.Ack key message) = Unit {0}
+RepliesSo P (emit.Settled key own) = Unit {0}
 RepliesSo P (emit.Arm call what at) = Unit {0}
 RepliesSo P (emit.ArmSeat room seat what at) = Unit {0}
 
@@ -87,6 +90,7 @@ replies_more site n m deeds (emit.Ask peer message) le a = tt
 replies_more site n m deeds (emit.Reply key message) le a = may-more site n m deeds key.0 message le a
 replies_more site n m deeds (emit.Plain peer text) le a = tt
 replies_more site n m deeds (emit.Ack key message) le a = tt
+replies_more site n m deeds (emit.Settled key own) le a = tt
 replies_more site n m deeds (emit.Arm call what at) le a = tt
 replies_more site n m deeds (emit.ArmSeat room seat what at) le a = tt
 
@@ -176,6 +180,7 @@ act-later site n deed deeds (DidAsk p message now) from a = tt
 act-later site n deed deeds (DidReply k message now) from a = may-later site n deed deeds k message from a
 act-later site n deed deeds (DidAck k message) from a = tt
 act-later site n deed deeds (DidFire k) from a = tt
+act-later site n deed deeds (DidSettle k own) from a = tt
 
 pub acts_later : (site : Site) (n : ℕ) (deed : Deed) (deeds : List Deed) (acts : List Done) → keys acts ≤ n → IsFrom n deed → AllAnswered site deeds acts → AllAnswered site (deed ∷ deeds) acts
 acts_later site n deed deeds [] le from a = tt
@@ -190,6 +195,7 @@ reply-so (emit.Ask peer message) P each = tt
 reply-so (emit.Reply key message) P each = each key.0 message (refl, refl)
 reply-so (emit.Plain peer text) P each = tt
 reply-so (emit.Ack key message) P each = tt
+reply-so (emit.Settled key own) P each = tt
 reply-so (emit.Arm call what at) P each = tt
 reply-so (emit.ArmSeat room seat what at) P each = tt
 
@@ -204,6 +210,7 @@ elsewhere-so own site n deeds (emit.Ask peer message) each is = tt
 elsewhere-so own site n deeds (emit.Reply key message) each is = inr (each key.0 is)
 elsewhere-so own site n deeds (emit.Plain peer text) each is = tt
 elsewhere-so own site n deeds (emit.Ack key message) each is = tt
+elsewhere-so own site n deeds (emit.Settled key settled) each is = tt
 elsewhere-so own site n deeds (emit.Arm call what at) each is = tt
 elsewhere-so own site n deeds (emit.ArmSeat room seat what at) each is = tt
 

@@ -47,7 +47,7 @@ use Rattle.mmtel_sheet_grammar.specs.Texts.{kept_sheet}
 use Rattle.mmtel_sheet_texts.specs.Texts.{text_at}
 use Rattle.mmtel_sheet_values.specs.declared.values.Sheet.{Sheet}
 use Rattle.mmtel_transaction.specs.Answers.{Next, fires, is_invite_of, is_merged, key_of, next_due, part_of, peer_of, says, says_due, says_opened, tkey}
-use Rattle.mmtel_transaction.specs.Calls.{DidAck, DidAsk, DidBegin, DidFire, DidHear, DidReply, Done, live, opened}
+use Rattle.mmtel_transaction.specs.Calls.{DidAck, DidAsk, DidBegin, DidFire, DidSettle, DidHear, DidReply, Done, live, opened}
 use Rattle.mmtel_transaction.specs.Heads.{head_of, is_cancel}
 use Rattle.mmtel_transaction.specs.declared.parts.Part.{Part}
 use Rattle.mmtel_transaction.specs.declared.parts.Part.TheVariants as part
@@ -187,6 +187,7 @@ module _ (d : Directory) (whole : List Happened) (own_law : (m : Message Start) 
   emit_good at (emit.Ack key message) w c g =
       acting_good d whole (DidAck key.0 message) w (to_peer at (message_text message) (peer_of key.0 (live w.acts))) c
       (peer_own (DidAck key.0 message) w.acts w.deeds message at (peer_of key.0 (live w.acts)) refl) g
+  emit_good at (emit.Settled key own) w c g = silent_good d whole (DidSettle key.0 own) w (emit_one at (emit.Settled key own) w) tt refl refl refl refl g
   emit_good at (emit.Arm call what when) w c g = record { deeds = g.deeds; acked = g.acked; rooms = g.rooms; acts = g.acts; offers = g.offers }
   emit_good at (emit.ArmSeat room seat what when) w c g = record { deeds = g.deeds; acked = g.acked; rooms = g.rooms; acts = g.acts; offers = g.offers }
 
@@ -195,6 +196,7 @@ module _ (d : Directory) (whole : List Happened) (own_law : (m : Message Start) 
   same_deeds at (emit.Reply key message) w = refl
   same_deeds at (emit.Plain peer text) w = refl
   same_deeds at (emit.Ack key message) w = refl
+  same_deeds at (emit.Settled key own) w = refl
   same_deeds at (emit.Arm call what when) w = refl
   same_deeds at (emit.ArmSeat room seat what when) w = refl
 
@@ -578,6 +580,7 @@ module _ (d : Directory) (whole : List Happened) (own_law : (m : Message Start) 
     own_acts (DidReply key m now ∷ acts) g = (own_law m g.0, own_acts acts g.1)
     own_acts (DidAck key m ∷ acts) g = (own_law m g.0, own_acts acts g.1)
     own_acts (DidFire key ∷ acts) g = (tt, own_acts acts g.1)
+    own_acts (DidSettle key own ∷ acts) g = (tt, own_acts acts g.1)
 
     pub all_own : (loaded : Texts) (fuel : ℕ) → AllAreClean d whole (after_all loaded fuel)
     all_own loaded fuel =

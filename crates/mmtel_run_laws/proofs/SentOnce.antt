@@ -1,5 +1,5 @@
--- Through a run each INVITE of a call was sent to its peer, and each has a number of its own, as long as fewer than 2^60 numbers are drawn; and numbers are drawn on.
-use Rattle.std.proofs.Common.{◌≡◌, ◌<◌, ◌≤◌, ◌^◌, ◌+◌, ℕ, zero, suc, Bool, true, false, List, [], ◌∷◌, ◌++◌, take, drop, length, Option, Some, None, Result, Ok, Err, refl, sym, cond, subst, arith, append-nil}
+-- Through a run each INVITE of a call, and what is in flight, was sent to its peer, and each has a number of its own, as long as fewer than 2^60 numbers are drawn; and numbers are drawn on.
+use Rattle.std.proofs.Common.{codes, ◌≡◌, ◌<◌, ◌≤◌, ◌^◌, ◌+◌, ℕ, zero, suc, Bool, true, false, List, [], ◌∷◌, ◌++◌, take, drop, length, Option, Some, None, Result, Ok, Err, refl, sym, cond, subst, arith, append-nil}
 use Rattle.std.specs.Prelude.{position, remove, slice_get, slice_set}
 use Rattle.mmtel_answers.specs.Said.{Said}
 use Rattle.mmtel_b2bua.specs.Entries.{busy_beside, heard_by, is_numbered, kept, sent_it}
@@ -20,7 +20,7 @@ use Rattle.mmtel_call.specs.Settled.{is_settled}
 use Rattle.mmtel_call.specs.declared.signals.Signal as calls
 use Rattle.mmtel_call.specs.declared.signals.Signal.TheVariants as of_call
 use Rattle.mmtel_call_laws.specs.Branches.Laws.{EndsSendOnce, LentCallsWereSent, OpeningsSendOnce, ReturnedCallsWereSent, SendsOnce, StepsSendOnce}
-use Rattle.mmtel_call_laws.specs.Branches.Sent.{AreNumbered, CallWasSent, Each, WasSent, asks_in}
+use Rattle.mmtel_call_laws.specs.Branches.Sent.{AreNumbered, CallWasSent, Each, WasAsked, WasSent, asks_in}
 use Rattle.mmtel_call_laws.proofs.Branches.Sending.{call_more, sent_before}
 use Rattle.mmtel_charging.specs.declared.rows.Row.{Row}
 use Rattle.mmtel_desk.specs.Desks.{fresh}
@@ -78,7 +78,7 @@ abbrev Asks : Type 0
 Asks = List (Peer × Message Start)
 
 abbrev pub EntryWasSent : Addr → Asks → Entry → Type 0
-EntryWasSent sip asks e = CallWasSent (WasSent sip asks) e.call
+EntryWasSent sip asks e = CallWasSent (WasAsked sip asks) e.call
 
 -- what is proved of the INVITEs of calls and of rooms
 pub record Once : Type 0 where
@@ -133,7 +133,7 @@ module _ (steps : StepsSendOnce) (openings : OpeningsSendOnce) (site : Site) (be
   }
 
   more : (asks : Asks) (es : List Entry) → Each (Sent before) es → Each (Sent (before ++ asks)) es
-  more asks es had = each_same (Sent before) (Sent (before ++ asks)) (λ e is. call_more (WasSent site.sip before) (WasSent site.sip (before ++ asks)) (sent_before site.sip before asks) e.call is) es had
+  more asks es had = each_same (Sent before) (Sent (before ++ asks)) (λ e is. call_more (WasAsked site.sip before) (WasAsked site.sip (before ++ asks)) (sent_before site.sip before asks) e.call is) es had
 
   put_if : (P : Entry → Type 0) (b : Bool) (at : ℕ) (es : List Entry) → Each P es → Each P (cond b (remove es at) es)
   put_if P true at es had = each_removed P es at had
@@ -255,6 +255,7 @@ emitted_asks at (emit.Ask peer m ∷ out) w = emitted_asks at out (emit_one at (
 emitted_asks at (emit.Reply key m ∷ out) w = emitted_asks at out (emit_one at (emit.Reply key m) w)
 emitted_asks at (emit.Plain peer text ∷ out) w = emitted_asks at out (emit_one at (emit.Plain peer text) w)
 emitted_asks at (emit.Ack key m ∷ out) w = emitted_asks at out (emit_one at (emit.Ack key m) w)
+emitted_asks at (emit.Settled key own ∷ out) w = emitted_asks at out (emit_one at (emit.Settled key own) w)
 emitted_asks at (emit.Arm call what when ∷ out) w = emitted_asks at out (emit_one at (emit.Arm call what when) w)
 emitted_asks at (emit.ArmSeat room seat what when ∷ out) w = emitted_asks at out (emit_one at (emit.ArmSeat room seat what when) w)
 
@@ -264,6 +265,7 @@ emitted_drawn at (emit.Ask peer m ∷ out) w = emitted_drawn at out (emit_one at
 emitted_drawn at (emit.Reply key m ∷ out) w = emitted_drawn at out (emit_one at (emit.Reply key m) w)
 emitted_drawn at (emit.Plain peer text ∷ out) w = emitted_drawn at out (emit_one at (emit.Plain peer text) w)
 emitted_drawn at (emit.Ack key m ∷ out) w = emitted_drawn at out (emit_one at (emit.Ack key m) w)
+emitted_drawn at (emit.Settled key own ∷ out) w = emitted_drawn at out (emit_one at (emit.Settled key own) w)
 emitted_drawn at (emit.Arm call what when ∷ out) w = emitted_drawn at out (emit_one at (emit.Arm call what when) w)
 emitted_drawn at (emit.ArmSeat room seat what when ∷ out) w = emitted_drawn at out (emit_one at (emit.ArmSeat room seat what when) w)
 
@@ -273,6 +275,7 @@ emitted_rooms at (emit.Ask peer m ∷ out) w = emitted_rooms at out (emit_one at
 emitted_rooms at (emit.Reply key m ∷ out) w = emitted_rooms at out (emit_one at (emit.Reply key m) w)
 emitted_rooms at (emit.Plain peer text ∷ out) w = emitted_rooms at out (emit_one at (emit.Plain peer text) w)
 emitted_rooms at (emit.Ack key m ∷ out) w = emitted_rooms at out (emit_one at (emit.Ack key m) w)
+emitted_rooms at (emit.Settled key own ∷ out) w = emitted_rooms at out (emit_one at (emit.Settled key own) w)
 emitted_rooms at (emit.Arm call what when ∷ out) w = emitted_rooms at out (emit_one at (emit.Arm call what when) w)
 emitted_rooms at (emit.ArmSeat room seat what when ∷ out) w = emitted_rooms at out (emit_one at (emit.ArmSeat room seat what when) w)
 
@@ -282,6 +285,7 @@ emitted_deeds at (emit.Ask peer m ∷ out) w = emitted_deeds at out (emit_one at
 emitted_deeds at (emit.Reply key m ∷ out) w = emitted_deeds at out (emit_one at (emit.Reply key m) w)
 emitted_deeds at (emit.Plain peer text ∷ out) w = emitted_deeds at out (emit_one at (emit.Plain peer text) w)
 emitted_deeds at (emit.Ack key m ∷ out) w = emitted_deeds at out (emit_one at (emit.Ack key m) w)
+emitted_deeds at (emit.Settled key own ∷ out) w = emitted_deeds at out (emit_one at (emit.Settled key own) w)
 emitted_deeds at (emit.Arm call what when ∷ out) w = emitted_deeds at out (emit_one at (emit.Arm call what when) w)
 emitted_deeds at (emit.ArmSeat room seat what when ∷ out) w = emitted_deeds at out (emit_one at (emit.ArmSeat room seat what when) w)
 
@@ -323,8 +327,8 @@ module _ (d : Directory) (token : List ℕ) where
   }
 
   -- what was asked before, and what is asked now
-  sent_now : (asks : Asks) (out : List Emit) (branch : List ℕ) (peer : Peer) → WasSent d.sip (asks ++ asks_in out) branch peer → WasSent d.sip (asks_after out asks) branch peer
-  sent_now asks out branch peer was = sent_after d.sip branch peer out asks (sent_parted d.sip branch peer asks (asks_in out) was)
+  sent_now : (asks : Asks) (out : List Emit) (method branch : List ℕ) (peer : Peer) → WasAsked d.sip (asks ++ asks_in out) method branch peer → WasAsked d.sip (asks_after out asks) method branch peer
+  sent_now asks out method branch peer was = sent_after d.sip method branch peer out asks (sent_parted d.sip method branch peer asks (asks_in out) was)
 
   module _ (once : Once) where
     -- a deed on the calls, by which this goes out
@@ -348,10 +352,10 @@ module _ (d : Directory) (token : List ℕ) where
       now : Holds w → AreSent (asks_after desk.out asks) desk.tokens.drawn (Drops (length desk.rows) ∷ deed ∷ w.deeds) w.rooms
       now had = record {
         calls_sent = each_same (EntryWasSent d.sip (asks ++ asks_in desk.out)) (EntryWasSent d.sip (asks_after desk.out asks))
-            (λ e is. call_more (WasSent d.sip (asks ++ asks_in desk.out)) (WasSent d.sip (asks_after desk.out asks)) (λ branch peer was. sent_now asks desk.out branch peer was) e.call is)
+            (λ e is. call_more (WasAsked d.sip (asks ++ asks_in desk.out)) (WasAsked d.sip (asks_after desk.out asks)) (sent_now asks desk.out) e.call is)
             (table_after (site_of d) (deed ∷ w.deeds)).entries (well had).calls_in;
         rooms_sent = table_more (WasSent d.sip asks) (WasSent d.sip (asks_after desk.out asks))
-            (λ branch peer was. sent_now asks desk.out branch peer (sent_before d.sip asks (asks_in desk.out) branch peer was)) (rooms.table_after (rooms_site d) w.rooms) had.rooms_sent;
+            (λ branch peer was. sent_now asks desk.out (codes "INVITE") branch peer (sent_before d.sip asks (asks_in desk.out) (codes "INVITE") branch peer was)) (rooms.table_after (rooms_site d) w.rooms) had.rooms_sent;
         numbered = λ less.
             let are = (well had).out_in less in
             let on : w.drawn ≤ desk.tokens.drawn = numbers_on d.sip token w.drawn desk.tokens.drawn desk.out are in
@@ -416,11 +420,11 @@ module _ (d : Directory) (token : List ℕ) where
       room_now : Holds w → AreSent (asks_after out_desk.out room_asks) out_desk.tokens.drawn w.deeds (rooms.Drops (length out_desk.rows) ∷ deed ∷ w.rooms)
       room_now had = record {
         calls_sent = each_same (EntryWasSent d.sip room_asks) (EntryWasSent d.sip (asks_after out_desk.out room_asks))
-            (λ e is. call_more (WasSent d.sip room_asks) (WasSent d.sip (asks_after out_desk.out room_asks))
-            (λ branch peer was. sent_now room_asks out_desk.out branch peer (sent_before d.sip room_asks (asks_in out_desk.out) branch peer was)) e.call is)
+            (λ e is. call_more (WasAsked d.sip room_asks) (WasAsked d.sip (asks_after out_desk.out room_asks))
+            (λ method branch peer was. sent_now room_asks out_desk.out method branch peer (sent_before d.sip room_asks (asks_in out_desk.out) method branch peer was)) e.call is)
             (calls_in d w).entries had.calls_sent;
         rooms_sent =
-            let all = table_more (WasSent d.sip (room_asks ++ asks_in out_desk.out)) (WasSent d.sip (asks_after out_desk.out room_asks)) (λ branch peer was. sent_now room_asks out_desk.out branch peer was)
+            let all = table_more (WasSent d.sip (room_asks ++ asks_in out_desk.out)) (WasSent d.sip (asks_after out_desk.out room_asks)) (sent_now room_asks out_desk.out (codes "INVITE"))
             (rooms.table_after (rooms_site d) (deed ∷ w.rooms)) (sends had).rooms_in in
             record { live_in = all.live_in; loose_in = all.loose_in };
         numbered = λ less.

@@ -15,7 +15,7 @@ use Rattle.mmtel_call.specs.declared.calls.Stage.TheVariants.{Answered, Asking, 
 use Rattle.mmtel_call.specs.Answered.{leg_of}
 use Rattle.mmtel_call.specs.declared.signals.Signal.TheVariants as of_call
 use Rattle.mmtel_call_laws.specs.Secret.Common.{MessagesAreWhole}
-use Rattle.mmtel_call_laws.specs.Secret.Premises.{IsAnswer, IsAsked}
+use Rattle.mmtel_call_laws.specs.Secret.Premises.{IsAnswer, IsAsked, goes_across}
 use Rattle.mmtel_call_laws.specs.Secret.Roles.{Role, hides, opening_role}
 use Rattle.mmtel_call_laws.specs.Secret.Seen.{Trust, trust_of}
 use Rattle.mmtel_call_laws.specs.Secret.Table.{FitsIn, SentIn}
@@ -48,7 +48,7 @@ use Rattle.mmtel_run.specs.Rooms.{OfCalls, OfRooms, Whose, calls_or_rooms, is_of
 use Rattle.mmtel_run.specs.World.{World, calls_in, rooms_in}
 use Rattle.mmtel_run_laws.specs.Alike.{InviteIsTied, IsOfOne, MessageIsTied, SeatAnswerIsTied}
 use Rattle.mmtel_run_laws.specs.Belonging.{answer_role, answer_role_by, answered_role, asked_at, asked_in, comes_from, dialog_role, hides_caller, is_opening, loose_at, named_role, of_invite, of_loose, of_seat, request_role_of, response_role_of, role_as, role_in_answer, role_in_seat_answer, role_of, seat_answer_role, seat_asked, unshown_request}
-use Rattle.mmtel_run_laws.proofs.CourseKinds.{answer_response, named_tagged}
+use Rattle.mmtel_run_laws.proofs.CourseKinds.{ack_taken, answer_response, named_tagged, no_ack_across}
 use Rattle.mmtel_run_laws.proofs.Emitting.{Knows}
 use Rattle.mmtel_run_laws.proofs.Fits.{answer_by, both_own, entry_found, is_answer, request_fits, true_false}
 
@@ -75,8 +75,8 @@ module _ (wholes : MessagesAreWhole) (d : Directory) (keys : TKey → Bool) (x :
   unfolding role_of
   role_is t p = ap (role_as x u m) p
 
-  dialog_is : (c : CallNo × Side) → named_by m.heard entries ≡ Some c → dialog_role x u m ≡ request_role_of c.1 m (entry_of c.0.0 entries)
-  dialog_is c named = ap (λ (o : Option (CallNo × Side)). named_role m entries o) named
+  dialog_is : (c : CallNo × Side) → named_by m.heard entries ≡ Some c → dialog_role x u m ≡ request_role_of x.reliable c.1 m (entry_of c.0.0 entries)
+  dialog_is c named = ap (λ (o : Option (CallNo × Side)). named_role x.reliable m entries o) named
 
   abbrev fresh_by : (opens cancels : Bool) → Role
   fresh_by opens cancels = if opens then opening_role (hides_caller x u m.heard) else if cancels then unshown_request else dialog_role x u m
@@ -84,17 +84,17 @@ module _ (wholes : MessagesAreWhole) (d : Directory) (keys : TKey → Bool) (x :
   -- a request that is fresh, and no CANCEL
   fresh_is : (c : CallNo × Side) → part_of (head_of (message_in m.heard)) (live u.acts) ≡ part.Fresh → is_cancel (head_of (message_in m.heard)) ≡ false →
       named_by m.heard entries ≡ Some c
-      → role_of x u m ≡ request_role_of c.1 m (entry_of c.0.0 entries)
+      → role_of x u m ≡ request_role_of x.reliable c.1 m (entry_of c.0.0 entries)
   fresh_is c p other named =
       role_is part.Fresh p
       ∙ (ap (λ (b : Bool). fresh_by b (is_cancel (head_of (message_in m.heard)))) (named_tagged m.heard entries c named)
       ∙ (ap (fresh_by false) other ∙ dialog_is c named))
 
   pub request_hears : (c : CallNo × Side) (key : TKey) → part_of (head_of (message_in m.heard)) (live u.acts) ≡ part.Fresh → is_cancel (head_of (message_in m.heard)) ≡ false →
-      named_by m.heard entries ≡ Some c → IsAsked S key m
+      named_by m.heard entries ≡ Some c → (x.reliable ≡ false → goes_across c.1 m ≡ false) → IsAsked S key m
       → CallHears S (is_numbered c.0.0) (of_call.Request c.1 key m) (role_of x u m) entries
-  request_hears c key p other named asked place i q g =
-      (asked, subst (λ (r : Role). FitsIn i.call.phase i.call c.1 m r) (sym (fresh_is c p other named)) (request_fits c.0.0 place c.1 m i entries q g))
+  request_hears c key p other named off asked place i q g =
+      (asked, subst (λ (r : Role). FitsIn i.call.phase i.call c.1 m r) (sym (fresh_is c p other named)) (request_fits x.reliable c.0.0 place c.1 m i entries off q g))
 
   pub opening_is : part_of (head_of (message_in m.heard)) (live u.acts) ≡ part.Fresh → is_opening m.heard ≡ true → role_of x u m ≡ opening_role (hides_caller x u m.heard)
   opening_is p opens =
@@ -104,7 +104,8 @@ module _ (wholes : MessagesAreWhole) (d : Directory) (keys : TKey → Bool) (x :
   pub ack_hears : (c : CallNo × Side) → part_of (head_of (message_in m.heard)) (live u.acts) ≡ part.AckOf2xx → named_by m.heard entries ≡ Some c →
       CallHears S (is_numbered c.0.0) (of_call.Ack c.1 m) (role_of x u m) entries
   ack_hears c p named place i q g = (
-    subst (λ (r : Role). FitsIn i.call.phase i.call c.1 m r) (sym (role_is part.AckOf2xx p ∙ dialog_is c named)) (request_fits c.0.0 place c.1 m i entries q g),
+    subst (λ (r : Role). FitsIn i.call.phase i.call c.1 m r) (sym (role_is part.AckOf2xx p ∙ dialog_is c named))
+        (request_fits x.reliable c.0.0 place c.1 m i entries (λ off. no_ack_across c.1 m (ack_taken (message_in m.heard) (live u.acts) p)) q g),
     sent_any (trust_of (site_of x) (λ key. false)) S (λ peer. sym (same peer)) i.call.phase i.call c.1 m (tied.ack c.0.0 c.1 i named (entry_found c.0.0 place i entries q g)),
   )
 

@@ -3,6 +3,7 @@ use Rattle.std.proofs.Common.{◌≡◌, ℕ, Bool, true, false, List, [], ap, s
 use Rattle.mmtel_answers.specs.Answers.{own_reply}
 use Rattle.mmtel_answers.specs.Said.{Said}
 use Rattle.mmtel_b2bua.specs.declared.entries.Entry.{Entry}
+use Rattle.mmtel_call_laws.proofs.Secret.Numbers.{number_same}
 use Rattle.mmtel_call_laws.specs.Secret.Parts.{public_dialog_by, public_leg}
 use Rattle.mmtel_call_laws.specs.Secret.Roles.{Role, hidden_by, private_places, without_private}
 use Rattle.mmtel_directory.specs.declared.directories.Directory.{Directory}
@@ -18,9 +19,10 @@ use Rattle.mmtel_message.specs.Addresses.{contact_text}
 use Rattle.mmtel_message.specs.Faults.{is_request}
 use Rattle.mmtel_message.specs.Message.{Line}
 use Rattle.mmtel_message.specs.Responses.{Reply, response}
+use Rattle.mmtel_message.specs.declared.messages.Start.{Start}
 use Rattle.mmtel_parties.specs.Parties.{believed_user, parties_by, parties_of, registration_by, sides_of, target_from}
 use Rattle.mmtel_parties.specs.declared.parties.Parties.{Parties}
-use Rattle.mmtel_transaction.specs.Heads.{head_of}
+use Rattle.mmtel_transaction.specs.Heads.{head_of, reliable_number}
 use Rattle.mmtel_trust.proofs.Masked.{hidden_once}
 use Rattle.mmtel_trust.specs.Digest.{HeardMessage, caller_account}
 use Rattle.mmtel_trust.specs.Mask.{Places, hide_if, masked_lines, places_in}
@@ -144,6 +146,14 @@ module _ (heads : HeardAlikeHaveOneHead) (responses : AlikeResponsesHaveOneHead)
         ∙ (reply_by m.heard.trusted n.heard.trusted (private_places r m.heard) (private_places s n.heard) m.heard n.heard (own_reply (contact_text e.sip) m.source tag answer.code [] answer.named [])
         trusted_same (ap (λ (x : Said). x.heard) same) request
         ∙ ap (λ (x : Addr). head_of (response n.heard.start n.heard.lines (own_reply (contact_text e.sip) x tag answer.code [] answer.named []))) source_same)
+
+    -- none of them is a reliable one by what it has of the request
+    pub reply_number : (tag : List ℕ) (answer : Answer) → reliable_number (response_to d.sip tag m answer) ≡ reliable_number (response_to e.sip tag n answer)
+    reply_number tag answer =
+        ap (λ (x : Addr). reliable_number (response_to x tag m answer)) equal.sip
+        ∙ (ap (λ (x : Start). reliable_number (response x m.heard.lines (own_reply (contact_text e.sip) m.source tag answer.code [] answer.named []))) start_same
+        ∙ (number_same n.heard.start m.heard.lines n.heard.lines (own_reply (contact_text e.sip) m.source tag answer.code [] answer.named []) [] [] refl
+        ∙ ap (λ (x : Addr). reliable_number (response n.heard.start n.heard.lines (own_reply (contact_text e.sip) x tag answer.code [] answer.named []))) source_same))
 
     pub reply_whole : (tag : List ℕ) (answer : Answer) → m.heard.trusted ≡ false → response_to d.sip tag m answer ≡ response_to e.sip tag n answer
     reply_whole tag answer strange = ap (λ (x : Addr). response_to x tag m answer) equal.sip ∙ ap (λ (x : Said). response_to e.sip tag x answer) (one_said strange)

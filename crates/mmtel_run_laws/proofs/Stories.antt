@@ -4,7 +4,7 @@ use Rattle.mmtel_b2bua_laws.specs.Known.{outcome_after}
 use Rattle.mmtel_b2bua_laws.specs.Lives.{Event, call_after}
 use Rattle.mmtel_b2bua_laws.proofs.Living.{Beside, lived_beside, quiet}
 use Rattle.mmtel_call_decisions.specs.Opening.{received_list}
-use Rattle.mmtel_call.specs.Table.{step}
+use Rattle.mmtel_call.specs.Table.{row, step}
 use Rattle.mmtel_call.specs.declared.calls.Call.{Call}
 use Rattle.mmtel_call_laws.specs.GoingOn.{CallsGoOn}
 use Rattle.mmtel_call_laws.specs.Known as story_known
@@ -36,7 +36,7 @@ drop-all (x ∷ xs) = drop-all xs
 
 -- a signal that says nothing
 quiet-none : (s : Start) (x : Heard) (c : Call) → own_notices s (quiet x) (added x.desk.out (next_step s (quiet x) c).desk.out) ≡ []
-unfolding step
+unfolding step row
 quiet-none s x c = none-own s (quiet x) (added x.desk.out x.desk.out) (ap (notices_in s.arrival.key) (drop-all x.desk.out))
 
 no-more : (notices more : List (Message StartLine)) → more ≡ [] → notices ++ more ≡ notices

@@ -11,9 +11,9 @@ use Rattle.mmtel_b2bua_laws.specs.Signals.{public_signal}
 use Rattle.mmtel_desk.specs.Invites.{answers_awaited, branch_in, invite_answered}
 use Rattle.mmtel_call_laws.specs.Secret.Common.{MessagesAreWhole}
 use Rattle.mmtel_call_laws.specs.Secret.Parts.{nobody}
-use Rattle.mmtel_call_laws.specs.Secret.Premises.{DecideAlike, IsAsked}
+use Rattle.mmtel_call_laws.specs.Secret.Premises.{DecideAlike, IsAsked, goes_across}
 use Rattle.mmtel_call_laws.specs.Secret.Roles.{Plain, Role, without_private}
-use Rattle.mmtel_call_laws.specs.Secret.Seen.{Acked, Armed, Asked, Replied, Seen, Sent, Trust, seen, seen_all, trust_of}
+use Rattle.mmtel_call_laws.specs.Secret.Seen.{Acked, Armed, Asked, Replied, Seen, Sent, Settled, Trust, seen, seen_all, trust_of}
 use Rattle.mmtel_directory.specs.declared.directories.Directory.{Directory}
 use Rattle.mmtel_focus.specs.Histories as rooms
 use Rattle.mmtel_focus.specs.Histories.{coming}
@@ -44,7 +44,7 @@ use Rattle.mmtel_sheet_values.specs.declared.values.Sheet.{Sheet}
 use Rattle.mmtel_transaction.specs.Alike.{Alike, TextsDecideNothing, blank_given, blank_if}
 use Rattle.mmtel_transaction.specs.Answers.{by_key, gives_again, is_invite_of, is_merged, key_of, part_of, peer_of, says, says_opened, then_gives, tkey}
 use Rattle.mmtel_transaction.specs.Calls.{DidHear, Done, live, opened}
-use Rattle.mmtel_transaction.specs.Heads.{head_of, head_with, is_cancel}
+use Rattle.mmtel_transaction.specs.Heads.{head_of, head_with, is_cancel, reliable_number}
 use Rattle.mmtel_transaction.specs.OnePeer.{NewPeers}
 use Rattle.mmtel_transaction.specs.Tokens.{Drawn}
 use Rattle.mmtel_transaction.specs.declared.heads.Head.{Head}
@@ -76,13 +76,13 @@ use Rattle.mmtel_run_laws.specs.Belonging.{is_opening, role_of}
 use Rattle.mmtel_run_laws.specs.Mask.{Tests, asked_by as asked_in, tests_beside, tests_of}
 use Rattle.mmtel_run_laws.proofs.Adopting.{access_same, find_same, replacing-alike}
 use Rattle.mmtel_run_laws.proofs.Callers.{decide-alike}
-use Rattle.mmtel_run_laws.proofs.CourseKinds.{enters_named, fresh_request, of_call, opens, opens_opening}
+use Rattle.mmtel_run_laws.proofs.CourseKinds.{enters_named, fresh_request, known_across, of_call, opens, opens_opening}
 use Rattle.mmtel_run_laws.proofs.Deeds.{Laws, Says, bare, branches_alike, housed-alike, lodging-alike, seated-alike, seen-alike, signalled-alike, tables_alike, tokens_same}
 use Rattle.mmtel_run_laws.proofs.Emitting.{Knows, Pair, acting-alike, drawing-alike, offering-alike, one_offer, plain-alike, reply-alike}
 use Rattle.mmtel_run_laws.proofs.Fits.{true_false}
 use Rattle.mmtel_run_laws.proofs.Growing.{answering_before, replacing_before}
 use Rattle.mmtel_run_laws.proofs.Sides.{ack_hears, answer_hears, opening_is, request_hears, seat_hears}
-use Rattle.mmtel_run_laws.proofs.Speaking.{decided_same, head_same, leg_same, named_same, parties_same, peer_same, refer_same, registered_same, reply_head, reply_whole, seated_same, start_same, tag_same}
+use Rattle.mmtel_run_laws.proofs.Speaking.{decided_same, head_same, leg_same, named_same, parties_same, peer_same, refer_same, registered_same, reply_head, reply_number, reply_whole, seated_same, start_same, tag_same}
 use Rattle.mmtel_run_laws.proofs.Testing.{tests_same}
 
 -- what is proved below
@@ -114,9 +114,10 @@ head_status m = status_in m.start (five_at m.lines)
 
 abbrev accepts_seen : Seen → Bool
 accepts_seen (Asked p h x) = false
-accepts_seen (Replied key h x) = h.status == 202
+accepts_seen (Replied key h number x) = h.status == 202
 accepts_seen (Sent p x) = false
 accepts_seen (Acked key x) = false
+accepts_seen (Settled key own) = false
 accepts_seen (Armed x) = false
 
 abbrev first_accepts : List Seen → Bool
@@ -128,6 +129,7 @@ accepts_is t (emit.Ask p m) = refl
 accepts_is t (emit.Reply key m) = ap (λ (n : ℕ). n == 202) (head_status m)
 accepts_is t (emit.Plain p x) = refl
 accepts_is t (emit.Ack key m) = refl
+accepts_is t (emit.Settled key own) = refl
 accepts_is t (emit.Arm call what when) = refl
 accepts_is t (emit.ArmSeat room seat what when) = refl
 
@@ -246,6 +248,7 @@ module _ (below : Below) (records : List Sheet) (d e : Directory) (token : List 
         let t : List ℕ = tag_for token x.drawn m.heard.to_tag in
         reply-alike below.texts records d e keys K older knows at key (response_to d.sip t m answer) (response_to e.sip (tag_for token y.drawn n.heard.to_tag) n answer) _ _
         (reply_head below.heads below.responses below.kin d e sites.equal m n r s same t answer request ∙ ap (λ (z : List ℕ). head_of (response_to e.sip z n answer)) tag)
+        (reply_number below.heads below.responses below.kin d e sites.equal m n r s same t answer ∙ ap (λ (z : List ℕ). reliable_number (response_to e.sip z n answer)) tag)
         (λ q is strange. ap message_text (reply_whole below.heads below.responses below.kin d e sites.equal m n r s same t answer (strange_one q (of_peer q is) strange) ∙ ap (λ (z : List ℕ). response_to e.sip z n answer) tag))
         (drawing-alike below.texts records d e keys K older knows (tags_due m.heard.to_tag) (tags_due n.heard.to_tag) x y (ap tags_due tags) b)
 
@@ -286,13 +289,14 @@ module _ (below : Below) (records : List Sheet) (d e : Directory) (token : List 
     request_says : (c : CallNo × Side) (key : TKey) (x y : World) → IsAsked S key m → IsAsked S key n → part_of (head_of M) (live v.acts) ≡ part.Fresh →
         part_of (head_of N) (live w.acts) ≡ part.Fresh
         → is_cancel (head_of M) ≡ false → is_cancel (head_of N) ≡ false → named_by m.heard (calls_in d v).entries ≡ Some c → named_by n.heard (calls_in e w).entries ≡ Some c
+        → (d.reliable ≡ false → goes_across c.1 m ≡ false) → (e.reliable ≡ false → goes_across c.1 n ≡ false)
         → Says below.texts below.tables below.told below.laws records d e token keys sites K older knows at (signal.Request c.0 c.1 key m) (signal.Request c.0 c.1 key n) r s (record v { acts = x.acts }) (record w { acts = y.acts })
-    request_says c key x y asked asked_too p q i j one two = record {
+    request_says c key x y asked asked_too p q i j one two off off_too = record {
       said = ap (λ (z : Said). signal.Request c.0 c.1 key z) same;
       callers = λ who second f g. absurd (none_said who f);
       looks = tt;
-      first = request_hears below.wholes d keys d (λ peer. refl) v knows_one m told_one tied c key p i one asked;
-      second = request_hears below.wholes d keys e trusts_same w (knows w.acts kw) n told_two tied_too c key q j two asked_too;
+      first = request_hears below.wholes d keys d (λ peer. refl) v knows_one m told_one tied c key p i one off asked;
+      second = request_hears below.wholes d keys e trusts_same w (knows w.acts kw) n told_two tied_too c key q j two off_too asked_too;
       asks = asked;
       asks_too = asked_too;
     }
@@ -407,6 +411,7 @@ module _ (below : Below) (records : List Sheet) (d e : Directory) (token : List 
       turned_away-alike tag code u z its c =
           reply-alike below.texts records d e keys K older knows at key (response_to d.sip tag m (plainly code)) (response_to e.sip tag n (plainly code)) u z
           (reply_head below.heads below.responses below.kin d e sites.equal m n r s same tag (plainly code) request)
+          (reply_number below.heads below.responses below.kin d e sites.equal m n r s same tag (plainly code))
           (λ q is strange. ap message_text (reply_whole below.heads below.responses below.kin d e sites.equal m n r s same tag (plainly code) (strange_one q (its q is) strange))) c
 
       abbrev comings : (tag : List ℕ) → Option Account → Drawn → both.Comings
@@ -507,7 +512,8 @@ module _ (below : Below) (records : List Sheet) (d e : Directory) (token : List 
           signalled-alike below.texts below.tables below.told below.laws records d e token keys sites K older knows at (signal.Request call side key m) (signal.Request call side key n) r s v1 w1 b
           (request_says (call, side) key x y asked asked_too p q i j
           (of_call (seat_by m.heard (rooms_in d v).live) (named_by m.heard (calls_in d v).entries) (call, side) (enters_named d merged full hold_one m.heard (InCall call side) f))
-          (of_call (seat_by n.heard (rooms_in e w).live) (named_by n.heard (calls_in e w).entries) (call, side) (enters_named e other some hold_two n.heard (InCall call side) g))) k
+          (of_call (seat_by n.heard (rooms_in e w).live) (named_by n.heard (calls_in e w).entries) (call, side) (enters_named e other some hold_two n.heard (InCall call side) g))
+          (known_across d merged full hold_one side m (InCall call side) f) (known_across e other some hold_two side n (InCall call side) g)) k
       taking-alike (EnterRoom room seat) merged other full some i j f g k = entering_room-alike room seat k
       taking-alike Open merged other full some i j f g k =
           signalled-alike below.texts below.tables below.told below.laws records d e token keys sites K older knows at (arrived d.names.accounts key m) (arrived e.names.accounts key n) r s v1 w1 b

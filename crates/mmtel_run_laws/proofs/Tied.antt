@@ -18,7 +18,7 @@ use Rattle.mmtel_call.specs.declared.calls.Phase.{Phase}
 use Rattle.mmtel_call.specs.declared.calls.Phase.TheVariants.{Lent, Offered, Over, Stood}
 use Rattle.mmtel_call.specs.declared.calls.Stage.{Stage}
 use Rattle.mmtel_call.specs.declared.calls.Stage.TheVariants.{Answered, Asking, Parting, Talking}
-use Rattle.mmtel_call_laws.specs.Branches.Sent.{CallWasSent, Each, InvitationWasSent, LooseWasSent, PhaseWasSent, StageWasSent, TakenWasSent, WasSent}
+use Rattle.mmtel_call_laws.specs.Branches.Sent.{CallWasSent, Each, InvitationWasSent, LooseWasSent, PhaseWasSent, StageWasSent, TakenWasSent, WasAsked, WasSent}
 use Rattle.mmtel_call_laws.specs.Secret.Seen.{trust_of}
 use Rattle.mmtel_call_laws.specs.Secret.Table.{SentIn}
 use Rattle.mmtel_desk.specs.Loose.{is_of}
@@ -135,7 +135,7 @@ module _ (differ : TokensDiffer) (owners : OwnersAreLive)
     one_peer : (branch : List ℕ) (one other : Peer) → Went branch one → Was branch other → one ≡ other
     one_peer branch one other is too = sent_once d.sip token differ (suc w.drawn) (asks_of w.acts) branch one other (omega (arith, early)) (had.numbered early) is (went branch other too)
 
-    entry_sent : (at : ℕ) (e : Entry) → slice_get (calls_in d w).entries at ≡ Some e → CallWasSent Was e.call
+    entry_sent : (at : ℕ) (e : Entry) → slice_get (calls_in d w).entries at ≡ Some e → CallWasSent (WasAsked d.sip (asks_of w.acts)) e.call
     entry_sent at e got = each_at (EntryWasSent d.sip (asks_of w.acts)) (calls_in d w).entries at e had.calls_sent got
 
     -- a response
@@ -151,7 +151,7 @@ module _ (differ : TokensDiffer) (owners : OwnersAreLive)
           let says = answers fives vias cseqs m branch is answered response in
           let was = answer_sent d.sip token read.source read.port read.text owners (suc w.drawn) w.acts n branch key (omega (arith, early)) (had.numbered early) of_n (head_request n ∙ response) says.0 says.1 in
           let c : Call = e.call in
-          let sent : CallWasSent Was c = entry_sent at e got in
+          let sent : CallWasSent (WasAsked d.sip (asks_of w.acts)) c = entry_sent at e got in
           record {
             awaited = λ i now cur. tie key was.0 was.1 branch was.2 i.dialogue.peer
                 (with_branch Was i.branch branch i.dialogue.peer (sym (ap (is_branch branch) cur) ∙ now) (current_sent Was c.phase i sent.phase_in cur));
@@ -210,7 +210,7 @@ module _ (differ : TokensDiffer) (owners : OwnersAreLive)
 
     ack_tied : (m : Said) → AckIsTied d w m
     ack_tied m call side e named found =
-        let sent : CallWasSent Was e.call = entry_in (EntryWasSent d.sip (asks_of w.acts)) (place_of call (calls_in d w).entries) (calls_in d w).entries e had.calls_sent found in
+        let sent : CallWasSent (WasAsked d.sip (asks_of w.acts)) e.call = entry_in (EntryWasSent d.sip (asks_of w.acts)) (place_of call (calls_in d w).entries) (calls_in d w).entries e had.calls_sent found in
         ack_in e.call.phase e.call side m sent.phase_in sent.others_in.taken_in
 
     -- what was read of a digest

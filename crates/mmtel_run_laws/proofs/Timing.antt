@@ -79,6 +79,7 @@ module _ (at : ℕ) where
   emit_at (emit.Reply key message) w = offered_at w _ _ refl refl refl (to_peer_at (message_text message) (peer_of key.0 (live w.acts)))
   emit_at (emit.Plain peer text) w = offered_at w _ _ refl refl refl (refl, tt)
   emit_at (emit.Ack key message) w = offered_at w _ _ refl refl refl (to_peer_at (message_text message) (peer_of key.0 (live w.acts)))
+  emit_at (emit.Settled key own) w = quiet w _ refl refl refl
   emit_at (emit.Arm call what when) w = quiet w _ refl refl refl
   emit_at (emit.ArmSeat room seat what when) w = quiet w _ refl refl refl
 

@@ -1,7 +1,7 @@
 -- The texts that transactions keep, and send again, are those of requests and responses that were built.
 use Rattle.std.proofs.Common.{◌≡◌, ℕ, zero, suc, ◌+◌, ◌==◌, Bool, true, false, not, ◌&&◌, ◌||◌, List, [], ◌∷◌, ◌++◌, length, Option, Some, None, inl, inr, refl, sym, ap, ◌∙◌, subst, IfSome, map, cond, arith}
-use Rattle.std.specs.Prelude.{if◌then◌else◌, nat_lt, nat_le, filter, find, is_some, IsSome, option_map, slice_get}
-use Rattle.std.specs.Option.{unwrap_or}
+use Rattle.std.specs.Prelude.{if◌then◌else◌, nat_lt, nat_le, filter, find, is_some, IsSome, option_map, slice_get, slice_set}
+use Rattle.std.specs.Option.{option_or, unwrap_or}
 use Rattle.std.specs.Str.{bytes_eq}
 use Rattle.std.proofs.lemmas.Bool.Decides.{nat_tests}
 use Rattle.std.proofs.lemmas.Bool.{eqb-true}
@@ -13,20 +13,23 @@ use Rattle.mmtel_call_laws.proofs.Heads.Sending.{each_append}
 use Rattle.mmtel_message.specs.Message.{Message}
 use Rattle.mmtel_message.specs.Texts.{message_text}
 use Rattle.mmtel_message.specs.declared.messages.Start.{Start}
-use Rattle.mmtel_transaction.specs.Answers.{Next, by_key, due_one, gives_again, gives_same, is_client_of, is_of, is_server_of, is_before, next_due, part_ack, part_of, part_request, part_response, says_due, sooner, text_again, then_gives, is_full}
-use Rattle.mmtel_transaction.specs.Calls.{Done, DidAck, DidAsk, DidBegin, DidFire, DidHear, DidReply, change, entry_of, heard_change, heard_opens, is_live, live, offers, opened, opens, step_of}
-use Rattle.mmtel_transaction.specs.Changes.{acked, acked_2xx, answered, finished, fired, hit, is_ack_of, kept, rang, replied}
-use Rattle.mmtel_transaction.specs.Deadlines.{deadline, ends, resend_at, resend_by}
-use Rattle.mmtel_transaction.specs.Heads.{head_of, is_ack, is_invite, is_provisional, is_refusal}
+use Rattle.mmtel_transaction.specs.Answers.{Next, by_key, due_one, gives_again, gives_same, is_client_of, is_of, is_server_of, is_before, next_due, part_ack, part_of, part_request, part_response, says_due, sooner, text_again, text_by, text_planned, then_gives, is_full}
+use Rattle.mmtel_transaction.specs.Calls.{Done, DidAck, DidAsk, DidBegin, DidFire, DidSettle, DidHear, DidReply, change, entry_of, heard_change, heard_opens, is_live, live, offers, opened, opens, step_of}
+use Rattle.mmtel_transaction.specs.Changes.{acked, acked_2xx, answer_of, answered, finished, fired, fired_by, hit, is_ack_of, kept, offered, rang, replied, resent, settled, with_answers, without_own}
+use Rattle.mmtel_transaction.specs.Deadlines.{alarm_of, at_place, deadline, ends, foremost_from, foremost_in, is_idle, is_sooner, planned_at, resend_at, resend_by, sooner_of}
+use Rattle.mmtel_transaction.specs.Heads.{head_of, is_ack, is_invite, is_provisional, is_refusal, reliable_number}
+use Rattle.mmtel_transaction.specs.declared.entries.Alarm.{Alarm}
 use Rattle.mmtel_transaction.specs.declared.entries.Entry.{Entry}
 use Rattle.mmtel_transaction.specs.declared.entries.Plan.{Plan}
 use Rattle.mmtel_transaction.specs.declared.entries.Plan.TheVariants.{Idle, Invite, Other, Slow, Final, End}
 use Rattle.mmtel_transaction.specs.declared.entries.Plan.TheVariants as plan
+use Rattle.mmtel_transaction.specs.declared.entries.ReliableAnswer.{ReliableAnswer}
 use Rattle.mmtel_transaction.specs.declared.heads.Head.{Head}
 use Rattle.mmtel_transaction.specs.declared.parts.Part.{Part}
 use Rattle.mmtel_transaction.specs.declared.parts.Part.TheVariants as part
 use Rattle.mmtel_transaction.specs.declared.words.Due.{Due}
 use Rattle.mmtel_transaction.specs.declared.words.Due.TheVariants as due
+use Rattle.mmtel_scan.specs.Chain.{◌>>=◌}
 use Rattle.mmtel_types.specs.declared.numbers.Peer.{Peer}
 use Rattle.mmtel_run_laws.specs.Clean.{Builds, IsSentIn}
 
@@ -40,6 +43,7 @@ IsGoodAct (DidAsk p m now) h = IsCleanMessage m
 IsGoodAct (DidReply key m now) h = IsCleanMessage m
 IsGoodAct (DidAck key m) h = IsCleanMessage m
 IsGoodAct (DidFire key) h = Unit {0}
+IsGoodAct (DidSettle key own) h = Unit {0}
 
 abbrev pub AreGoodActs : List Done → Type 0
 AreGoodActs [] = Unit {0}
@@ -65,11 +69,16 @@ Waits Final last = IsSome last
 Waits End last = Unit {0}
 Waits plan.Acked last = Unit {0}
 
+-- the texts of reliable answers are of these
+abbrev AreOf : (List ℕ → Type 0) → List ReliableAnswer → Type 0
+AreOf T answers = Each (λ (answer : ReliableAnswer). T answer.text) answers
+
 pub record Keeps (K : ℕ → Bool → Type 0) (T : List ℕ → Type 0) (e : Entry) : Type 0 where
   pub kind : K e.key e.is_server
   pub request : e.is_server ≡ false → T e.request
   pub last : IfSome e.last T
   pub waits : e.is_server ≡ true → Waits e.plan e.last
+  pub reliable : AreOf T e.reliable
 
 still-waits : (p : Plan) (last : Option (List ℕ)) (text : List ℕ) → Waits p last → Waits p (Some text)
 still-waits Idle last text w = tt
@@ -80,24 +89,107 @@ still-waits Final last text w = refl
 still-waits End last text w = tt
 still-waits plan.Acked last text w = tt
 
+-- ---- its reliable answers
+
+each-set : {A : Type 0} (P : A → Type 0) (xs : List A) (place : ℕ) (y : A) → P y → Each P xs → Each P (slice_set xs place y)
+each-set P [] place y is k = tt
+each-set P (x ∷ xs) zero y is k = (is, k.1)
+each-set P (x ∷ xs) (suc place) y is k = (k.0, each-set P xs place y is k.1)
+
+each-get : {A : Type 0} (P : A → Type 0) (xs : List A) (place : ℕ) (y : A) → slice_get xs place ≡ Some y → Each P xs → P y
+each-get P [] place y is k = absurd (none-some y is)
+each-get P (x ∷ xs) zero y is k = subst P (same_Some x y is) k.0
+each-get P (x ∷ xs) (suc place) y is k = each-get P xs place y is k.1
+
+-- the one that is sent again first stands there
+abbrev There : ℕ → List ReliableAnswer → ℕ × Alarm → Type 0
+There k xs f = (i : ℕ) × (f.0 ≡ k + i) × (a : ReliableAnswer) × (slice_get xs i ≡ Some a)
+
+module _ (k : ℕ) (x : ReliableAnswer) (xs : List ReliableAnswer) (f : ℕ × Alarm) (ih : (g : ℕ × Alarm) → foremost_from (suc k) xs ≡ Some g → There (suc k) xs g) where
+  it-is : (a : Alarm) → (k, a) ≡ f → There k (x ∷ xs) f
+  it-is a p = (0, omega (arith, ap (λ (z : ℕ × Alarm). z.0) p), x, refl)
+
+  behind-it : (y : ℕ × Alarm) → foremost_from (suc k) xs ≡ Some y → y ≡ f → There k (x ∷ xs) f
+  behind-it y g p = let w = ih y g in (suc w.0, omega (arith, w.1, ap (λ (z : ℕ × Alarm). z.0) p), w.2, w.3)
+
+  there-more : (o : Option Alarm) (r : Option (ℕ × Alarm)) → foremost_from (suc k) xs ≡ r → sooner_of (at_place k o) r ≡ Some f → There k (x ∷ xs) f
+  there-more None None e p = absurd (none-some f p)
+  there-more None (Some y) e p = behind-it y e (same_Some y f p)
+  there-more (Some a) None e p = it-is a (same_Some (k, a) f p)
+  there-more (Some a) (Some y) e p = go (is_sooner y.1 a) p
+    where
+      go : (b : Bool) → Some (cond b y (k, a)) ≡ Some f → There k (x ∷ xs) f
+      go true r = behind-it y e (same_Some y f r)
+      go false r = it-is a (same_Some (k, a) f r)
+
+there-from : (k : ℕ) (xs : List ReliableAnswer) (f : ℕ × Alarm) → foremost_from k xs ≡ Some f → There k xs f
+there-from k [] f q = absurd (none-some f q)
+there-from k (x ∷ xs) f q = there-more k x xs f (there-from (suc k) xs) (alarm_of x) (foremost_from (suc k) xs) refl q
+
+answer-due : (e : Entry) (f : ℕ × Alarm) → foremost_in e ≡ Some f → (a : ReliableAnswer) × (slice_get e.reliable f.0 ≡ Some a)
+answer-due e f q = go (is_idle e.plan) q
+  where
+    go : (b : Bool) → cond b (foremost_from 0 e.reliable) None ≡ Some f → (a : ReliableAnswer) × (slice_get e.reliable f.0 ≡ Some a)
+    go true r =
+        let w = there-from 0 e.reliable f r in
+        let at : f.0 ≡ w.0 = omega (arith, w.1) in
+        (w.2, ap (slice_get e.reliable) at ∙ w.3)
+    go false r = absurd (none-some f r)
+
+module _ (T : List ℕ → Type 0) where
+  abbrev IsOf : ReliableAnswer → Type 0
+  IsOf answer = T answer.text
+
+  resent-of : (step place : ℕ) (o : Option ReliableAnswer) (answers : List ReliableAnswer) → slice_get answers place ≡ o → AreOf T answers → AreOf T (resent step place o answers)
+  resent-of step place None answers is k = k
+  resent-of step place (Some answer) answers is k = each-set IsOf answers place (record answer { shots = answer.shots + 1; step = step }) (each-get IsOf answers place answer is k) k
+
+  without-of : (own : ℕ) (answers : List ReliableAnswer) → AreOf T answers → AreOf T (without_own own answers)
+  without-of own [] k = tt
+  without-of own (answer ∷ answers) k = go (not (answer.own == own)) (without-of own answers k.1)
+    where
+      go : (b : Bool) → AreOf T (without_own own answers) → AreOf T (cond b (answer ∷ without_own own answers) (without_own own answers))
+      go true rest = (k.0, rest)
+      go false rest = rest
+
+  offered-of : (o : Option ℕ) (f : ℕ → ReliableAnswer) → ((own : ℕ) → IsOf (f own)) → IfSome (option_map f o) IsOf
+  offered-of None f is = tt
+  offered-of (Some own) f is = is own
+
 module _ (K : ℕ → Bool → Type 0) (T : List ℕ → Type 0) where
   either : (b : Bool) (x y : Entry) → Keeps K T x → Keeps K T y → Keeps K T (if b then x else y)
   either true x y h g = h
   either false x y h g = g
 
   -- the same transaction, in what is kept of it
-  as-before : (e x : Entry) → x.key ≡ e.key → x.is_server ≡ e.is_server → x.request ≡ e.request → x.last ≡ e.last → x.plan ≡ e.plan → Keeps K T e → Keeps K T x
-  as-before e x key server request last plan k = record {
+  as-before : (e x : Entry) → x.key ≡ e.key → x.is_server ≡ e.is_server → x.request ≡ e.request → x.last ≡ e.last → x.plan ≡ e.plan → x.reliable ≡ e.reliable → Keeps K T e → Keeps K T x
+  as-before e x key server request last plan reliable k = record {
     kind = subst (λ (b : Bool). K x.key b) (sym server) (subst (λ (n : ℕ). K n e.is_server) (sym key) k.kind);
     request = λ s. subst T (sym request) (k.request (sym server ∙ s));
     last = subst (λ (o : Option (List ℕ)). IfSome o T) (sym last) k.last;
     waits = λ s. subst (λ (o : Option (List ℕ)). Waits x.plan o) (sym last) (subst (λ (p : Plan). Waits p e.last) (sym plan) (k.waits (sym server ∙ s)));
+    reliable = subst (AreOf T) (sym reliable) k.reliable;
   }
 
+  fired-by-keeps : (first : Option (ℕ × Alarm)) (step : ℕ) (e : Entry) → Keeps K T e → Keeps K T (fired_by first step e)
+  fired-by-keeps None step e k =
+      either (is_some (planned_at e)) (record e { shots = e.shots + 1; step = step }) (record e { is_over = true }) (as-before e _ refl refl refl refl refl refl k)
+      (as-before e _ refl refl refl refl refl refl k)
+  fired-by-keeps (Some first) step e k =
+      record { kind = k.kind; request = k.request; last = k.last; waits = k.waits; reliable = resent-of T step first.0 (slice_get e.reliable first.0) e.reliable refl k.reliable }
+
   fired-keeps : (step : ℕ) (e : Entry) → Keeps K T e → Keeps K T (fired step e)
-  fired-keeps step e k =
-      either (is_some (resend_at e)) (record e { shots = e.shots + 1; step = step }) (record e { is_over = true }) (as-before e _ refl refl refl refl refl k)
-      (as-before e _ refl refl refl refl refl k)
+  fired-keeps step e k = fired-by-keeps (foremost_in e) step e k
+
+  settled-keeps : (own : Option ℕ) (e : Entry) → Keeps K T e → Keeps K T (settled own e)
+  settled-keeps None e k = record { kind = k.kind; request = k.request; last = k.last; waits = k.waits; reliable = tt }
+  settled-keeps (Some own) e k = record { kind = k.kind; request = k.request; last = k.last; waits = k.waits; reliable = without-of T own e.reliable k.reliable }
+
+  answers-keeps : (answer : Option ReliableAnswer) (e : Entry) → IfSome answer (IsOf T) → Keeps K T e → Keeps K T (with_answers answer e)
+  answers-keeps None e is k = k
+  answers-keeps (Some answer) e is k =
+      either (not e.is_server || not (e.done == 0)) e (record e { reliable = e.reliable ++ answer ∷ [] }) k
+      (record { kind = k.kind; request = k.request; last = k.last; waits = k.waits; reliable = each_append (IsOf T) e.reliable (answer ∷ []) k.reliable (is, tt) })
 
   final-waits : (b : Bool) (text : List ℕ) → Waits (if b then Final else End) (Some text)
   final-waits true text = refl
@@ -107,38 +199,45 @@ module _ (K : ℕ → Bool → Type 0) (T : List ℕ → Type 0) where
   replied-keeps step order status text to_tag now e clean k =
       either (not e.is_server || not (e.done == 0)) e _ k
       (either (is_provisional status) (record e { last = Some text }) _
-      (record { kind = k.kind; request = k.request; last = clean; waits = λ s. still-waits e.plan e.last text (k.waits s) })
-      (record { kind = k.kind; request = k.request; last = clean; waits = λ s. final-waits (is_invite e.asked) text }))
+      (record { kind = k.kind; request = k.request; last = clean; waits = λ s. still-waits e.plan e.last text (k.waits s); reliable = k.reliable })
+      (record { kind = k.kind; request = k.request; last = clean; waits = λ s. final-waits (is_invite e.asked) text; reliable = tt }))
+
+  offered-keeps : (step order : ℕ) (m : Message Start) (now : ℕ) (e : Entry) → T (message_text m) → Keeps K T e → Keeps K T (offered step order m now e)
+  offered-keeps step order m now e clean k =
+      let answer : Option ReliableAnswer = answer_of step order m (message_text m) now in
+      replied-keeps step order (head_of m).status (message_text m) (head_of m).to_tag now (with_answers answer e) clean
+      (answers-keeps answer e (offered-of T (reliable_number m) (λ (own : ℕ). record { own = own; text = message_text m; start = now; shots = 0; step = step; order = order }) (λ own. clean)) k)
 
   kept-keeps : (text : List ℕ) (e : Entry) → T text → Keeps K T e → Keeps K T (kept text e)
   kept-keeps text e clean k =
       either (not e.is_server && e.is_refused) (record e { last = Some text }) e
-      (record { kind = k.kind; request = k.request; last = clean; waits = λ s. still-waits e.plan e.last text (k.waits s) }) k
+      (record { kind = k.kind; request = k.request; last = clean; waits = λ s. still-waits e.plan e.last text (k.waits s); reliable = k.reliable }) k
 
   acked-keeps : (step now : ℕ) (e : Entry) → Keeps K T e → Keeps K T (acked step now e)
   acked-keeps step now e k =
       either e.is_acked e (record e { is_acked = true; plan = plan.Acked; start = now; shots = 0; step = step }) k
-      (record { kind = k.kind; request = k.request; last = k.last; waits = λ s. tt })
+      (record { kind = k.kind; request = k.request; last = k.last; waits = λ s. tt; reliable = k.reliable })
 
   acked-2xx-keeps : (step : ℕ) (m : Head) (e : Entry) → Keeps K T e → Keeps K T (acked_2xx step m e)
   acked-2xx-keeps step m e k =
-      either (is_ack_of m e) (record e { is_acked = true; plan = End; step = step }) e (record { kind = k.kind; request = k.request; last = k.last; waits = λ s. tt }) k
+      either (is_ack_of m e) (record e { is_acked = true; plan = End; step = step }) e (record { kind = k.kind; request = k.request; last = k.last; waits = λ s. tt; reliable = k.reliable }) k
 
   -- a client transaction, whatever it waits for
-  client-keeps : (e x : Entry) → e.is_server ≡ false → x.key ≡ e.key → x.is_server ≡ e.is_server → x.request ≡ e.request → x.last ≡ e.last → Keeps K T e → Keeps K T x
-  client-keeps e x client key server request last k = record {
+  client-keeps : (e x : Entry) → e.is_server ≡ false → x.key ≡ e.key → x.is_server ≡ e.is_server → x.request ≡ e.request → x.last ≡ e.last → x.reliable ≡ e.reliable → Keeps K T e → Keeps K T x
+  client-keeps e x client key server request last reliable k = record {
     kind = subst (λ (b : Bool). K x.key b) (sym server) (subst (λ (n : ℕ). K n e.is_server) (sym key) k.kind);
     request = λ s. subst T (sym request) (k.request client);
     last = subst (λ (o : Option (List ℕ)). IfSome o T) (sym last) k.last;
     waits = λ s. absurd (let f : true ≡ false = sym s ∙ (server ∙ client) in cc);
+    reliable = subst (AreOf T) (sym reliable) k.reliable;
   }
 
   answered-keeps : (step status now : ℕ) (e : Entry) → e.is_server ≡ false → Keeps K T e → Keeps K T (answered step status now e)
   answered-keeps step status now e client k =
       either (is_provisional status) (rang step now e) (finished step status now e)
-      (either (e.is_early || not (e.done == 0)) e _ k (client-keeps e _ client refl refl refl refl k))
-      (either (not (is_invite e.asked)) _ _ (client-keeps e _ client refl refl refl refl k)
-      (either (not (e.done == 0)) _ _ (client-keeps e _ client refl refl refl refl k) (client-keeps e _ client refl refl refl refl k)))
+      (either (e.is_early || not (e.done == 0)) e _ k (client-keeps e _ client refl refl refl refl refl k))
+      (either (not (is_invite e.asked)) _ _ (client-keeps e _ client refl refl refl refl refl k)
+      (either (not (e.done == 0)) _ _ (client-keeps e _ client refl refl refl refl refl k) (client-keeps e _ client refl refl refl refl refl k)))
 
   hit-keeps : (key : ℕ) (f : Entry → Entry) (e : Entry) → (e.key ≡ key → Keeps K T e → Keeps K T (f e)) → Keeps K T e → Keeps K T (hit key f e)
   hit-keeps key f e each k = go (e.key == key) refl
@@ -178,16 +277,17 @@ module _ (K : ℕ → Bool → Type 0) (T : List ℕ → Type 0) where
     IsGoodChange (DidReply key m now) = T (message_text m)
     IsGoodChange (DidAck key m) = T (message_text m)
     IsGoodChange (DidFire key) = Unit {0}
+    IsGoodChange (DidSettle key own) = Unit {0}
 
     change-keeps : (step order : ℕ) (c : Done) (e : Entry) → IsGoodChange c → Keeps K T e → Keeps K T (change step order c e)
     change-keeps step order (DidBegin n) e g k = k
     change-keeps step order (DidHear p m now taken) e g k = heard-keeps step m now taken e g k
     change-keeps step order (DidAsk p m now) e g k = k
     change-keeps step order (DidReply key m now) e g k =
-        hit-keeps key (replied step order (head_of m).status (message_text m) (head_of m).to_tag now) e
-        (λ same k. replied-keeps step order (head_of m).status (message_text m) (head_of m).to_tag now e g k) k
+        hit-keeps key (offered step order m now) e (λ same k. offered-keeps step order m now e g k) k
     change-keeps step order (DidAck key m) e g k = hit-keeps key (kept (message_text m)) e (λ same k. kept-keeps (message_text m) e g k) k
     change-keeps step order (DidFire key) e g k = hit-keeps key (fired step) e (λ same k. fired-keeps step e k) k
+    change-keeps step order (DidSettle key own) e g k = hit-keeps key (settled own) e (λ same k. settled-keeps own e k) k
 
 -- ---- of which kind the transaction of a number is
 
@@ -210,7 +310,7 @@ later-kind : (c : Done) (h : List Done) (n : ℕ) (b : Bool) → Kind h n b → 
 later-kind c h n b k = (k.0, get-left (opened h) (opens (step_of h) (offers h) (length (opened h)) c) n k.0 k.1, k.2)
 
 later : (c : Done) (h : List Done) (e : Entry) → Keeps (Kind h) (IsSentIn (c ∷ h)) e → Keeps (Kind (c ∷ h)) (IsSentIn (c ∷ h)) e
-later c h e k = record { kind = later-kind c h e.key e.is_server k.kind; request = k.request; last = k.last; waits = k.waits }
+later c h e k = record { kind = later-kind c h e.key e.is_server k.kind; request = k.request; last = k.last; waits = k.waits; reliable = k.reliable }
 
 all-later : (c : Done) (h : List Done) (es : List Entry) → Each (Keeps (Kind h) (IsSentIn (c ∷ h))) es → Each (Keeps (Kind (c ∷ h)) (IsSentIn (c ∷ h))) es
 all-later c h [] k = tt
@@ -221,10 +321,14 @@ last-still : (c : Done) (h : List Done) (o : Option (List ℕ)) → IfSome o (Is
 last-still c h None k = tt
 last-still c h (Some text) k = sent_still c h text k
 
+answers-still : (c : Done) (h : List Done) (answers : List ReliableAnswer) → AreOf (IsSentIn h) answers → AreOf (IsSentIn (c ∷ h)) answers
+answers-still c h [] k = tt
+answers-still c h (answer ∷ answers) k = (sent_still c h answer.text k.0, answers-still c h answers k.1)
+
 all-still : (c : Done) (h : List Done) (es : List Entry) → Each (Keeps (Kind h) (IsSentIn h)) es → Each (Keeps (Kind h) (IsSentIn (c ∷ h))) es
 all-still c h [] k = tt
 all-still c h (e ∷ es) k =
-    (record { kind = k.0.kind; request = λ s. sent_still c h e.request (k.0.request s); last = last-still c h e.last k.0.last; waits = k.0.waits }, all-still c h es k.1)
+    (record { kind = k.0.kind; request = λ s. sent_still c h e.request (k.0.request s); last = last-still c h e.last k.0.last; waits = k.0.waits; reliable = answers-still c h e.reliable k.0.reliable }, all-still c h es k.1)
 
 -- ---- an answer is heard by a client transaction
 
@@ -306,6 +410,7 @@ good-change (DidAsk p m now) h g k = tt
 good-change (DidReply key m now) h g k = sent_now (DidReply key m now) h m refl
 good-change (DidAck key m) h g k = sent_now (DidAck key m) h m refl
 good-change (DidFire key) h g k = tt
+good-change (DidSettle key own) h g k = tt
 
 old-keep : (c : Done) (h : List Done) → IsGoodChange (Kind h) (IsSentIn (c ∷ h)) (one-kind h) c → (es : List Entry) → Each (Keeps (Kind h) (IsSentIn (c ∷ h))) es →
     Each (Keeps (Kind h) (IsSentIn (c ∷ h))) (map (entry_of h) es) → Each (Keeps (Kind h) (IsSentIn (c ∷ h))) (map (entry_of (c ∷ h)) es)
@@ -321,7 +426,7 @@ OpensKept h c new = Each (Keeps (λ n b. (x : Entry) × (slice_get (opened h ++ 
 
 server-opens : (h : List Done) (p : Peer) (m : Message Start) (now : ℕ) (taken : Part) → OpensKept h (DidHear p m now taken) (heard_opens (step_of h) (length (opened h)) p m now taken)
 server-opens h p m now part.Fresh = (
-  (record { kind = (_, get-next (opened h) _, refl); request = λ s. absurd (let f : true ≡ false = s in cc); last = tt; waits = λ s. tt }, tt),
+  (record { kind = (_, get-next (opened h) _, refl); request = λ s. absurd (let f : true ≡ false = s in cc); last = tt; waits = λ s. tt; reliable = tt }, tt),
   (refl, tt),
 )
 server-opens h p m now part.Full = (tt, tt)
@@ -336,12 +441,13 @@ new-keep : (c : Done) (h : List Done) → IsGoodAct c h → OpensKept h c (opens
 new-keep (DidBegin step) h g = (tt, tt)
 new-keep (DidHear p m now taken) h g = server-opens h p m now taken
 new-keep (DidAsk p m now) h g = (
-  (record { kind = (_, get-next (opened h) _, refl); request = λ s. sent_now (DidAsk p m now) h m refl; last = tt; waits = λ s. absurd (let f : false ≡ true = s in cc) }, tt),
+  (record { kind = (_, get-next (opened h) _, refl); request = λ s. sent_now (DidAsk p m now) h m refl; last = tt; waits = λ s. absurd (let f : false ≡ true = s in cc); reliable = tt }, tt),
   (refl, tt),
 )
 new-keep (DidReply key m now) h g = (tt, tt)
 new-keep (DidAck key m) h g = (tt, tt)
 new-keep (DidFire key) h g = (tt, tt)
+new-keep (DidSettle key own) h g = (tt, tt)
 
 not-before : (n : ℕ) → nat_lt n n ≡ false
 not-before n = grind (arith, nat_tests)
@@ -433,12 +539,23 @@ module _ (K : ℕ → Bool → Type 0) (T : List ℕ → Type 0) where
   server-text End start at shots last w s h = absurd (let f : false ≡ true = s in cc)
   server-text plan.Acked start at shots last w s h = absurd (let f : false ≡ true = s in cc)
 
-  resent-own : (e : Entry) → Keeps K T e → is_some (resend_at e) ≡ true → T (text_again e)
-  resent-own e k s = go e.is_server refl
+  planned-own : (e : Entry) → Keeps K T e → is_some (planned_at e) ≡ true → T (text_planned e)
+  planned-own e k s = go e.is_server refl
     where
       go : (b : Bool) → e.is_server ≡ b → T (if b then unwrap_or e.last [] else e.request)
       go true is = server-text e.plan e.start e.at e.shots e.last (k.waits is) s k.last
       go false is = k.request is
+
+  -- a reliable answer, where one is sent again first
+  resent-by : (e : Entry) (first : Option (ℕ × Alarm)) → foremost_in e ≡ first → Keeps K T e → is_some (option_or (option_map (λ (f : ℕ × Alarm). f.1.at) first) (planned_at e)) ≡ true →
+      T (text_by (first >>= λ (f : ℕ × Alarm). slice_get e.reliable f.0) e)
+  resent-by e None is k s = planned-own e k s
+  resent-by e (Some f) is k s =
+      let due = answer-due e f is in
+      subst (λ (o : Option ReliableAnswer). T (text_by o e)) (sym due.1) (each-get (IsOf T) e.reliable f.0 due.0 due.1 k.reliable)
+
+  resent-own : (e : Entry) → Keeps K T e → is_some (resend_at e) ≡ true → T (text_again e)
+  resent-own e k s = resent-by e (foremost_in e) refl k s
 
 abbrev pub IsOwnDue : (T : List ℕ → Type 0) → Due → Type 0
 IsOwnDue T (due.Again peer at text) = T text

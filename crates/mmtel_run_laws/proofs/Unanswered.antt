@@ -32,7 +32,7 @@ use Rattle.mmtel_message.specs.declared.messages.Start.{Start as StartLine}
 use Rattle.mmtel_message.specs.declared.messages.Start.TheVariants.{Request, Status}
 use Rattle.mmtel_precedence.specs.Calls.{NotOffered, Offer, Offered, Target}
 use Rattle.mmtel_transaction.specs.Answers.{tkey}
-use Rattle.mmtel_transaction.specs.Calls.{Done, DidAck, DidAsk, DidBegin, DidFire, DidHear, DidReply}
+use Rattle.mmtel_transaction.specs.Calls.{Done, DidAck, DidAsk, DidBegin, DidFire, DidSettle, DidHear, DidReply}
 use Rattle.mmtel_transaction.specs.Heads.{code_of, head_of, head_with, is_provisional}
 use Rattle.mmtel_transaction.specs.declared.words.Emit.{Emit}
 use Rattle.mmtel_transaction.specs.declared.words.Emit.TheVariants as emit
@@ -95,6 +95,7 @@ module _ (key : TKey) (m : Message StartLine) (final : is_provisional (status_in
       subst (λ b. HasFinal (if b then final_sign (status_in message.start) else [])) (sym (eq-eqb asked.0 key.0 is.0)) same
   sign-final (emit.Plain peer text) is = absurd is
   sign-final (emit.Ack asked message) is = absurd is
+  sign-final (emit.Settled key own) is = absurd is
   sign-final (emit.Arm call what at) is = absurd is
   sign-final (emit.ArmSeat room seat what at) is = absurd is
 
@@ -459,6 +460,7 @@ module _ (site : Site) where
   replied-in own k m (emit.Reply key message) is in_own = subst (λ j. own j ≡ true) is.0 in_own
   replied-in own k m (emit.Plain peer text) is in_own = absurd is
   replied-in own k m (emit.Ack key message) is in_own = absurd is
+  replied-in own k m (emit.Settled key settled) is in_own = absurd is
   replied-in own k m (emit.Arm call what at) is in_own = absurd is
   replied-in own k m (emit.ArmSeat room seat what at) is in_own = absurd is
 
@@ -681,6 +683,7 @@ module _ (site : Site) where
             go true false same final = absurd (may-none n k m same final a)
         act-none n (DidAck k m) a = refl
         act-none n (DidFire k) a = refl
+        act-none n (DidSettle k own) a = refl
 
         pub none_final : (acts : List Done) → AllAnswered site deeds acts → list_any (is_final_in key_in) acts ≡ false
         none_final [] a = refl

@@ -27,7 +27,7 @@ use Rattle.mmtel_message.specs.declared.messages.Start.{Start}
 use Rattle.mmtel_outside.specs.declared.events.Offer.{Offer}
 use Rattle.mmtel_outside.specs.declared.events.Offer.TheVariants as offer
 use Rattle.mmtel_transaction.specs.Answers.{Next, fires, hear_says, is_merged, next_due, part_of, says_due, text_again, tkey}
-use Rattle.mmtel_transaction.specs.Calls.{Done, DidAck, DidAsk, DidBegin, DidFire, DidHear, DidReply, live}
+use Rattle.mmtel_transaction.specs.Calls.{Done, DidAck, DidAsk, DidBegin, DidFire, DidSettle, DidHear, DidReply, live}
 use Rattle.mmtel_transaction.specs.Deadlines.{ends, resend_at}
 use Rattle.mmtel_transaction.specs.Heads.{head_of}
 use Rattle.mmtel_transaction.specs.Settling.{BeginsChangeNothing}
@@ -66,6 +66,7 @@ IsUnsent (DidAsk peer message now) = ⊥
 IsUnsent (DidReply key message now) = ⊥
 IsUnsent (DidAck key message) = ⊥
 IsUnsent (DidFire key) = Unit {0}
+IsUnsent (DidSettle key own) = Unit {0}
 
 -- what is asked of a relation of the world before to the world after, at a moment
 pub record IsWalked (d : Directory) (R : ℕ → World → World → Type 0) : Type 0 where

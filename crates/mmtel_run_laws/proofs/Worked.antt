@@ -20,6 +20,7 @@ use Rattle.mmtel_b2bua.specs.Lending.{entry_at, entry_of}
 use Rattle.mmtel_b2bua.specs.Tables.{standing}
 use Rattle.mmtel_b2bua.specs.declared.entries.Entry.{Entry}
 use Rattle.mmtel_call.specs.Answered.{leg_of}
+use Rattle.mmtel_call.specs.Flights.{is_in_flight}
 use Rattle.mmtel_call.specs.Leaving.{is_taken}
 use Rattle.mmtel_call.specs.Table.{is_current}
 use Rattle.mmtel_call.specs.declared.calls.Pair.{Pair}
@@ -72,7 +73,7 @@ use Rattle.mmtel_run.specs.Events.{message_in}
 use Rattle.mmtel_run.specs.Calls.{named_by}
 use Rattle.mmtel_run.specs.Records.{in_force}
 use Rattle.mmtel_run.specs.World.{World, beginning, calls_in, rooms_in}
-use Rattle.mmtel_run_laws.specs.Belonging.{answer_role_by, answered_role, awaited_role, comes_from, dialog_role, hides_caller, is_opening, loose_at, named_role, other_role, request_role_in, request_role_of, role_as, role_in_seat_answer, role_of, said_by, side_role, taken_at, unshown_request}
+use Rattle.mmtel_run_laws.specs.Belonging.{answer_role_by, answered_role, awaited_role, comes_from, dialog_role, flight_at, hides_caller, is_opening, loose_at, named_role, other_role, request_role_in, request_role_of, role_as, role_in_seat_answer, role_of, said_by, side_role, taken_at, unshown_request}
 use Rattle.mmtel_run_laws.specs.Mask.{Heard, MaskedDigest, Tests, tests_beside, tests_of}
 use Rattle.mmtel_run_laws.proofs.Secret.{left_of as left_in}
 use Rattle.mmtel_run_laws.specs.Worked.{Erin, Frank, IsAwaited, IsOfStanding, IsTaken, IsTargets, LooksApart, Person, PublicLookApart, RestrictedLookAlike, Saying, TheyCome, UnshownLookAlike, ack, bye, cancel, moved_to, name_of, ok_named, ok_of_target, ok_to_bye, ok_to_cancel, ok_to_invite, ok_to_notify, phone, plain_later, plain_opening, private_later, private_opening, server_bye, tells_marked, tells_unmarked, user_of}
@@ -250,9 +251,9 @@ module _ (d : Directory) (w : World) where
       role_of d w m ≡ side_role e.call.opening x.service (leg_of side x).dialogue.peer side m
   stands_as m side e x stage call p o c named entry stood =
       fresh_is d w m false false p o c
-      ∙ (ap (named_role m entries) named
-      ∙ (ap (request_role_of side m) entry
-      ∙ ap (λ (phase : Phase). request_role_in phase e.call.opening side m) stood))
+      ∙ (ap (named_role d.reliable m entries) named
+      ∙ (ap (request_role_of d.reliable side m) entry
+      ∙ ap (λ (phase : Phase). request_role_in d.reliable phase e.call.opening side m) stood))
 
   -- a response to the INVITE that a call waits on
   awaited_as : (m : Said) (e : Entry) (branch : List ℕ) (key place : ℕ) → part_of (head_of (message_in m.heard)) (live w.acts) ≡ part.Answer key → invite_answered m ≡ Some branch →
@@ -267,7 +268,8 @@ module _ (d : Directory) (w : World) where
       by_current : Said → Entry → List ℕ → Bool → Role
       by_current m e branch b =
           if b then awaited_role e.call.phase e.call.opening m
-          else other_role m (loose_at (position (is_of branch) e.call.loose) e.call.loose) (taken_at (position (is_taken branch) e.call.taken) e.call.taken)
+          else other_role e.call m (loose_at (position (is_of branch) e.call.loose) e.call.loose) (taken_at (position (is_taken branch) e.call.taken) e.call.taken)
+          (flight_at (position (is_in_flight branch) e.call.flights) e.call.flights)
 
 -- ---- what is left of two
 
@@ -319,12 +321,12 @@ module _ (d : Directory) (asked : List Who) (w : World) where
     cancels = λ taken.
         looks cancel Opens (λ p. fresh_is d w (cancel p) false true (taken p) refl (stops (cancel p) (codes "CANCEL") (codes "sip:bob@far.example") refl)) cancel_left refl;
     acknowledges = λ key taken. looks ack Opens (λ p. role_is d w (ack p) (part.Acked key) (taken p)) ack_left refl;
-    late = λ taken named. looks ack Opens (λ p. role_is d w (ack p) part.AckOf2xx (taken p) ∙ ap (named_role (ack p) (calls_in d w).entries) (named p)) ack_left refl;
+    late = λ taken named. looks ack Opens (λ p. role_is d w (ack p) part.AckOf2xx (taken p) ∙ ap (named_role d.reliable (ack p) (calls_in d w).entries) (named p)) ack_left refl;
     no_place = λ taken. looks bye Opens (λ p. role_is d w (bye p) part.Full (taken p)) unnamed_left refl;
     unnamed = λ taken named.
         looks bye Opens
         (λ p. fresh_is d w (bye p) false false (taken p) refl (stops (bye p) (codes "BYE") (codes "sip:bob@far.example") refl)
-        ∙ ap (named_role (bye p) (calls_in d w).entries) (named p))
+        ∙ ap (named_role d.reliable (bye p) (calls_in d w).entries) (named p))
         unnamed_left refl;
   }
 

@@ -4,7 +4,7 @@ use Rattle.std.specs.List.{list_any}
 use Rattle.mmtel_call_laws.specs.Story.{Start}
 use Rattle.mmtel_run.specs.World.{World}
 use Rattle.mmtel_transaction.specs.Answers.{peer_of}
-use Rattle.mmtel_transaction.specs.Calls.{Done, DidAck, DidAsk, DidBegin, DidFire, DidHear, DidReply, live}
+use Rattle.mmtel_transaction.specs.Calls.{Done, DidAck, DidAsk, DidBegin, DidFire, DidHear, DidReply, DidSettle, live}
 use Rattle.mmtel_transaction.specs.Heads.{head_of, is_provisional}
 
 -- a final response is offered in the transaction of this number
@@ -15,6 +15,7 @@ is_final_in key (DidAsk p m now) = false
 is_final_in key (DidReply other m now) = other == key && not (is_provisional (head_of m).status)
 is_final_in key (DidAck other m) = false
 is_final_in key (DidFire other) = false
+is_final_in key (DidSettle other own) = false
 
 -- that of the INVITE is live, and of the peer who sent it
 abbrev pub IsAnswerable : World → Start → Type 0

@@ -1,7 +1,7 @@
--- Which role a message has in a run, by what was done before it. What a trusted peer says of itself may show to others only where it is said in an INVITE that opens a call, in the
--- dialog of a call that stands, or to an INVITE of the server that is waited on: there it is private where its side of the call is restricted. All else goes no further, and
--- whatever may be private of that is
--- (RFC 3261 §9.2, §12.2.2, §17.1.3, §17.2.3; RFC 4579 §5; TS 24.607 §4.5.2, TS 24.608 §4.5.2).
+-- Which role a message has in a run, by what was done before it. What a trusted peer says of itself may show to others only where it is said in an INVITE that opens a call, in
+-- the dialog of a call that stands, in a PRACK or an UPDATE, or to such a request of the server that is waited on: there it is private where its side of the call is restricted.
+-- All else goes no further, and whatever may be private of that is (RFC 3261 §9.2, §12.2.2, §17.1.3, §17.2.3; RFC 3262 §4; RFC 3311 §5; RFC 4579 §5; TS 24.607 §4.5.2, TS 24.608
+-- §4.5.2).
 use Rattle.std.specs.Prelude.{ℕ, ◌==◌, ◌&&◌, Bool, true, if◌then◌else◌, Option, Some, None, List, [], codes, is_none, position, slice_get}
 use Rattle.std.specs.Option.{unwrap_or}
 use Rattle.mmtel_answers.specs.Said.{Said}
@@ -15,14 +15,17 @@ use Rattle.mmtel_call_decisions.specs.Showing.{facing}
 use Rattle.mmtel_call_decisions.specs.declared.openings.Opening.{Opening}
 use Rattle.mmtel_call_decisions.specs.declared.openings.Service.{Service}
 use Rattle.mmtel_call.specs.Answered.{leg_of}
+use Rattle.mmtel_call.specs.Flights.{is_in_flight, service_in}
 use Rattle.mmtel_call.specs.Leaving.{is_taken}
 use Rattle.mmtel_call.specs.Table.{is_current}
 use Rattle.mmtel_call.specs.declared.calls.Call.{Call}
+use Rattle.mmtel_call.specs.declared.calls.Flight.{Flight}
 use Rattle.mmtel_call.specs.declared.calls.Phase.{Phase}
 use Rattle.mmtel_call.specs.declared.calls.Phase.TheVariants.{Lent, Offered, Over, Stood}
 use Rattle.mmtel_call.specs.declared.calls.Stage.TheVariants.{Answered, Asking, Parting, Talking}
 use Rattle.mmtel_call.specs.declared.calls.Taken.{Taken}
-use Rattle.mmtel_call_laws.specs.Secret.Roles.{Opens, Plain, Role, Says, opening_role}
+use Rattle.mmtel_call.specs.declared.calls.Trial.{Trial}
+use Rattle.mmtel_call_laws.specs.Secret.Roles.{Opens, Plain, Role, Says, goes_across, opening_role}
 use Rattle.mmtel_desk.specs.Loose.{is_of}
 use Rattle.mmtel_desk.specs.declared.invitations.Loose.{Loose}
 use Rattle.mmtel_directory.specs.declared.directories.Directory.{Directory}
@@ -76,29 +79,38 @@ said_by restricted own side m = if restricted && comes_from own m then Says side
 abbrev pub side_role : Opening → Option Service → (own : Peer) → Side → Said → Role
 side_role o service own side m = said_by (facing o service side m).restricted own side m
 
--- ---- a request in the dialog of a side (§12.2.2): the other side is shown it where the call stands
+-- ---- a request in the dialog of a side (§12.2.2): the other side is shown it where the call stands, and a PRACK or an UPDATE where it is offered, if these are switched on (RFC 3262
+-- §4, RFC 3311 §5.2)
 
-abbrev pub request_role_in : Phase → Opening → Side → Said → Role
-request_role_in (Offered x) o side m = unshown_request
-request_role_in (Stood x stage) o side m = side_role o x.service (leg_of side x).dialogue.peer side m
-request_role_in (Lent loan) o side m = unshown_request
-request_role_in (Over cause) o side m = unshown_request
+-- the peer of a side of an offered call
+abbrev pub peer_offered : Side → Trial → Peer
+peer_offered Caller x = x.caller.dialogue.peer
+peer_offered Callee x = x.callee.leg.dialogue.peer
 
-abbrev pub request_role_of : Side → Said → Option Entry → Role
-request_role_of side m None = unshown_request
-request_role_of side m (Some e) = request_role_in e.call.phase e.call.opening side m
+abbrev pub offered_role : (reliable : Bool) → Trial → Opening → Side → Said → Role
+offered_role reliable x o side m = if reliable && goes_across side m then side_role o x.attempt.service (peer_offered side x) side m else unshown_request
+
+abbrev pub request_role_in : (reliable : Bool) → Phase → Opening → Side → Said → Role
+request_role_in reliable (Offered x) o side m = offered_role reliable x o side m
+request_role_in reliable (Stood x stage) o side m = side_role o x.service (leg_of side x).dialogue.peer side m
+request_role_in reliable (Lent loan) o side m = unshown_request
+request_role_in reliable (Over cause) o side m = unshown_request
+
+abbrev pub request_role_of : (reliable : Bool) → Side → Said → Option Entry → Role
+request_role_of reliable side m None = unshown_request
+request_role_of reliable side m (Some e) = request_role_in reliable e.call.phase e.call.opening side m
 
 -- of the call and the side that it names. One that names none is of a seat, whose room shows nobody to anybody (RFC 4579 §5), or is answered by the server
-abbrev pub named_role : Said → List Entry → Option (CallNo × Side) → Role
-named_role m es None = unshown_request
-named_role m es (Some x) = request_role_of x.1 m (entry_of x.0.0 es)
+abbrev pub named_role : (reliable : Bool) → Said → List Entry → Option (CallNo × Side) → Role
+named_role reliable m es None = unshown_request
+named_role reliable m es (Some x) = request_role_of reliable x.1 m (entry_of x.0.0 es)
 
 abbrev pub dialog_role : Directory → World → Said → Role
-dialog_role directory world m = named_role m (calls_in directory world).entries (named_by m.heard (calls_in directory world).entries)
+dialog_role directory world m = named_role directory.reliable m (calls_in directory world).entries (named_by m.heard (calls_in directory world).entries)
 
--- ---- a response to an INVITE of a call (§17.1.3)
+-- ---- a response to a request of a call (§17.1.3)
 
--- to the one that the call waits on: the side that was asked says it
+-- to the INVITE that the call waits on: the side that was asked says it
 abbrev pub awaited_role : Phase → Opening → Said → Role
 awaited_role (Offered x) o m = if comes_from x.callee.leg.dialogue.peer m then side_role o x.attempt.service x.attempt.invitation.dialogue.peer Callee m else Plain
 awaited_role (Stood x (Answered side success)) o m = unshown_response
@@ -126,19 +138,34 @@ of_taken m None = true
 of_taken m (Some t) = comes_from t.invitation.dialogue.peer m
 
 -- what its own peer says to such a one goes no further
-abbrev pub other_role : Said → Option Loose → Option Taken → Role
-other_role m loose taken = if of_loose m loose && of_taken m taken then unshown_response else Plain
+abbrev pub left_role : Said → Option Loose → Option Taken → Role
+left_role m loose taken = if of_loose m loose && of_taken m taken then unshown_response else Plain
+
+-- what is in flight: the other side of the one that asked says it (RFC 3262 §4, RFC 3311 §5.1)
+abbrev pub flight_at : Option ℕ → List Flight → Option Flight
+flight_at None flights = None
+flight_at (Some at) flights = slice_get flights at
+
+abbrev pub flight_role : Call → Said → Flight → Role
+flight_role c m flight = side_role c.opening (service_in c.phase) flight.asked.invitation.dialogue.peer (other_of flight.side) m
+
+abbrev pub other_role : Call → Said → Option Loose → Option Taken → Option Flight → Role
+other_role c m (Some loose) taken flight = left_role m (Some loose) taken
+other_role c m None (Some taken) flight = left_role m None (Some taken)
+other_role c m None None (Some flight) = flight_role c m flight
+other_role c m None None None = unshown_response
 
 abbrev pub response_role_of : (branch : List ℕ) → Said → Call → Role
 response_role_of branch m c =
     if is_current branch c then awaited_role c.phase c.opening m
-    else other_role m (loose_at (position (is_of branch) c.loose) c.loose) (taken_at (position (is_taken branch) c.taken) c.taken)
+    else other_role c m (loose_at (position (is_of branch) c.loose) c.loose) (taken_at (position (is_taken branch) c.taken) c.taken)
+    (flight_at (position (is_in_flight branch) c.flights) c.flights)
 
 abbrev pub answered_role : (branch : List ℕ) → Said → Option Entry → Option Role
 answered_role branch m None = None
 answered_role branch m (Some e) = Some (response_role_of branch m e.call)
 
--- of the call that sent the INVITE of this branch
+-- of the call that sent the request of this branch
 abbrev pub role_in_answer : (branch : List ℕ) → Said → Table → Option Role
 role_in_answer branch m table = answered_role branch m (entry_at (position (sent_it (Some branch)) table.entries) table.entries)
 
@@ -172,7 +199,7 @@ seat_answer_role m loose seat = if of_loose m loose && of_seat m seat then unsho
 abbrev pub role_in_seat_answer : (branch : List ℕ) → Said → table.Table → Role
 role_in_seat_answer branch m rooms = seat_answer_role m (loose_at (position (is_of branch) rooms.loose) rooms.loose) (seat_asked branch rooms.live)
 
--- ---- a response: to an INVITE of a call, or else of a room. What answers another request, a BYE, CANCEL or NOTIFY of the server, is shown to nobody
+-- ---- a response: to an INVITE, PRACK or UPDATE of a call, or else to an INVITE of a room. What answers a BYE, CANCEL or NOTIFY of the server is shown to nobody
 
 abbrev pub answer_role_by : Directory → World → Said → (branch : Option (List ℕ)) → Role
 answer_role_by directory world m None = unshown_response

@@ -26,7 +26,7 @@ use Rattle.mmtel_run.specs.Short.{IsShortRun}
 use Rattle.mmtel_run.specs.World.{World}
 use Rattle.mmtel_trust.specs.Members.{IsIn}
 use Rattle.mmtel_trust.specs.Passed.{passed}
-use Rattle.mmtel_transaction.specs.Calls.{Done, DidAck, DidAsk, DidBegin, DidFire, DidHear, DidReply}
+use Rattle.mmtel_transaction.specs.Calls.{Done, DidAck, DidAsk, DidBegin, DidFire, DidHear, DidReply, DidSettle}
 
 -- ---- the messages that are sent by a transaction
 
@@ -39,6 +39,7 @@ IsOwnAct (DidAsk peer message now) = HasOwnLines message
 IsOwnAct (DidReply key message now) = HasOwnLines message
 IsOwnAct (DidAck key message) = HasOwnLines message
 IsOwnAct (DidFire key) = Unit {0}
+IsOwnAct (DidSettle key own) = Unit {0}
 
 -- a message is the one that was built for it
 abbrev pub Builds : Done → Message Start → Type 0
@@ -48,6 +49,7 @@ Builds (DidAsk peer message now) built = built ≡ message
 Builds (DidReply key message now) built = built ≡ message
 Builds (DidAck key message) built = built ≡ message
 Builds (DidFire key) built = ⊥
+Builds (DidSettle key own) built = ⊥
 
 -- or for one of these
 abbrev pub IsBuiltIn : List Done → Message Start → Type 0

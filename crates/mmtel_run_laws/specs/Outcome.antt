@@ -122,8 +122,11 @@ pub record CallComesToOutcome (directory : Directory) (token : List ℕ) (loaded
       (emits_of (site_of directory) number (world_after directory token loaded fuel happened).deeds)
   -- how its attempts ended is what was seen of them: what went out, and what was heard
   pub seen : endings_after life.start life.events ≡ endings_seen life.start life.events
-  -- while it is offered its attempt is the one that is on its way, and that one's deadlines went out, each at its moment, and no other; and else none is on its way
-  pub watched : IsSeen directory.bound (no_reply_after life.start life.events) (call_after life.start life.events).phase (watch_after life.start life.events)
+  -- while it is offered its attempt is the one that is on its way, and that one's deadlines went out, each at its moment, and no other, and those of its reliable answers wait for
+  -- their PRACK which were passed on and not acknowledged (RFC 3262 §3); and else none is on its way
+  pub watched :
+      IsSeen directory.bound (no_reply_after life.start life.events) (call_after life.start life.events).acks (call_after life.start life.events).phase
+      (watch_after life.start life.events)
   -- the deadline of its session that counts went out in the step of the last 2xx which it passed on, at the moment and with the interval of that, and no other since
   pub session : IsSessionSeen directory.timer (call_after life.start life.events) (session_after life.start life.events)
   -- and by that deadline it was over, where it talked or asked, and by none that went out before (RFC 4028 §10)

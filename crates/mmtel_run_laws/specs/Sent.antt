@@ -33,6 +33,7 @@ GoesOut world (emit.Ask peer message) = IsOfferedTo world peer (message_text mes
 GoesOut world (emit.Reply key message) = (at : ℕ) × IsHanded world key.0 message (DidReply key.0 message at)
 GoesOut world (emit.Plain peer text) = IsOfferedTo world peer text
 GoesOut world (emit.Ack key message) = IsHanded world key.0 message (DidAck key.0 message)
+GoesOut world (emit.Settled key own) = Unit {0}
 GoesOut world (emit.Arm call what at) = Unit {0}
 GoesOut world (emit.ArmSeat room seat what at) = Unit {0}
 
@@ -43,5 +44,6 @@ FinalComes world s (emit.Reply key message) =
     (key.0 == s.arrival.key.0) ≡ true → is_provisional (head_of message).status ≡ false → IsOfferedTo world s.arrival.invite.peer (message_text message)
 FinalComes world s (emit.Plain peer text) = Unit {0}
 FinalComes world s (emit.Ack key message) = Unit {0}
+FinalComes world s (emit.Settled key own) = Unit {0}
 FinalComes world s (emit.Arm call what at) = Unit {0}
 FinalComes world s (emit.ArmSeat room seat what at) = Unit {0}

@@ -164,6 +164,29 @@ module _ (old mid : Server) (desk : Directory → List ℕ → World → Desk) (
       subst (λ (l : List Emit). IsCut out now (before ++ (emitted at l (there d token w)).offers)) all
       (breaks d token before (there d token w) first.1 (subst (λ (l : List Emit). IsShort (emitted at l (there d token w))) (sym all) short))
 
+-- what a transaction is told brings nothing forth
+pub told_alone : (deed : Done) (s : Server) (t : Transactions) (out : List Offer) → ((h : List Done) → kept.Stands s.transactions h → kept.Stands t (deed ∷ h))
+    → Follows s out (record s { transactions = t }) out (λ d token. acting deed)
+told_alone deed s t out told d token before w did short = record {
+  stands = record {
+    directory_same = did.stands.directory_same;
+    tokens = did.stands.tokens;
+    transactions = told w.acts did.stands.transactions;
+    clock = did.stands.clock;
+    steps = did.stands.steps;
+    texts = did.stands.texts;
+    registered = did.stands.registered;
+    calls = did.stands.calls;
+    rooms = did.stands.rooms;
+    armed = did.stands.armed;
+    waiting = did.stands.waiting;
+    drained = did.stands.drained;
+    cleared = did.stands.cleared;
+    whole = did.stands.whole;
+  };
+  offered = did.offered;
+}
+
 -- a deadline is armed, in the step that goes on
 pub armed_more : (s : Server) (a : Armed) (rest : List Armed) (out : List Offer) → rest ≡ s.armed ++ a ∷ [] → a.step ≡ s.steps - 1
     → Follows s out (record s { armed = rest }) out (λ d token w. arming (record { alarm = alarm_in a.alarm; at = a.at; step = w.steps - 1 }) w)

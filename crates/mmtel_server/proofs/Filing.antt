@@ -44,6 +44,7 @@ emits_none at (emit.Ask peer m) w = refl
 emits_none at (emit.Reply key m) w = refl
 emits_none at (emit.Plain peer text) w = refl
 emits_none at (emit.Ack key m) w = refl
+emits_none at (emit.Settled key own) w = refl
 emits_none at (emit.Arm call what when) w = refl
 emits_none at (emit.ArmSeat room seat what when) w = refl
 

@@ -85,6 +85,7 @@ emits at (emit.Ask peer m) w = record { acts = omega arith; steps = omega arith;
 emits at (emit.Reply key m) w = record { acts = omega arith; steps = omega arith; drawn = λ less. omega arith; front = (_, refl) }
 emits at (emit.Plain peer text) w = record { acts = omega arith; steps = omega arith; drawn = λ less. omega arith; front = (_, refl) }
 emits at (emit.Ack key m) w = record { acts = omega arith; steps = omega arith; drawn = λ less. omega arith; front = (_, refl) }
+emits at (emit.Settled key own) w = record { acts = omega arith; steps = omega arith; drawn = λ less. omega arith; front = ([], append-nil w.offers) }
 emits at (emit.Arm call what when) w = record { acts = omega arith; steps = omega arith; drawn = λ less. omega arith; front = ([], append-nil w.offers) }
 emits at (emit.ArmSeat room seat what when) w = record { acts = omega arith; steps = omega arith; drawn = λ less. omega arith; front = ([], append-nil w.offers) }
 

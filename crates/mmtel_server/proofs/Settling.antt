@@ -33,6 +33,7 @@ emit_steps at (emit.Ask peer m) w = refl
 emit_steps at (emit.Reply key m) w = refl
 emit_steps at (emit.Plain peer text) w = refl
 emit_steps at (emit.Ack key m) w = refl
+emit_steps at (emit.Settled key own) w = refl
 emit_steps at (emit.Arm call what when) w = refl
 emit_steps at (emit.ArmSeat room seat what when) w = refl
 

@@ -3,7 +3,8 @@ ghost use Rattle.std.specs.Prelude.{◌≡◌, ◌<◌, ◌^◌, ◌+◌, ◌-�
 ghost use Rattle.mmtel_outside.specs.declared.events.Offer.{Offer};
 ghost use Rattle.mmtel_outside.specs.declared.events.Offer.TheVariants as offer;
 ghost use Rattle.mmtel_run.specs.Answers.{tag_for, tags_due, to_tag_in};
-ghost use Rattle.mmtel_run.specs.World.{arming, emit_one, emitted, to_peer};
+ghost use Rattle.mmtel_run.specs.World.{acting, arming, emit_one, emitted, to_peer};
+ghost use Rattle.mmtel_transaction.specs.Calls.{DidSettle};
 ghost use Rattle.mmtel_transaction.specs.declared.words.Emit.TheVariants as emit;
 ghost use Rattle.mmtel_server_decisions.specs.Arming.{alarm_in};
 ghost use Rattle.mmtel_server.specs.Follows.{Breaks, Follows};
@@ -148,6 +149,21 @@ impl Server {
         offer_to(context.alloc, peer, context.at.ms(), text, out)
     }
 
+    /// The reliable answer of this number to a server transaction, or each of them, is sent no more.
+    fn settle_answers<L: Ledger>(
+        &mut self,
+        key: TKey,
+        own: Option<u32>,
+        steps: &mut Steps<L>,
+    ) -> Result<(), NoMemory>
+        ensures done { OnOk result ((out : List Offer) →
+            Follows self.old out self.new out (λ d token. acting (DidSettle key.0 own))) }
+        ensures calls { self.new.calls ≡ self.old.calls }
+    {
+        self.transactions.settle(key, own, steps);
+        Ok(())
+    }
+
     /// Arms a deadline, in this step.
     fn arm<L: Ledger>(
         &mut self,
@@ -182,6 +198,7 @@ impl Server {
             Emit::Reply { key, msg } => self.reply(context, *key, msg, out, steps),
             Emit::Plain { peer, text } => self.send(context, *peer, text.bytes(), out),
             Emit::Ack { key, msg } => self.acknowledge(context, *key, msg, out, steps),
+            Emit::Settled { key, own } => self.settle_answers(*key, *own, steps),
             Emit::Arm {
                 call,
                 what,

@@ -25,6 +25,11 @@ pub returns-in-Ack-clause-done : goal.returns-in-Ack-clause-done
 returns-in-Ack-clause-done g c = subst (λ (x : Emit). OnOk c.acknowledge.result
     (Follows c.args.self.now c.args.out.now c.acknowledge.new.self c.acknowledge.new.out (λ d token. emit_one c.args.context.now.at x))) (sym c.in-Ack.is) c.acknowledge.ensures.done
 
+pub returns-in-Settled-clause-done : goal.returns-in-Settled-clause-done
+returns-in-Settled-clause-done g c = on_ok_weaker c.settle_answers.result (λ follows.
+    subst (λ (x : Emit). Follows c.args.self.now c.args.out.now c.settle_answers.new.self c.args.out.now (λ d token. emit_one c.args.context.now.at x)) (sym c.in-Settled.is) (follows c.args.out.now))
+    c.settle_answers.ensures.done
+
 pub returns-in-Arm-clause-done : goal.returns-in-Arm-clause-done
 returns-in-Arm-clause-done g c = on_ok_weaker c.arm.result (λ follows.
     subst (λ (x : Emit). Follows c.args.self.now c.args.out.now c.arm.new.self c.args.out.now (λ d token. emit_one c.args.context.now.at x)) (sym c.in-Arm.is) (follows c.args.out.now))

@@ -42,6 +42,8 @@ mod pairs;
 #[cfg(test)]
 mod registration;
 #[cfg(test)]
+mod reliable;
+#[cfg(test)]
 mod replying;
 #[cfg(test)]
 mod requests;

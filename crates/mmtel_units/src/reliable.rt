@@ -64,7 +64,10 @@ impl Rows for Answers {
             [b'+', rseq @ ..] => tell_number(told, self.acks.relay(number(rseq))),
             [b'*', first @ ..] => self.relay_all(told, number(first)),
             [b'!', rack @ ..] => self.acked(told, rack),
-            [b'?', own @ ..] => told.add_if(self.acks.is_waiting(number(own)), b"waits\n", b"-\n"),
+            [b'?', own @ ..] => {
+                let waits = self.acks.is_waiting(u64::from(number(own)));
+                told.add_if(waits, b"waits\n", b"-\n");
+            }
             _ => self.acks.next_attempt(),
         }
     }

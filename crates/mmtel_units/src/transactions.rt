@@ -1,4 +1,5 @@
-//! Transactions: tables of sequences of calls with what each gives, from the state machines of RFC 3261 (figures 5 to 8) and RFC 6026; the limit; and tokens.
+//! Transactions: tables of sequences of calls with what each gives, from the state machines of RFC 3261 (figures 5 to 8) and RFC 6026, and of
+//! reliable provisional answers (RFC 3262 §3); the limit; and tokens.
 //!
 //! The moments and answers of the tables come from the standards.
 
@@ -7,4 +8,5 @@ mod figures;
 mod keys;
 mod limits;
 mod messages;
+mod reliable;
 mod searches;

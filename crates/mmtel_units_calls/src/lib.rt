@@ -43,6 +43,8 @@ mod opening;
 #[cfg(test)]
 mod records;
 #[cfg(test)]
+mod reliable;
+#[cfg(test)]
 mod room_limits;
 #[cfg(test)]
 mod room_messages;

@@ -437,15 +437,12 @@ reply 8: 403 Forbidden, 10 REFER
 > 180 callee BYE 4
 reply 9: 500 Server Internal Error, 4 BYE
 -> ringing
-# a reliable answer goes on as any other; PRACK, UPDATE and SUBSCRIBE are of no use in a call; no PRACK is missed and no session has a time
+# a reliable answer goes on as any other; PRACK and SUBSCRIBE are of no use in a call; no PRACK is missed and no session has a time
 > 0 invite 1 alice@home.example sip:bob@home.example
 reply 0: 100 Trying, 7 INVITE
 ask 1 to 1: INVITE sip:bob@home.example, 1 INVITE
  P-Asserted-Identity: <sip:alice@home.example>
 due cap 1 at 180000
--> asked
-> 10 caller UPDATE 8
-reply 2: 481 Call/Transaction Does Not Exist, 8 UPDATE
 -> asked
 > 20 due no-prack 1
 -> asked
@@ -455,13 +452,10 @@ reply 2: 481 Call/Transaction Does Not Exist, 8 UPDATE
 reply 0: 180 Ringing, 7 INVITE
 -> ringing
 > 110 caller PRACK 9|RAck: 1 7 INVITE
-reply 3: 481 Call/Transaction Does Not Exist, 9 PRACK
--> ringing
-> 120 callee UPDATE 5
-reply 4: 481 Call/Transaction Does Not Exist, 5 UPDATE
+reply 2: 481 Call/Transaction Does Not Exist, 9 PRACK
 -> ringing
 > 130 caller SUBSCRIBE 10
-reply 5: 481 Call/Transaction Does Not Exist, 10 SUBSCRIBE
+reply 3: 481 Call/Transaction Does Not Exist, 10 SUBSCRIBE
 -> ringing
 > 140 due no-prack 1
 -> ringing
@@ -471,9 +465,6 @@ reply 5: 481 Call/Transaction Does Not Exist, 10 SUBSCRIBE
 reply 0: 200 OK, 7 INVITE
 due no-ack 1 at 32200
 -> answered caller
-> 210 callee UPDATE 6
-reply 6: 481 Call/Transaction Does Not Exist, 6 UPDATE
--> answered caller
 > 220 due no-prack 1
 -> answered caller
 > 230 due expired 1
@@ -481,11 +472,8 @@ reply 6: 481 Call/Transaction Does Not Exist, 6 UPDATE
 > 300 caller ACK 7
 plain to 1: ACK sip:b@127.0.0.1:5071, 1 ACK
 -> talking
-> 310 caller UPDATE 11
-reply 7: 481 Call/Transaction Does Not Exist, 11 UPDATE
--> talking
 > 320 callee PRACK 7
-reply 8: 481 Call/Transaction Does Not Exist, 7 PRACK
+reply 4: 400 Bad Request, 7 PRACK
 -> talking
 > 330 due no-prack 1
 -> talking

@@ -1,7 +1,8 @@
 //! Tables that are played: what a call hears, a line each behind `> `, and under it what goes out and where the call stands then.
 //!
 //! `# ..` begins anew: nobody has a record, nobody is in a call, and no transaction was opened. Transactions are numbered from 0, servers and clients together.
-//! `> record N ..` gives account N a record, `> busy N` says that it is in one more call, `> away N` that its registration has ended, `> bound N` sets the bound, and from `> timer` on sessions have timers.
+//! `> record N ..` gives account N a record, `> busy N` says that it is in one more call, `> away N` that its registration has ended, `> bound N` sets the bound; from
+//! `> reliable` on answers may be reliable, and from `> timer` on sessions have timers.
 //! All other lines begin with the moment; where they begin with `>> ` messages are told whole. Behind a `|` each stand further lines of the message, behind `|=` those of
 //! its body.
 //! `invite PEER WHO TARGET`, `answer TRANSACTION TAG STATUS`, `caller METHOD CSEQ`, `callee METHOD CSEQ` (of the first peer), `far METHOD CSEQ` (of the second),
@@ -88,7 +89,7 @@ fn setting(world: &World) -> Setting<'_> {
         home: b"home.example",
         bound,
         country: None,
-        reliable: false,
+        reliable: world.reliable,
         timer: world.timer,
         mwi: false,
         peers: &world.peers,
@@ -430,6 +431,8 @@ fn is_set(told: &mut Told, world: &mut World, line: &[u8]) -> bool {
         set_away(told, world, account);
     } else if is(kind, b"bound") {
         world.bound = small(told, rest);
+    } else if is(kind, b"reliable") {
+        world.reliable = true;
     } else if is(kind, b"timer") {
         world.timer = true;
     } else {

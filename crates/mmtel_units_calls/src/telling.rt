@@ -280,12 +280,23 @@ fn tell_seat_due(told: &mut Told, room: RoomNo, seat: u64, what: RoomWord, at: u
     tell_room_due(told, what, at);
 }
 
+fn tell_settled(told: &mut Told, key: u64, own: Option<u32>) {
+    told.add(b"settled ");
+    told.add_number(key);
+    match own {
+        None => {}
+        Some(own) => told.add_spaced_number(u64::from(own)),
+    }
+    told.add(b"\n");
+}
+
 fn tell_emit(told: &mut Told, wire: &mut Wire, emit: Emit) {
     match emit {
         Emit::Ask { peer, msg } => tell_request(told, wire, peer, msg),
         Emit::Reply { key, msg } => tell_of(told, wire, b"reply ", key.0, msg),
         Emit::Plain { peer, text } => tell_plain(told, wire, peer, text),
         Emit::Ack { key, msg } => tell_of(told, wire, b"ack ", key.0, msg),
+        Emit::Settled { key, own } => tell_settled(told, key.0, own),
         Emit::Arm { call, what, at } => tell_call_due(told, wire.style, call, what, at),
         Emit::ArmSeat {
             room,

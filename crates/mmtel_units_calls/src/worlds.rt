@@ -1,4 +1,5 @@
-//! What stands round calls and rooms: the peers and accounts, the records in force, how many calls keep each account busy, the bound, and whether sessions have timers; and the words of tables.
+//! What stands round calls and rooms: the peers and accounts, the records in force, how many calls keep each account busy, the bound, and whether answers may be reliable
+//! and sessions have timers; and the words of tables.
 
 use mmtel_answers::Hearing;
 use mmtel_call_decisions::Busy;
@@ -25,6 +26,7 @@ pub struct World {
     pub sheets: SheetView,
     pub busy: Busy,
     pub bound: u16,
+    pub reliable: bool,
     pub timer: bool,
 }
 
@@ -140,6 +142,7 @@ pub fn quiet_world(told: &mut Told) -> World {
         sheets: SheetView::new(told.alloc),
         busy: Busy::new(told.alloc),
         bound: 5,
+        reliable: false,
         timer: false,
     }
 }

@@ -67,5 +67,8 @@ are_ends = record {
   gave_up_ringing = refl;
   gave_up = refl;
   after_gave_up = λ c. refl;
+  unacknowledged_ringing = refl;
+  unacknowledged = refl;
+  after_unacknowledged = λ c. refl;
   after_answer = λ c. refl;
 }

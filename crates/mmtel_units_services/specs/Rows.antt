@@ -19,8 +19,8 @@ use Rattle.mmtel_targets.specs.declared.served.RegistrationState.TheVariants.{Re
 use Rattle.mmtel_targets.specs.declared.served.Served.{Served}
 use Rattle.mmtel_rules.specs.Circumstances.{Circumstances}
 use Rattle.mmtel_precedence.specs.Services.{AccountState, DueDiversion}
-use Rattle.mmtel_precedence.specs.Attempts.{CallerGaveUp, Response, end_by}
-use Rattle.mmtel_precedence.specs.Calls.{Answer, Cancel, UserBusy, NoReply, Deflection, Standing, Call, Offer, NotOffered, Offered, Target, Result, Pending, Answered, Final, Outcome}
+use Rattle.mmtel_precedence.specs.Attempts.{AckTime, CallerGaveUp, Response, end_by}
+use Rattle.mmtel_precedence.specs.Calls.{Answer, Cancel, Unacknowledged, UserBusy, NoReply, Deflection, Standing, Call, Offer, NotOffered, Offered, Target, Result, Pending, Answered, Final, Outcome}
 use Rattle.mmtel_precedence.specs.Outcome.{outcome}
 use Rattle.mmtel_precedence.specs.Turns.{EndAnswered, EndRefuse, turn_on}
 
@@ -334,4 +334,7 @@ pub record AreEnds : Type 0 where
   pub gave_up_ringing : end_by CallerGaveUp true ≡ Some Cancel
   pub gave_up : end_by CallerGaveUp false ≡ Some Cancel
   pub after_gave_up : (c : Circumstances) → turn_on c (Some (diverts (rule (Some event.NoAnswer) vm ∷ []) false)) Cancel ≡ EndRefuse causes.Cancelled
+  pub unacknowledged_ringing : end_by AckTime true ≡ Some Unacknowledged
+  pub unacknowledged : end_by AckTime false ≡ Some Unacknowledged
+  pub after_unacknowledged : (c : Circumstances) → turn_on c (Some (diverts (rule (Some event.NoAnswer) vm ∷ []) false)) Unacknowledged ≡ EndRefuse causes.Unacknowledged
   pub after_answer : (c : Circumstances) → turn_on c None Answer ≡ EndAnswered

@@ -367,6 +367,23 @@ fn merged<L: Ledger>(
     }
 }
 
+/// `settle KEY`, or `settle KEY NUMBER`.
+fn settle<L: Ledger>(
+    told: &mut Told,
+    transactions: &mut Transactions,
+    words: &[u8],
+    steps: &mut Steps<L>,
+) {
+    let (key, own) = cut(b' ', words);
+    let own = if own.is_empty() {
+        None
+    } else {
+        Some(u32::try_from(number(own)).unwrap_or(0))
+    };
+    transactions.settle(TKey(number(key)), own, steps);
+    told.add(b"done");
+}
+
 /// Writes what a call gives.
 fn play<L: Ledger>(
     told: &mut Told,
@@ -381,6 +398,7 @@ fn play<L: Ledger>(
         b"upcoming" => at_moment(told, transactions, false, number(words), steps),
         b"peer" => peer(told, transactions, TKey(number(words)), steps),
         b"merged" => merged(told, transactions, TKey(number(words)), steps),
+        b"settle" => settle(told, transactions, words, steps),
         b"many" => many(told, transactions, number(words), steps),
         b"numbered" => hear_numbered(told, transactions, number(words), steps),
         _ => with_message(told, transactions, name, words, steps),

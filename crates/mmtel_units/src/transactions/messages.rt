@@ -20,14 +20,15 @@ fn write_start(told: &mut Told, status: &[u8], method: &[u8]) {
     }
 }
 
-/// Writes the lines that the words say which follow the method: branch, sent-by, From tag, To tag, Call-ID and number of CSeq.
+/// Writes the lines that the words say which follow the method: branch, sent-by, From tag, To tag, Call-ID, number of CSeq and number of RSeq.
 fn write_lines(told: &mut Told, method: &[u8], words: &[u8]) {
     let (branch, words) = cut(b'/', words);
     let (sent_by, words) = cut(b'/', words);
     let (from_tag, words) = cut(b'/', words);
     let (to_tag, words) = cut(b'/', words);
     let (call_id, words) = cut(b'/', words);
-    let (number, _) = cut(b'/', words);
+    let (number, words) = cut(b'/', words);
+    let (reliable, _) = cut(b'/', words);
     write(told, b"Via: SIP/2.0/UDP ", sent_by, b"127.0.0.1:5071");
     write(told, b";branch=z9hG4bK", branch, b"");
     write(
@@ -40,6 +41,9 @@ fn write_lines(told: &mut Told, method: &[u8], words: &[u8]) {
     write(told, b"\r\nCall-ID: ", call_id, b"c");
     write(told, b"\r\nCSeq: ", number, b"1");
     write(told, b" ", method, b"");
+    if !reliable.is_empty() {
+        write(told, b"\r\nRSeq: ", reliable, b"");
+    }
     told.add(
         b"\r\nMax-Forwards: 70\r\nContact: <sip:alice@127.0.0.1:5071>\r\nContent-Length: 0\r\n\r\n",
     );
@@ -57,8 +61,8 @@ fn parts_of(word: &[u8]) -> (&[u8], &[u8], &[u8]) {
     }
 }
 
-/// The message of a word: of a request method and branch, parted by `/`, of a response its status before them; then may follow sent-by, From tag, To tag, Call-ID and
-/// number of CSeq. None where it cannot be read.
+/// The message of a word: of a request method and branch, parted by `/`, of a response its status before them; then may follow sent-by, From tag, To tag, Call-ID,
+/// number of CSeq and number of RSeq. None where it cannot be read.
 pub fn message(told: &mut Told, word: &[u8]) -> Option<Msg> {
     let (status, method, rest) = parts_of(word);
     let mut text = Told::new(told.alloc);

@@ -3,10 +3,11 @@ use Rattle.std.proofs.Common.{◌≡◌, ◌==◌, true, false, ℕ, suc, ◌+�
 use Rattle.std.proofs.lemmas.List.{drop_all}
 use Rattle.std.specs.Option.{option_map}
 use Rattle.std.proofs.lemmas.Bool.{cases_Bool}
+use Rattle.memchr.specs.Find.{Nowhere, Passes, is_byte}
 use Rattle.mmtel_message.specs.declared.values.Mode.{Mode}
 use Rattle.mmtel_message.specs.declared.values.Mode.TheVariants.{Plain, Quoted, Escaped, Angle, Words}
 use Rattle.mmtel_message.specs.Headers.{trim}
-use Rattle.mmtel_message.specs.Values.{mode_after, is_parting, base, parting, parts, rest_parts}
+use Rattle.mmtel_message.specs.Values.{mode_after, is_parting, base, parting, parts, rest_parts, separator}
 use Rattle.mmtel_message.proofs.LineLaws.{shift, mapped, unmapped, same_some}
 
 -- ---- the loop
@@ -29,6 +30,49 @@ stops_at m total i s lt e so_far =
 pub never : (m : Mode) (total : Option ℕ) (i : ℕ) (s : List ℕ) → i ≡ length s → Goes total i m s → total ≡ None
 unfolding parting
 never m total i s e so_far = rw (drop_all i s (omega arith)) at so_far
+
+-- ---- a text without the byte that may part
+
+separator_after : (m : Mode) (b : ℕ) → separator (mode_after m b) ≡ separator m
+separator_after Plain b =
+    elim (cases_Bool (b == 34)) [
+      | inl y ↦ rw y refl
+      | inr n ↦ elim (cases_Bool (b == 60)) [ inl y ↦ rw (n, y) refl | inr o ↦ rw (n, o) refl ]
+    ]
+separator_after Quoted b =
+    elim (cases_Bool (b == 34)) [
+      | inl y ↦ rw y refl
+      | inr n ↦ elim (cases_Bool (b == 92)) [ inl y ↦ rw (n, y) refl | inr o ↦ rw (n, o) refl ]
+    ]
+separator_after Escaped b = refl
+separator_after Angle b = elim (cases_Bool (b == 62)) [ inl y ↦ rw y refl | inr n ↦ rw n refl ]
+separator_after Words b = refl
+
+other_byte : (m : Mode) (b : ℕ) → (b == separator m) ≡ false → is_parting m b ≡ false
+other_byte Plain b e = e
+other_byte Quoted b e = refl
+other_byte Escaped b e = refl
+other_byte Angle b e = refl
+other_byte Words b e = e
+
+lacking : (m : Mode) (s : List ℕ) → ((k : ℕ) → k < length s → (get_or s k 0 == separator m) ≡ false) → parting m s ≡ None
+unfolding parting
+lacking m [] lacks = refl
+lacking m (b ∷ t) lacks =
+    let here : is_parting m b ≡ false = other_byte m b (lacks 0 (omega arith)) in
+    let later : (k : ℕ) → k < length t → (get_or t k 0 == separator (mode_after m b)) ≡ false = λ k less. rw (separator_after m b) (lacks (suc k) (omega (arith, less))) in
+    rw (here, lacking (mode_after m b) t later) refl
+
+lacks_byte : (x : ℕ) (s : List ℕ) → Nowhere (Passes (is_byte x) s) 0 (length s) → (k : ℕ) → k < length s → (get_or s k 0 == x) ≡ false
+lacks_byte x s none k less =
+    elim (cases_Bool (get_or s k 0 == x)) [
+      | inl y ↦ absurd (none k (omega arith) less y)
+      | inr n ↦ n
+    ]
+
+-- nothing parts a text in which that byte does not stand
+pub no_parting : (m : Mode) (s : List ℕ) → Nowhere (Passes (is_byte (separator m)) s) 0 (length s) → parting m s ≡ None
+no_parting m s none = lacking m s (lacks_byte (separator m) s none)
 
 -- ---- parts
 

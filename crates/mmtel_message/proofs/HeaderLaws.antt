@@ -1,12 +1,45 @@
 -- A header line as it is scanned: the name, the blanks, the colon, and where the value stands.
-use Rattle.std.proofs.Common.{◌≡◌, ◌==◌, true, false, ℕ, ◌-◌, List, length, take, drop, Option, Some, None, refl, sym, ap, ◌∙◌}
+use Rattle.std.proofs.Common.{◌≡◌, ◌==◌, ◌&&◌, ◌||◌, not, Bool, true, false, ℕ, suc, ◌-◌, ◌<◌, List, [], ◌∷◌, length, take, drop, get_or, Option, Some, None, refl, sym, ap, inl, inr, ◌∙◌, arith}
+use Rattle.std.proofs.lemmas.Bool.{cases_Bool}
 use Rattle.std.proofs.lemmas.List.{take_rest}
+use Rattle.std.proofs.lemmas.List.Folds.{list_all_at}
+use Rattle.memchr.specs.Find.{Nowhere, Passes, is_byte3}
 use Rattle.std.specs.List.{list_all}
 use Rattle.mmtel_scan.specs.Scanning.{run, after_run, after_byte}
 use Rattle.mmtel_scan.specs.declared.classes.Class.TheVariants.{Blank, Token}
 use Rattle.mmtel_message.specs.Names.{long_name}
 use Rattle.mmtel_message.specs.Headers.{header_at, header_of, is_value_byte, trim}
 use Rattle.mmtel_message.proofs.PlaceLaws.{Ends, ends_at, ends_behind, ends_byte, ends_run}
+
+-- ---- the bytes of a value
+
+neither : (a b c : Bool) → (not a && not b && not c) ≡ not (a || b || c)
+neither true b c = refl
+neither false true c = refl
+neither false false c = refl
+
+byte_by : (x : ℕ) (found : Bool) → is_byte3 0 13 10 x ≡ found → is_value_byte x ≡ not found
+byte_by x found e = neither (x == 0) (x == 13) (x == 10) ∙ ap (λ (b : Bool). not b) e
+
+all_good : (s : List ℕ) → ((k : ℕ) → k < length s → is_byte3 0 13 10 (get_or s k 0) ≡ false) → list_all is_value_byte s ≡ true
+all_good [] other = refl
+all_good (b ∷ t) other =
+    let here : is_value_byte b ≡ true = byte_by b false (other 0 (omega arith)) in
+    let later : (k : ℕ) → k < length t → is_byte3 0 13 10 (get_or t k 0) ≡ false = λ k less. other (suc k) (omega (arith, less)) in
+    rw (here, all_good t later) refl
+
+lacks_bytes : (s : List ℕ) → Nowhere (Passes (is_byte3 0 13 10) s) 0 (length s) → (k : ℕ) → k < length s → is_byte3 0 13 10 (get_or s k 0) ≡ false
+lacks_bytes s none k less =
+    elim (cases_Bool (is_byte3 0 13 10 (get_or s k 0))) [
+      | inl y ↦ absurd (none k (omega arith) less y)
+      | inr n ↦ n
+    ]
+
+pub good_bytes : (s : List ℕ) → Nowhere (Passes (is_byte3 0 13 10) s) 0 (length s) → list_all is_value_byte s ≡ true
+good_bytes s none = all_good s (lacks_bytes s none)
+
+pub bad_byte : (s : List ℕ) (k : ℕ) → k < length s → Passes (is_byte3 0 13 10) s k → list_all is_value_byte s ≡ false
+bad_byte s k less here = list_all_at is_value_byte s k 0 less (byte_by (get_or s k 0) true here)
 
 -- ---- the value of a header line
 

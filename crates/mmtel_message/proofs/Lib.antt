@@ -1,3 +1,4 @@
+mod AnsweredLaws
 mod BodyLaws
 pub mod CanonicalLaws
 mod CommaLaws

@@ -1,10 +1,12 @@
 -- The values of a text as places of it, and lines whose values are places.
-use Rattle.std.proofs.Common.{◌≡◌, ◌≢◌, ◌==◌, ◌||◌, Bool, true, false, inl, inr, codes, ℕ, ◌+◌, ◌-◌, ◌≤◌, ◌<◌, List, [], ◌∷◌, ◌++◌, length, map, take, drop, get_or, Some, None, refl, sym, ap, ◌∙◌, arith, append_assoc, append-nil, add-one, drop-cons, take-suc}
+use Rattle.std.proofs.Common.{◌≡◌, ◌≢◌, ◌==◌, ◌||◌, Bool, true, false, inl, inr, codes, ℕ, ◌+◌, ◌-◌, ◌≤◌, ◌<◌, List, [], ◌∷◌, ◌++◌, length, map, take, drop, get_or, Some, None, refl, sym, ap, ◌∙◌, arith, append_assoc, append-nil, add-one, drop-cons, take-suc, take_all}
 use Rattle.std.proofs.lemmas.List.{length-append, length-take, take-append-drop, take_rest, take_at, drop_at, drop-drop, drop_all, map-append, length-map}
 use Rattle.std.proofs.lemmas.Bool.{cases_Bool}
 use Rattle.std.proofs.lemmas.Slice.Eq.{bytes_eq-Decides}
 use Rattle.std.specs.Char.{to_ascii_lowercase}
+use Rattle.std.specs.Bool.{OnFalse}
 use Rattle.std.specs.List.{list_any}
+use Rattle.std.specs.Prelude.{Option, is_some}
 use Rattle.std.specs.Str.{str_to_ascii_lowercase, str_eq_ignore_ascii_case}
 use Rattle.mmtel_scan.specs.Scanning.{run, after_run, trimmed}
 use Rattle.mmtel_scan.specs.declared.classes.Class.TheVariants.{Blank}
@@ -12,11 +14,13 @@ use Rattle.mmtel_scan.proofs.Runs.{run_whole, after_run_nil}
 use Rattle.mmtel_scan.proofs.Trims.{trimmed_takes, trimmed_again}
 use Rattle.mmtel_message.specs.Headers.{trim}
 use Rattle.mmtel_message.specs.Message.{Line, is_line}
-use Rattle.mmtel_message.specs.Held.{value_of, held_line, held_lines}
-use Rattle.mmtel_message.specs.Values.{base, parting, parts, values_in, values_of}
+use Rattle.mmtel_message.specs.Held.{at_place, value_of, held_line, held_lines}
+use Rattle.mmtel_message.specs.Values.{base, parting, parts, values_from, values_in, values_of}
 use Rattle.mmtel_message.specs.Expansion.{merged_text, listed_names, is_listed, lines_for, expanded_from}
 use Rattle.mmtel_message.specs.declared.values.Mode.{Mode}
 use Rattle.mmtel_message.specs.declared.held.HeldValue.{HeldValue}
+use Rattle.mmtel_message.specs.declared.held.Span.{Span}
+use Rattle.mmtel_message.specs.declared.values.Mode.TheVariants.{Plain}
 use Rattle.mmtel_message.proofs.CommaLaws.{parts_none, parts_some}
 
 -- ---- a part of a text without the blanks around it
@@ -93,6 +97,43 @@ merged_none m parting between = ap (λ (l : List ℕ). trim (l ++ [])) trim_nil 
 
 pub listed_lines : (privacy allow : List ℕ) (before : List Line) (h : Line) → (length h.0 == 0) ≡ false → is_line (codes "Privacy") h ≡ false → is_line (codes "Allow") h ≡ false → is_listed h ≡ true → lines_for privacy allow before h ≡ map (λ v. (h.0, v)) (values_of h.1)
 listed_lines privacy allow before h named x y l = rw (named, x, y, l) refl
+
+-- ---- lines that stand as they are held
+
+-- a text that is its first value whole, with none behind it
+pub one_value : (s : List ℕ) (p : Span) (after : Option ℕ) → values_in Plain (drop 0 s) ≡ at_place s p ∷ values_from Plain s after → is_some after ≡ false → length s ≤ p.len → p.from + p.len ≤ length s → values_of s ≡ s ∷ []
+one_value s p (Some n) values none long within = absurd cc
+one_value s p None values none long within =
+    let front : p.from ≡ 0 = omega (arith, long, within) in
+    let whole : at_place s p ≡ s = ap (λ (n : ℕ). take p.len (drop n s)) front ∙ take_all p.len s long in
+    values ∙ ap (λ (v : List ℕ). v ∷ []) whole
+
+-- a line of another name
+pub plain_stands : (name value : List ℕ) (privacy allow : List ℕ) (before : List Line) → (length name == 0) ≡ false → is_line (codes "Privacy") (name, value) ≡ false → is_line (codes "Allow") (name, value) ≡ false → is_listed (name, value) ≡ false → lines_for privacy allow before (name, value) ≡ (name, value) ∷ []
+plain_stands name value privacy allow before named x y l = rw (named, x, y, l) refl
+
+-- a line of a listed name with one value
+pub listed_stands : (b : Bool) (name value v : List ℕ) → v ≡ value → (length name == 0) ≡ false → is_line (codes "Privacy") (name, value) ≡ false → is_line (codes "Allow") (name, value) ≡ false → is_listed (name, value) ≡ true → OnFalse b (values_of v ≡ v ∷ []) → OnFalse b ((privacy allow : List ℕ) (before : List Line) → lines_for privacy allow before (name, value) ≡ (name, value) ∷ [])
+listed_stands true name value v e named x y l one = tt
+listed_stands false name value v e named x y l one = λ privacy allow before.
+    let single : values_of value ≡ value ∷ [] = ap (λ (w : List ℕ). values_of w) (sym e) ∙ one ∙ ap (λ (w : List ℕ). w ∷ []) e in
+    listed_lines privacy allow before (name, value) named x y l ∙ ap (λ (vs : List (List ℕ)). map (λ w. (name, w)) vs) single
+
+-- one more line that stands
+pub stood_over : (privacy allow s : List ℕ) (ls : List (List ℕ × HeldValue)) (i : ℕ) (x : List ℕ × HeldValue) (whole : List Line) → i < length ls → x ≡ get_or ls i x → lines_for privacy allow (held_lines s (take i ls)) (held_line s x) ≡ held_line s x ∷ [] → whole ≡ held_lines s (take i ls) ++ expanded_from privacy allow (held_lines s (take i ls)) (held_lines s (drop i ls)) → whole ≡ held_lines s (take (i + 1) ls) ++ expanded_from privacy allow (held_lines s (take (i + 1) ls)) (held_lines s (drop (i + 1) ls))
+stood_over privacy allow s ls i x whole lt at_i stands so_far =
+    let more : take i ls ++ x ∷ [] ≡ take (i + 1) ls = rw (add-one, take-suc ls i x lt, sym at_i) refl in
+    let held : held_lines s (take i ls) ++ held_line s x ∷ [] ≡ held_lines s (take (i + 1) ls) = sym (map-append (λ h. held_line s h) (take i ls) (x ∷ [])) ∙ ap (λ (l : List (List ℕ × HeldValue)). held_lines s l) more in
+    let front : held_lines s (take i ls) ++ lines_for privacy allow (held_lines s (take i ls)) (held_line s x) ≡ held_lines s (take (i + 1) ls) = ap (λ (l : List Line). held_lines s (take i ls) ++ l) stands ∙ held in
+    held_over privacy allow s ls (held_lines s (take i ls)) i x whole lt at_i so_far
+    ∙ ap (λ (l : List Line). l ++ expanded_from privacy allow (held_lines s (take (i + 1) ls)) (held_lines s (drop (i + 1) ls))) front
+
+pub stood_all : (privacy allow s : List ℕ) (ls : List (List ℕ × HeldValue)) (i : ℕ) (whole : List Line) → i ≡ length ls → whole ≡ held_lines s (take i ls) ++ expanded_from privacy allow (held_lines s (take i ls)) (held_lines s (drop i ls)) → whole ≡ held_lines s ls
+stood_all privacy allow s ls i whole e so_far =
+    held_all privacy allow s ls (held_lines s (take i ls)) i whole e so_far
+    ∙ ap (λ (l : List (List ℕ × HeldValue)). held_lines s l) (take_all i ls (omega (arith, e)))
+
+-- ---- names
 
 -- names of different lengths differ
 pub other_length : (a b : List ℕ) → length a ≢ length b → str_eq_ignore_ascii_case a b ≡ false

@@ -65,3 +65,13 @@ values_of s = values_in Plain s
 abbrev pub joined_by : List ℕ → List (List ℕ) → List ℕ
 joined_by between [] = []
 joined_by between (v ∷ vs) = v ++ flat_map (λ w. between ++ w) vs
+
+-- ---- words of private functions
+
+-- the only byte that may part two values, where a text stands so
+abbrev pub separator : Mode → ℕ
+separator Plain = 44
+separator Quoted = 44
+separator Escaped = 44
+separator Angle = 44
+separator Words = 59

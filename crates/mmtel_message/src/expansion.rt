@@ -1,13 +1,15 @@
 //! The header lines of a canonical text (RFC 3261 §7.3.1).
-ghost use Rattle.std.specs.Prelude.{◌≡◌, ◌||◌, [], ◌∷◌, ◌++◌, IfOk, OnOk, codes, map};
+ghost use Rattle.std.specs.Prelude.{◌≡◌, ◌||◌, ℕ, List, [], ◌∷◌, ◌++◌, IfOk, OnOk, codes, map};
+ghost use Rattle.std.specs.Bool.{OnFalse, OnTrue};
 ghost use Rattle.std.specs.List.{list_any};
 ghost use Rattle.std.specs.Str.{str_eq_ignore_ascii_case};
 ghost use Rattle.mmtel_message.specs.Held.{held_line, held_lines, value_of};
+ghost use Rattle.mmtel_message.specs.Message.{Line};
 ghost use Rattle.mmtel_message.specs.Values.{base, values_of};
 ghost use Rattle.mmtel_message.specs.Expansion.{listed_names, merged_text, privacy_text, allow_text, at_first, lines_for, expanded_from, expanded};
 
 use crate::edits::Edit;
-use crate::held::{Held, HeldValue, Lines, placed, placed_part, value_of};
+use crate::held::{Held, HeldValue, Lines, place_of, placed, placed_part, value_of};
 use crate::messages::{has_line, is_named, line_texts};
 use crate::values::{Mode, joined_by, next_value, values_in};
 use mmtel_lex::{List, NoMemory, Text};
@@ -232,4 +234,66 @@ pub fn expanded(alloc: Global, bytes: &[u8], lines: &[Held]) -> Result<List<Held
 {
     let whole = Lines::of(bytes, lines, &[]);
     expanded_in(alloc, bytes, &whole, lines)
+}
+
+/// Whether a text may have further values, or blanks around its only one.
+#[tactic(auto, using(crate::proofs::PartLaws::one_value))]
+pub fn may_part(text: &[u8]) -> bool
+    ensures { OnFalse result (values_of text.now ≡ text.now ∷ []) }
+{
+    let (place, after) = next_value(Mode::Plain, text, 0);
+    if after.is_some() {
+        return true;
+    }
+    if place.len < text.len() {
+        return true;
+    }
+    false
+}
+
+/// Whether other lines may stand in place of one: it has no name, is one of those that are merged, is an edit, or may have several values.
+fn may_change(bytes: &[u8], line: &Held) -> bool
+    ensures { OnFalse result ((privacy allow : List ℕ) (before : List Line) → lines_for privacy allow before (held_line bytes.now line.now) ≡ held_line bytes.now line.now ∷ []) }
+{
+    let name = line.0.bytes();
+    if name.is_empty() {
+        return true;
+    }
+    if is_named(name, b"Privacy") {
+        return true;
+    }
+    if is_named(name, b"Allow") {
+        return true;
+    }
+    if place_of(&line.1).is_none() {
+        return true;
+    }
+    if is_listed(name) {
+        return may_part(value_of(bytes, &line.1));
+    }
+    false
+}
+
+/// Whether each of the lines stands in the canonical text as it is held.
+fn all_stand(bytes: &[u8], lines: &[Held]) -> bool
+    ensures { OnTrue result (expanded (held_lines bytes.now lines.now) ≡ held_lines bytes.now lines.now) }
+{
+    for i in 0..lines.len() {
+        if may_change(bytes, &lines[i]) {
+            return false;
+        }
+    }
+    true
+}
+
+/// The lines of the canonical text of a message that has these lines, which are given up: these themselves where each stands as it is.
+pub fn expanded_list(alloc: Global, bytes: &[u8], lines: List<Held>) -> Result<List<Held>, NoMemory>
+    ensures { IfOk result (λ ls. held_lines bytes.now ls ≡ expanded (held_lines bytes.now lines)) }
+{
+    if all_stand(bytes, lines.items()) {
+        return Ok(lines);
+    }
+    let built = expanded(alloc, bytes, lines.items());
+    drop(lines);
+    built
 }

@@ -10,21 +10,19 @@ use crate::edits::Edit;
 use crate::held::{Held, HeldValue, Span, at_place, part_of, value_of};
 use crate::names::long_name;
 use crate::values::trimmed_place;
+use memchr::memchr3;
 use mmtel_lex::{List, NoMemory, Text};
 use mmtel_scan::{Class, skip_byte, split_run};
 use std::alloc::Global;
 
-fn is_value_byte(byte: u8) -> bool
-    ensures { result ≡ is_value_byte byte }
-{
-    byte != 0 && byte != b'\r' && byte != b'\n'
-}
-
-/// Whether the bytes may stand in a value.
+/// Whether the bytes may stand in a value: no byte 0, CR or LF is among them.
 pub fn is_value(value: &[u8]) -> bool
     ensures { result ≡ list_all is_value_byte value.now }
 {
-    value.iter().all(|byte| is_value_byte(*byte))
+    match memchr3(0, b'\r', b'\n', value) {
+        None => true,
+        Some(_) => false,
+    }
 }
 
 /// A header line: its name, and where its value stands in it; None where it is none.

@@ -100,7 +100,8 @@ pub fn placed(alloc: Global, received: &[u8], value: &HeldValue) -> Result<HeldV
     placed_part(alloc, received, value, Span { from: 0, len })
 }
 
-fn place_of(value: &HeldValue) -> Option<Span>
+/// Where a value stands among the bytes received; None of an edit.
+pub fn place_of(value: &HeldValue) -> Option<Span>
     ensures { result ≡ place_of value.now }
 {
     match value {

@@ -2,6 +2,7 @@
 #![tactic(auto)]
 
 mod addresses;
+mod answered;
 mod building;
 mod edits;
 mod entries;

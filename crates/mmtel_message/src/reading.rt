@@ -9,7 +9,7 @@ ghost use Rattle.mmtel_message.specs.Reads.{reads, Reads, Stops, large_of, large
 ghost use Rattle.mmtel_message.specs.Replies.{reply_to};
 ghost use Rattle.mmtel_message.specs.declared.reading.ReadFault.TheVariants as fault;
 
-use crate::expansion::expanded;
+use crate::expansion::expanded_list;
 use crate::faults::first_fault;
 use crate::field_refs::five_ref;
 use crate::headers::headers;
@@ -19,7 +19,7 @@ use crate::lines::{Break, lines, place, whole_end};
 use crate::messages::{Msg, Start, first_of};
 use crate::replies::reply_to;
 use crate::starts::start;
-use mmtel_lex::{LexFault, NoMemory, Text};
+use mmtel_lex::{LexFault, List, NoMemory, Text};
 use mmtel_scan::number_up_to;
 use std::alloc::Global;
 
@@ -132,19 +132,19 @@ fn whole_message(
     start: Start,
     bytes: Text,
     end: usize,
-    lines: &[Held],
+    lines: List<Held>,
     identifiers: Box<KeptIdentifiers>,
 ) -> Result<Msg, NoMemory>
     requires head { end + 4 ≤ length bytes }
-    requires said { identifiers_in (expanded (held_lines bytes lines.now)) ≡ Some identifiers.value }
-    ensures { IfOk result (λ m. m ≡ message_of start (held_lines bytes lines.now) (drop (end + 4) bytes)) }
+    requires said { identifiers_in (expanded (held_lines bytes lines)) ≡ Some identifiers.value }
+    ensures { IfOk result (λ m. m ≡ message_of start (held_lines bytes lines) (drop (end + 4) bytes)) }
 {
     let from = end + 4;
     let len = body_len(
-        &Lines::of(bytes.bytes(), lines, &[]),
+        &Lines::of(bytes.bytes(), lines.items(), &[]),
         bytes.bytes().len() - from,
     );
-    match expanded(alloc, bytes.bytes(), lines) {
+    match expanded_list(alloc, bytes.bytes(), lines) {
         Err(NoMemory) => {
             drop(identifiers);
             drop(bytes);
@@ -163,13 +163,14 @@ fn after_head(
     start: Start,
     bytes: Text,
     end: usize,
-    lines: &[Held],
+    lines: List<Held>,
 ) -> Result<Msg, ReadFault>
     requires { end + 4 ≤ length bytes }
-    ensures { Reads result (after_head (message_head (Some start) (held_lines bytes lines.now)) (drop (end + 4) bytes)) }
+    ensures { Reads result (after_head (message_head (Some start) (held_lines bytes lines)) (drop (end + 4) bytes)) }
 {
-    match looked_over(alloc, &start, bytes.bytes(), end, lines) {
+    match looked_over(alloc, &start, bytes.bytes(), end, lines.items()) {
         Err(fault) => {
+            drop(lines);
             drop(bytes);
             drop(start);
             Err(fault)
@@ -190,9 +191,7 @@ fn read_headers(
     ensures { Reads result (after_head (message_head (Some start) (map header_line (map (value_of bytes) lines.now))) (drop (end + 4) bytes)) }
 {
     let headers = headers(alloc, bytes.bytes(), lines)?;
-    let read = after_head(alloc, start, bytes, end, headers.items());
-    drop(headers);
-    read
+    after_head(alloc, start, bytes, end, headers)
 }
 
 /// Reads a message whose head ends at a place of its bytes and has these lines.

@@ -4,9 +4,10 @@ ghost use Rattle.std.specs.List.{flat_map};
 ghost use Rattle.std.specs.Option.{option_copied};
 ghost use Rattle.mmtel_message.specs.Headers.{trim};
 ghost use Rattle.mmtel_message.specs.Held.{at_place};
-ghost use Rattle.mmtel_message.specs.Values.{mode_after, is_parting, base, parting, parts, rest_parts, values_in, values_from, joined_by};
+ghost use Rattle.mmtel_message.specs.Values.{mode_after, is_parting, base, parting, separator, parts, rest_parts, values_in, values_from, joined_by};
 
 use crate::held::Span;
+use memchr::memchr;
 use mmtel_lex::{List, NoMemory, Text};
 use mmtel_scan::{Class, split_run, trim, trim_end};
 use std::alloc::Global;
@@ -84,8 +85,8 @@ fn base(mode: Mode) -> Mode
     }
 }
 
-/// The place of the first byte that parts.
-fn parting(mode: Mode, bytes: &[u8]) -> Option<usize>
+/// The place of the first byte that parts, looked for byte by byte.
+fn walked_parting(mode: Mode, bytes: &[u8]) -> Option<usize>
     ensures place { result ≡ parting mode bytes.now }
     ensures within { IfSome result (λ n. n < length bytes.now) }
 {
@@ -97,6 +98,27 @@ fn parting(mode: Mode, bytes: &[u8]) -> Option<usize>
         current = current.after(*byte);
     }
     None
+}
+
+/// The only byte that may part two values.
+fn separator(mode: Mode) -> u8
+    ensures { result ≡ separator mode }
+{
+    match mode {
+        Mode::Plain | Mode::Quoted | Mode::Escaped | Mode::Angle => b',',
+        Mode::Words => b';',
+    }
+}
+
+/// The place of the first byte that parts. Most texts have none that may, which one search tells.
+fn parting(mode: Mode, bytes: &[u8]) -> Option<usize>
+    ensures place { result ≡ parting mode bytes.now }
+    ensures within { IfSome result (λ n. n < length bytes.now) }
+{
+    match memchr(separator(mode), bytes) {
+        None => None,
+        Some(_) => walked_parting(mode, bytes),
+    }
 }
 
 /// The first part, and what follows it, where there is more.

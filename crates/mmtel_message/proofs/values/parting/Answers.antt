@@ -1,13 +1,6 @@
-use Rattle.std.proofs.Common.{sym, ◌∙◌, arith}
-use Rattle.mmtel_message.specs.Values.{parting}
-use Rattle.mmtel_message.proofs.CommaLaws.{over, stops_at, never}
+use Rattle.std.proofs.Common.{sym}
+use Rattle.mmtel_message.proofs.CommaLaws.{no_parting}
 use Rattle.mmtel_message.proofs.values.parting.Goals as goal
 
-pub returns-then-is_parting-clause-place : goal.returns-then-is_parting-clause-place
-returns-then-is_parting-clause-place c = sym (stops_at c.loop-i.current (parting c.args.mode c.args.bytes.now) c.loop-i.i c.args.bytes.now (omega arith) (sym c.is_parting.ensures ∙ c.if-is_parting.true) c.loop-i.invariant)
-
-pub loop-i-preserved : goal.loop-i-preserved
-loop-i-preserved c = rw c.after-current.ensures (over c.loop-i.current (parting c.args.mode c.args.bytes.now) c.loop-i.i c.args.bytes.now (omega arith) (sym c.is_parting.ensures ∙ c.if-is_parting.false) c.loop-i.invariant)
-
-pub returns-clause-place : goal.returns-clause-place
-returns-clause-place c = sym (never c.loop-i.current (parting c.args.mode c.args.bytes.now) c.loop-i.i c.args.bytes.now (omega arith) c.loop-i.invariant)
+pub returns-in-None-clause-place : goal.returns-in-None-clause-place
+returns-in-None-clause-place c = sym (no_parting c.args.mode c.args.bytes.now (rw c.separator.ensures at c.in-None.ensures))

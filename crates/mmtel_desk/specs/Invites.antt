@@ -31,9 +31,12 @@ of_awaited (Some cseq) = is_awaited_method cseq.method
 abbrev pub behind : Option (List ℕ) → Option (List ℕ)
 behind branch = branch >>= behind_cookie
 
--- of the first Via, and of a CSeq
+-- of the first Via, whole and behind its cookie, and of a CSeq
+abbrev pub first_branch_in : List (List ℕ) → Option (List ℕ)
+first_branch_in vias = first_via vias >>= via_branch
+
 abbrev pub branch_in : List (List ℕ) → Option (List ℕ)
-branch_in vias = behind (first_via vias >>= via_branch)
+branch_in vias = behind (first_branch_in vias)
 
 abbrev pub answers_awaited : Option (List ℕ) → Bool
 answers_awaited cseq = of_awaited (cseq >>= cseq_at)

@@ -1,42 +1,41 @@
 //! Which request a response answers, of those whose answer is waited for.
 ghost use Rattle.std.specs.Prelude.{◌≡◌, IfOk};
 ghost use Rattle.std.specs.Option.{option_copied};
-ghost use Rattle.mmtel_desk.specs.Invites.{answers_awaited, behind, branch_in, first_via, invite_answered, invite_silent, is_awaited_method};
+ghost use Rattle.mmtel_desk.specs.Invites.{answers_awaited, behind, behind_cookie, branch_in, first_branch_in, invite_answered, invite_silent, is_awaited_method};
 
 use mmtel_answers::Hearing;
-use mmtel_message::{ViaRef, cseq_ref, via_ref};
 use mmtel_scan::{NoMemory, Text, skip_text};
 use std::alloc::Global;
 
-/// The branch behind its cookie.
-fn behind_cookie(branch: Option<&[u8]>) -> Option<&[u8]>
+/// What stands behind the cookie of a branch (RFC 3261 §8.1.1.7); None where it does not begin with it.
+pub fn behind_cookie(branch: &[u8]) -> Option<&[u8]>
+    ensures behind { option_copied result ≡ behind_cookie branch.now }
+{
+    skip_text(b"z9hG4bK", branch)
+}
+
+/// The branch behind its cookie, where there is one.
+fn behind(branch: Option<&[u8]>) -> Option<&[u8]>
     ensures { option_copied result ≡ behind (option_copied branch.entry) }
 {
     match branch {
         None => None,
-        Some(branch) => skip_text(b"z9hG4bK", branch),
+        Some(branch) => behind_cookie(branch),
     }
 }
 
-/// The first Via of a message, where it can be read.
-#[tactic(auto, using(crate::proofs::FirstVia::via_read))]
-fn first_via(m: &Hearing) -> Option<ViaRef<'_>>
-    ensures { result ≡ first_via m.now.heard.vias }
+/// The branch of the first Via of a message, where it can be read.
+fn first_branch(m: &Hearing) -> Option<&[u8]>
+    ensures { option_copied result ≡ first_branch_in m.now.heard.vias }
 {
-    match m.message.first(b"Via") {
-        None => None,
-        Some(value) => via_ref(value),
-    }
+    m.message.first_branch()
 }
 
-/// The branch, behind its cookie, of the first Via of a response.
-fn branch_of(m: &Hearing) -> Option<&[u8]>
-    ensures { option_copied result ≡ branch_in m.now.heard.vias }
+/// The branch, behind its cookie, of the first Via of a response: that of the request that it answers (RFC 3261 §17.1.3).
+pub fn branch_of(m: &Hearing) -> Option<&[u8]>
+    ensures branch { option_copied result ≡ branch_in m.now.heard.vias }
 {
-    match first_via(m) {
-        None => None,
-        Some(via) => behind_cookie(via.param(b"branch")),
-    }
+    behind(first_branch(m))
 }
 
 /// Whether the answer to a request of the method is waited for: to an INVITE (RFC 3261 §13), and to a PRACK (RFC 3262 §4) or an UPDATE (RFC 3311 §5.1) that a call relays.
@@ -52,12 +51,9 @@ fn is_awaited_method(method: &[u8]) -> bool
 fn is_awaited_answer(m: &Hearing) -> bool
     ensures { result ≡ answers_awaited m.now.heard.cseq }
 {
-    match m.message.first(b"CSeq") {
+    match m.message.first_method() {
         None => false,
-        Some(value) => match cseq_ref(value) {
-            None => false,
-            Some(cseq) => is_awaited_method(cseq.method()),
-        },
+        Some(method) => is_awaited_method(method),
     }
 }
 
@@ -91,7 +87,7 @@ pub fn invite_silent<'a>(branch: &'a [u8], method: &[u8]) -> Option<&'a [u8]>
     ensures { option_copied result ≡ invite_silent branch.now method.now }
 {
     if is_awaited_method(method) {
-        return skip_text(b"z9hG4bK", branch);
+        return behind_cookie(branch);
     }
     None
 }

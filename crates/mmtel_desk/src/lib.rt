@@ -16,7 +16,7 @@ mod sending;
 pub use desks::{Desk, file};
 pub use index::Index;
 pub use invitations::{Invitation, Loose, drop_at, loose_of, once_cancelled, with_early};
-pub use invites::{invite_answered, invite_silent};
+pub use invites::{behind_cookie, branch_of, invite_answered, invite_silent};
 pub use laws::{
     answers_have_heads, masked_requests_have_one_head, repeats_have_heads, requests_have_heads,
 };

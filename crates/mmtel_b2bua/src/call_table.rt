@@ -278,7 +278,7 @@ impl CallTable {
         }
     }
 
-    /// The call that an INVITE opens beside these.
+    /// The call that an INVITE opens beside these, in a block of its own.
     ///
     /// # Errors
     ///
@@ -288,15 +288,15 @@ impl CallTable {
         step: &Step<'_>,
         arrival: Arrival,
         desk: &mut Desk,
-    ) -> Result<Call, NoMemory>
+    ) -> Result<Box<Call>, NoMemory>
         requires { arrival.number.0 ≡ next_number self.old.opened }
-        ensures call { IfOk result (λ call. call
+        ensures call { IfOk result (λ call. call.value
             ≡ (open_of step.now.setting.now step.now.at step.now.sheets.now
             (busy_with arrival self.old.entries) arrival desk.old).call) }
         ensures desk { OnOk result (desk.new
             ≡ (open_of step.now.setting.now step.now.at step.now.sheets.now
             (busy_with arrival self.old.entries) arrival desk.old).desk) }
-        ensures number { IfOk result (λ call. call.opening.number ≡ arrival.number) }
+        ensures number { IfOk result (λ call. call.value.opening.number ≡ arrival.number) }
         ensures same { self.new ≡ self.old }
     {
         calls_go_on();

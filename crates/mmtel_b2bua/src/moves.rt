@@ -134,20 +134,23 @@ fn first_invite(alloc: Global, key: TKey) -> Result<List<InviteKey>, NoMemory>
 fn keep_call(
     table: &mut CallTable,
     alloc: Global,
-    call: Call,
+    call: Box<Call>,
     key: TKey,
     at: Moment,
 ) -> Result<(), NoMemory>
-    requires { call.opening.number.0 ≡ next_number table.old.opened }
+    requires { call.value.opening.number.0 ≡ next_number table.old.opened }
     ensures { OnOk result (table.new ≡ record table.old {
-      entries = table.old.entries ++ kept (record { call = call; invites = record { key = key; side = Caller } ∷ [] });
+      entries = table.old.entries ++ kept (record { call = call.value; invites = record { key = key; side = Caller } ∷ [] });
       opened = next_number table.old.opened;
     }) }
 {
     match first_invite(alloc, key) {
-        Ok(invites) => table.add(alloc, Entry { call, invites }, at),
+        Ok(invites) => {
+            let call = Box::into_inner(call);
+            table.add(alloc, Entry { call, invites }, at)
+        }
         Err(error) => {
-            call.give_up(at);
+            Box::into_inner(call).give_up(at);
             Err(error)
         }
     }

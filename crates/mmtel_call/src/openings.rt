@@ -32,6 +32,19 @@ fn no_acks(alloc: Global, opening: &Opening) -> Result<Acks, NoMemory>
     Acks::new(alloc, number_of(&opening.invite).unwrap_or(0))
 }
 
+/// A call in a block of its own, so that nothing large is moved where it goes from here.
+fn boxed(step: &Step<'_>, call: Call) -> Result<Box<Call>, NoMemory>
+    ensures { IfOk result (λ b. b.value ≡ call) }
+{
+    match Box::new(step.alloc, call) {
+        Ok(boxed) => Ok(boxed),
+        Err(refused) => {
+            refused.value.give_up(step.present.at);
+            Err(NoMemory)
+        }
+    }
+}
+
 /// The first target of a call, and its diversions as it opens.
 fn first_way(step: &Step<'_>, opening: &Opening) -> Result<(Target, Diversions), NoMemory>
     ensures target { IfOk result (λ r. r.0 ≡ first_of opening.now) }
@@ -204,9 +217,9 @@ impl Call {
         opening: Opening,
         acks: Acks,
         desk: &mut Desk,
-    ) -> Result<Call, NoMemory>
+    ) -> Result<Box<Call>, NoMemory>
         requires { acks ≡ (new_call step.now.setting.now opening).acks }
-        ensures call { IfOk result (λ c. c
+        ensures call { IfOk result (λ c. c.value
             ≡ (begins step.now.setting.now (standing step.now.present) (new_call step.now.setting.now opening)
             desk.old).call) }
         ensures desk { OnOk result (desk.new
@@ -222,7 +235,7 @@ impl Call {
             Ok((target, diversions)) => {
                 let mut call = Call::new(step.setting, opening, diversions, acks);
                 match call.begin(step, target, desk) {
-                    Ok(()) => Ok(call),
+                    Ok(()) => Ok(boxed(step, call)?),
                     Err(error) => {
                         call.give_up(step.present.at);
                         Err(error)
@@ -233,8 +246,8 @@ impl Call {
     }
 
     /// The call of this opening begins.
-    fn open_by(step: &Step<'_>, opening: Opening, desk: &mut Desk) -> Result<Call, NoMemory>
-        ensures call { IfOk result (λ c. c
+    fn open_by(step: &Step<'_>, opening: Opening, desk: &mut Desk) -> Result<Box<Call>, NoMemory>
+        ensures call { IfOk result (λ c. c.value
             ≡ (begins step.now.setting.now (standing step.now.present) (new_call step.now.setting.now opening)
             desk.old).call) }
         ensures desk { OnOk result (desk.new
@@ -250,7 +263,8 @@ impl Call {
         }
     }
 
-    /// Opens a call (RFC 3261 §12.1.1): the caller's leg is made, and the INVITE goes to its first target, or to where the call is diverted; or the call is refused.
+    /// Opens a call (RFC 3261 §12.1.1), which is given in a block of its own: the caller's leg is made, and the INVITE goes to its first target, or to where the call is
+    /// diverted; or the call is refused.
     ///
     /// # Errors
     ///
@@ -262,8 +276,8 @@ impl Call {
         present: &Present<'_>,
         arrival: Arrival,
         desk: &mut Desk,
-    ) -> Result<Call, NoMemory>
-        ensures call { IfOk result (λ c. c ≡ (opened setting.now (standing present.now) arrival desk.old).call) }
+    ) -> Result<Box<Call>, NoMemory>
+        ensures call { IfOk result (λ c. c.value ≡ (opened setting.now (standing present.now) arrival desk.old).call) }
         ensures desk { OnOk result (desk.new ≡ (opened setting.now (standing present.now) arrival desk.old).desk) }
     {
         let step = Step::new(alloc, setting, present);

@@ -156,6 +156,7 @@ fn open(
             None
         }
         Ok(call) => {
+            let call = Box::into_inner(call);
             tell_step(told, wire, Ok(()), &call);
             Some(call)
         }

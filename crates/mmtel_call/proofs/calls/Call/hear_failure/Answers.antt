@@ -5,7 +5,7 @@ use Rattle.mmtel_desk.specs.declared.desks.Desk.{Desk}
 use Rattle.mmtel_lex.specs.declared.values.Uri.{Uri}
 use Rattle.mmtel_precedence.specs.Attempts.{end_by_final}
 use Rattle.mmtel_call_decisions.specs.Decisions.{redirect_of}
-use Rattle.mmtel_call_decisions.specs.Site.{Site, standing}
+use Rattle.mmtel_call_decisions.specs.Site.{standing}
 use Rattle.mmtel_call.specs.Closing.{Step}
 use Rattle.mmtel_call.specs.Diverting.{goes_on}
 use Rattle.mmtel_types.specs.declared.addrs.Addr.{Addr}

@@ -1,5 +1,5 @@
 -- the answer that the PRACK names is the one that it acknowledges to the target, and what else stands of the call makes no difference to what goes out
-use Rattle.std.proofs.Common.{◌≡◌, ◌∙◌, ◌++◌, ℕ, Option, Some, Result, Ok, Err, OnOk, ap, codes}
+use Rattle.std.proofs.Common.{◌∙◌, ◌++◌, ℕ, Option, Some, Result, Ok, Err, OnOk, ap, codes}
 use Rattle.mmtel_desk.specs.Sending.{asked_for}
 use Rattle.mmtel_types.specs.declared.sides.Side.TheVariants.{Caller}
 use Rattle.mmtel_call_decisions.specs.Reliable.{rack_line}

@@ -6,7 +6,7 @@ use Rattle.mmtel_desk.specs.declared.desks.Desk.{Desk}
 use Rattle.mmtel_desk.specs.declared.invitations.Loose.{Loose}
 use Rattle.mmtel_precedence.specs.Told.{told_end}
 use Rattle.mmtel_call_decisions.specs.Decisions.{decided_after}
-use Rattle.mmtel_call_decisions.specs.Site.{Site, standing}
+use Rattle.mmtel_call_decisions.specs.Site.{standing}
 use Rattle.mmtel_call.specs.Calls.{Call}
 use Rattle.mmtel_call.specs.Closing.{Step, with_past}
 use Rattle.mmtel_call.specs.Diverting.{is_diverted, on_end}

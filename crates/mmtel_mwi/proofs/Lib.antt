@@ -1,0 +1,6 @@
+mod Keys
+mod Mailing
+mod Places
+mod Standing
+mod Tables
+mod Told

@@ -1,0 +1,43 @@
+-- When a SUBSCRIBE is refused, and for how long it makes a subscription stand (RFC 6665 §4.2.1, RFC 3842 §3, 3GPP TS 24.606).
+use Rattle.std.specs.Prelude.{ℕ, ◌==◌, min, Bool, false, not, ◌||◌, List, Option, Some, None, if◌then◌else◌, codes}
+use Rattle.std.specs.Option.{unwrap_or}
+use Rattle.std.specs.Str.{bytes_eq}
+use Rattle.mmtel_types.specs.declared.numbers.Account.{Account}
+
+-- what decides of it: it came from a trusted peer; it is within the dialog of a subscription; the account of whoever its sender is asserted to be, and the one whose mailbox its
+-- Request-URI names; the first Event; and that it has one Contact, which can be read
+pub record Asking : Type 0 where
+  pub trusted : Bool
+  pub within : Bool
+  pub sender : Option Account
+  pub mailbox : Option Account
+  pub event : Option (List ℕ)
+  pub has_contact : Bool
+
+-- these are one account
+abbrev pub are_one : (one other : Option Account) → Bool
+are_one None other = false
+are_one (Some a) None = false
+are_one (Some a) (Some b) = a.0 == b.0
+
+-- everybody has a mailbox to itself; within the dialog of a subscription that is known
+abbrev pub may_ask : Asking → Bool
+may_ask asking = asking.within || are_one asking.sender asking.mailbox
+
+-- of this event alone something is known (RFC 3842 §3.1), without parameters
+abbrev pub is_summary : Option (List ℕ) → Bool
+is_summary None = false
+is_summary (Some event) = bytes_eq event (codes "message-summary")
+
+-- the status of the first refusal that applies
+abbrev pub refusal : Asking → Option ℕ
+refusal asking =
+    if not asking.trusted then Some 403
+    else if not (may_ask asking) then Some 403
+    else if not (is_summary asking.event) then Some 489
+    else if not asking.has_contact then Some 400
+    else None
+
+-- for how many seconds it stands: an hour without Expires, or where it is no number (RFC 3842 §3.4), and a day at most
+abbrev pub granted : (expires : Option ℕ) → ℕ
+granted expires = min (unwrap_or expires 3600) 86400

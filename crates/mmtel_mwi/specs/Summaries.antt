@@ -1,0 +1,15 @@
+-- What a subscriber is told of a mailbox: whether messages wait, and how many (RFC 3842 §5.2).
+use Rattle.std.specs.Prelude.{ℕ, ◌==◌, List, ◌++◌, codes, decimal, if◌then◌else◌}
+use Rattle.mmtel_mwi.specs.declared.counts.Counts.{Counts}
+
+-- new messages alone wait
+abbrev pub yes_or_no : (fresh : ℕ) → List ℕ
+yes_or_no fresh = if fresh == 0 then codes "no" else codes "yes"
+
+-- new and old ones, and of each the urgent ones in parentheses
+abbrev pub voice : Counts → List ℕ
+voice c =
+    decimal c.fresh ++ (codes "/" ++ (decimal c.old ++ (codes " (" ++ (decimal c.urgent_fresh ++ (codes "/" ++ (decimal c.urgent_old ++ codes ")"))))))
+
+unfoldable pub summary : Counts → List ℕ
+summary c = codes "Messages-Waiting: " ++ (yes_or_no c.fresh ++ (codes "\r\nVoice-Message: " ++ (voice c ++ codes "\r\n")))

@@ -1,0 +1,111 @@
+//! What a subscriber is told.
+ghost use Rattle.std.specs.Prelude.{◌≡◌, IfOk, OnErr, OnOk, codes};
+ghost use Rattle.mmtel_leg.specs.Dialogues.{after_request};
+ghost use Rattle.mmtel_leg.specs.Legs.{with_dialogue};
+ghost use Rattle.mmtel_mwi.specs.Notices.{notice_in, notice_lines, seconds_left, state_text};
+ghost use Rattle.mmtel_mwi.specs.Summaries.{summary, voice, yes_or_no};
+
+use crate::counts::Counts;
+use mmtel_answers::own_request;
+use mmtel_leg::{CallerLeg, Standing};
+use mmtel_message::{Line, Msg, add_bytes, add_line};
+use mmtel_scan::{List, NoMemory, Text, add_number};
+use mmtel_types::{Addr, Moment};
+use std::alloc::Global;
+
+fn yes_or_no(fresh: u32) -> &'static [u8]
+    ensures { result.now ≡ yes_or_no fresh }
+{
+    if fresh == 0 { b"no" } else { b"yes" }
+}
+
+/// New and old voice messages, and of each the urgent ones.
+fn voice(alloc: Global, counts: &Counts) -> Result<Text, NoMemory>
+    ensures { IfOk result (λ t. t ≡ voice counts.now) }
+{
+    let mut out = Text::new();
+    add_number(alloc, &mut out, u64::from(counts.fresh))?;
+    out.push(alloc, b"/")?;
+    add_number(alloc, &mut out, u64::from(counts.old))?;
+    out.push(alloc, b" (")?;
+    add_number(alloc, &mut out, u64::from(counts.urgent_fresh))?;
+    out.push(alloc, b"/")?;
+    add_number(alloc, &mut out, u64::from(counts.urgent_old))?;
+    out.push(alloc, b")")?;
+    Ok(out)
+}
+
+/// What a subscriber is told of a mailbox, as `application/simple-message-summary` (RFC 3842 §5.2): whether new messages wait, and how many new and old voice messages there are,
+/// with the urgent ones of each.
+///
+/// # Errors
+///
+/// Want of memory alone.
+#[tactic(auto, unfolding(crate::specs::Summaries::summary))]
+pub fn summary(alloc: Global, counts: &Counts) -> Result<Text, NoMemory>
+    ensures summary { IfOk result (λ t. t ≡ summary counts.now) }
+{
+    let voice = voice(alloc, counts)?;
+    let mut out = Text::of(alloc, b"Messages-Waiting: ")?;
+    out.push(alloc, yes_or_no(counts.fresh))?;
+    out.push(alloc, b"\r\nVoice-Message: ")?;
+    out.push(alloc, voice.bytes())?;
+    out.push(alloc, b"\r\n")?;
+    Ok(out)
+}
+
+/// The whole seconds from now until a moment; 0 once it is not past now.
+pub fn seconds_left(until: Moment, now: Moment) -> u64
+    ensures { result ≡ seconds_left until now }
+{
+    until.ms().saturating_sub(now.ms()) / 1000
+}
+
+/// How long a subscription stands (RFC 6665 §4.1.3).
+fn state_text(alloc: Global, last: bool, seconds: u64) -> Result<Text, NoMemory>
+    ensures { IfOk result (λ t. t ≡ state_text last seconds) }
+{
+    if last {
+        return Text::of(alloc, b"terminated;reason=timeout");
+    }
+    let mut out = Text::of(alloc, b"active;expires=")?;
+    add_number(alloc, &mut out, seconds)?;
+    Ok(out)
+}
+
+/// The lines of a NOTIFY.
+#[tactic(auto, unfolding(crate::specs::Notices::notice_lines, mmtel_message::specs::Message::line))]
+fn notice_lines(alloc: Global, last: bool, seconds: u64) -> Result<List<Line>, NoMemory>
+    ensures { IfOk result (λ ls. ls ≡ notice_lines last seconds) }
+{
+    let state = state_text(alloc, last, seconds)?;
+    let mut lines = List::new();
+    add_bytes(alloc, &mut lines, b"Event", b"message-summary")?;
+    add_line(alloc, &mut lines, b"Subscription-State", state)?;
+    add_bytes(
+        alloc,
+        &mut lines,
+        b"Content-Type",
+        b"application/simple-message-summary",
+    )?;
+    Ok(lines)
+}
+
+/// The NOTIFY to whoever has the leg.
+pub fn notice(
+    alloc: Global,
+    sip: Addr,
+    leg: &mut CallerLeg<Standing>,
+    branch: &Text,
+    last: bool,
+    seconds: u64,
+    counts: &Counts,
+) -> Result<Msg, NoMemory>
+    ensures message { IfOk result (λ m. m ≡ notice_in sip leg.old.dialogue branch.now last seconds counts.now) }
+    ensures counted { OnOk result (leg.new ≡ with_dialogue leg.old (after_request leg.old.dialogue (codes "NOTIFY"))) }
+    ensures refused { OnErr result (leg.new ≡ leg.old) }
+{
+    let lines = notice_lines(alloc, last, seconds)?;
+    let body = summary(alloc, counts)?;
+    own_request(alloc, leg, b"NOTIFY", sip, branch, &lines, body.bytes())
+}

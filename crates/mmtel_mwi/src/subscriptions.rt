@@ -1,0 +1,189 @@
+//! Subscriptions, and the NOTIFYs that have no final answer.
+ghost use Rattle.std.specs.Prelude.{◌≡◌, ◌<◌, ◌++◌, IfOk, IfSome, OnErr, OnOk, find, length, position};
+ghost use Rattle.std.specs.Option.{option_copied};
+ghost use Rattle.mmtel_leg.specs.Dialogues.{hears};
+ghost use Rattle.mmtel_leg.specs.declared.dialogues.InFlight.TheVariants as in_flight;
+ghost use Rattle.mmtel_mwi.specs.Boxes.{has_branch, having_heard, having_told, is_named, is_numbered, lasting, left_of, number_if, subscribers_in, subscription};
+ghost use Rattle.mmtel_mwi.specs.Notices.{notice_in, seconds_left};
+
+use crate::counts::Counts;
+use crate::notices::{notice, seconds_left};
+use mmtel_leg::{CallerLeg, DialogName, DialogueFault, Ended, InFlight, Standing};
+use mmtel_message::Msg;
+use mmtel_scan::{List, NoMemory, Text};
+use mmtel_types::{Account, Addr, Moment, SubNo};
+use std::alloc::Global;
+
+/// A subscription to a mailbox. It must be spent.
+pub struct Subscription {
+    /// Its number.
+    pub number: SubNo,
+    /// Whose mailbox it is to.
+    pub account: Account,
+    /// Who subscribed.
+    pub leg: CallerLeg<Standing>,
+    /// Until when it stands.
+    pub until: Moment,
+    /// The number of the SUBSCRIBE, among its own from 1, that said so.
+    pub set: u64,
+}
+
+/// A NOTIFY that has no final answer.
+#[derive(Drop)]
+pub struct Asked {
+    /// Its branch behind the cookie.
+    pub branch: Text,
+    /// Of which subscription it is.
+    pub sub: SubNo,
+}
+
+/// The place of the subscription of this number.
+pub fn place_of(live: &[Subscription], sub: SubNo) -> Option<usize>
+    ensures place { result ≡ position (is_numbered sub) live.now }
+    ensures within { IfSome result (λ at. at < length live.now) }
+{
+    live.iter().position(|one| one.number.0 == sub.0)
+}
+
+/// The subscription of this number.
+pub fn held(live: &[Subscription], sub: SubNo) -> Option<&Subscription>
+    ensures { option_copied result ≡ find (is_numbered sub) live.now }
+{
+    live.iter().find(|one| one.number.0 == sub.0)
+}
+
+fn is_named(one: &Subscription, name: DialogName<'_>) -> bool
+    ensures { result ≡ is_named name.entry.call_id.now name.entry.local.now name.entry.remote.now one.now }
+{
+    name.is_of(one.leg.dialogue())
+}
+
+/// The subscription whose dialog has this name.
+pub fn named<'a>(live: &'a [Subscription], name: DialogName<'_>) -> Option<&'a Subscription>
+    ensures { option_copied result ≡ find (is_named name.entry.call_id.now name.entry.local.now name.entry.remote.now) live.now }
+{
+    live.iter().find(|one| is_named(one, name))
+}
+
+/// Adds the number of a subscription, where it is to the mailbox of the account.
+fn add_number(
+    alloc: Global,
+    out: &mut List<SubNo>,
+    one: &Subscription,
+    account: Account,
+) -> Result<(), NoMemory>
+    ensures { OnOk result (out.new ≡ out.old ++ number_if account one.now) }
+{
+    if one.account.0 != account.0 {
+        return Ok(());
+    }
+    out.push(alloc, one.number)?;
+    Ok(())
+}
+
+/// The numbers of the subscriptions to the mailbox of the account.
+pub fn subscribers_in(
+    alloc: Global,
+    live: &[Subscription],
+    account: Account,
+) -> Result<List<SubNo>, NoMemory>
+    ensures { IfOk result (λ l. l ≡ subscribers_in account live.now) }
+{
+    let mut out = List::new();
+    for one in live {
+        add_number(alloc, &mut out, one, account)?;
+    }
+    Ok(out)
+}
+
+impl Asked {
+    fn has_branch(&self, branch: &[u8]) -> bool
+        ensures { result ≡ has_branch branch.now self.now }
+    {
+        self.branch.bytes() == branch
+    }
+}
+
+/// The place of the NOTIFY with this branch.
+pub fn place_asked(asked: &[Asked], branch: &[u8]) -> Option<usize>
+    ensures place { result ≡ position (has_branch branch.now) asked.now }
+    ensures within { IfSome result (λ at. at < length asked.now) }
+{
+    asked.iter().position(|one| one.has_branch(branch))
+}
+
+/// The NOTIFY with this branch.
+pub fn asked_with<'a>(asked: &'a [Asked], branch: &[u8]) -> Option<&'a Asked>
+    ensures { option_copied result ≡ find (has_branch branch.now) asked.now }
+{
+    asked.iter().find(|one| one.has_branch(branch))
+}
+
+impl Subscription {
+    /// The subscription of this number to the mailbox of an account, until a moment that its first SUBSCRIBE says.
+    pub fn of(
+        number: SubNo,
+        account: Account,
+        leg: CallerLeg<Standing>,
+        until: Moment,
+    ) -> Subscription
+        ensures { result ≡ subscription number account leg until }
+    {
+        Subscription {
+            number,
+            account,
+            leg,
+            until,
+            set: 1,
+        }
+    }
+
+    /// One more SUBSCRIBE says until when it stands.
+    pub fn last(&mut self, until: Moment)
+        ensures { self.new ≡ lasting until self.old }
+    {
+        self.until = until;
+        self.set = self.set.saturating_add(1);
+    }
+
+    /// Takes note of a request of its subscriber, or refuses it.
+    pub fn hear(&mut self, request: &Msg) -> Result<(), DialogueFault>
+        ensures answer { result ≡ hears self.old.leg.dialogue request.now in_flight.None }
+        ensures heard { OnOk result (self.new ≡ having_heard request.now self.old) }
+        ensures refused { OnErr result (self.new ≡ self.old) }
+    {
+        self.leg.heard(request, InFlight::None)
+    }
+
+    /// The NOTIFY to its subscriber, where so many messages wait in the mailbox.
+    pub fn tell(
+        &mut self,
+        alloc: Global,
+        sip: Addr,
+        branch: &Text,
+        last: bool,
+        now: Moment,
+        counts: &Counts,
+    ) -> Result<Msg, NoMemory>
+        ensures message { IfOk result (λ m. m ≡ notice_in sip self.old.leg.dialogue branch.now last (seconds_left self.old.until now) counts.now) }
+        ensures told { OnOk result (self.new ≡ having_told self.old) }
+        ensures refused { OnErr result (self.new ≡ self.old) }
+    {
+        let seconds = seconds_left(self.until, now);
+        notice(alloc, sip, &mut self.leg, branch, last, seconds, counts)
+    }
+
+    /// Ends it.
+    pub fn leave(self) -> Ended
+        ensures { result ≡ left_of self }
+    {
+        let Subscription {
+            number: _,
+            account: _,
+            leg,
+            until: _,
+            set: _,
+        } = self;
+        leg.leave()
+    }
+}

@@ -12,7 +12,7 @@ use Rattle.mmtel_directory.specs.declared.config_lines.Line.TheVariants as line
 use Rattle.mmtel_directory.specs.declared.drafts.Draft.{Draft}
 use Rattle.mmtel_directory.specs.Lines.{lines_of, and_then, said_by}
 use Rattle.mmtel_directory.specs.Directory.{line_of, next_said, stands, first_of, first_said, directory_by, directory_from, directory_of, table_of}
-use Rattle.mmtel_directory.specs.Directory.{sip_in, web_in, home_in, route_in, account_in, identities_in, operator_in, factory_in, bound_in, country_in, reliable_in, timer_in, mixer_in, store_in, is_said}
+use Rattle.mmtel_directory.specs.Directory.{sip_in, web_in, home_in, route_in, account_in, identities_in, operator_in, factory_in, bound_in, country_in, mwi_in, reliable_in, timer_in, mixer_in, store_in, is_said}
 use Rattle.mmtel_directory.specs.Directory.{Answers}
 use Rattle.mmtel_directory.specs.Drafts.{Reads, drafted, step, takes, with_line, finished, finished_by, empty_draft}
 use Rattle.mmtel_directory.specs.declared.directories.Directory.{Directory}
@@ -35,7 +35,7 @@ draft_of said = record {
   country = first_said country_in said;
   reliable = is_said reliable_in said;
   timer = is_said timer_in said;
-  mwi = false;
+  mwi = is_said mwi_in said;
   mixer = first_said mixer_in said;
   store = first_said store_in said;
 }
@@ -68,6 +68,7 @@ takes_is said (line.Bound n) = none_first (flat_map bound_in said)
 takes_is said (line.Country digits) = none_first (flat_map country_in said)
 takes_is said (line.Extension extension.Reliable) = not_said (length (flat_map reliable_in said) == 0)
 takes_is said (line.Extension extension.Timer) = not_said (length (flat_map timer_in said) == 0)
+takes_is said (line.Extension extension.Mwi) = not_said (length (flat_map mwi_in said) == 0)
 takes_is said (line.Mixer mixer) = none_first (flat_map mixer_in said)
 takes_is said (line.Store name) = none_first (flat_map store_in said)
 
@@ -93,6 +94,7 @@ with_line_is said (line.Bound n) ok = simp (one_more, append-nil, alone_first (f
 with_line_is said (line.Country digits) ok = simp (one_more, append-nil, alone_first (flat_map country_in said) digits ok)
 with_line_is said (line.Extension extension.Reliable) ok = simp (one_more, append-nil, said_last (flat_map reliable_in said) extension.Reliable)
 with_line_is said (line.Extension extension.Timer) ok = simp (one_more, append-nil, said_last (flat_map timer_in said) extension.Timer)
+with_line_is said (line.Extension extension.Mwi) ok = simp (one_more, append-nil, said_last (flat_map mwi_in said) extension.Mwi)
 with_line_is said (line.Mixer mixer) ok = simp (one_more, append-nil, alone_first (flat_map mixer_in said) mixer ok)
 with_line_is said (line.Store name) ok = simp (one_more, append-nil, alone_first (flat_map store_in said) name ok)
 

@@ -204,6 +204,7 @@ abbrev pub extension_of : List ℕ → Option Extension
 extension_of word =
     if bytes_eq word (codes "100rel") then Some extension.Reliable
     else if bytes_eq word (codes "timer") then Some extension.Timer
+    else if bytes_eq word (codes "mwi") then Some extension.Mwi
     else None
 
 -- `extension WORD`
@@ -314,6 +315,10 @@ abbrev pub timer_in : Line → List Extension
 timer_in (line.Extension extension.Timer) = extension.Timer ∷ []
 timer_in _ = []
 
+abbrev pub mwi_in : Line → List Extension
+mwi_in (line.Extension extension.Mwi) = extension.Mwi ∷ []
+mwi_in _ = []
+
 abbrev pub mixer_in : Line → List Mixer
 mixer_in (line.Mixer mixer) = mixer ∷ []
 mixer_in _ = []
@@ -363,6 +368,7 @@ stands said (line.Bound n) = is_unsaid bound_in said
 stands said (line.Country digits) = is_unsaid country_in said
 stands said (line.Extension extension.Reliable) = is_unsaid reliable_in said
 stands said (line.Extension extension.Timer) = is_unsaid timer_in said
+stands said (line.Extension extension.Mwi) = is_unsaid mwi_in said
 stands said (line.Mixer mixer) = is_unsaid mixer_in said
 stands said (line.Store name) = is_unsaid store_in said
 
@@ -402,7 +408,7 @@ directory_with sip home said = record {
   web = unwrap_or (first_said web_in said) usual_web;
   home = home;
   peers = table_of said;
-  names = record { accounts = flat_map identities_in said; operator = first_said operator_in said; mwi = false };
+  names = record { accounts = flat_map identities_in said; operator = first_said operator_in said; mwi = is_said mwi_in said };
   factory = first_said factory_in said;
   bound = unwrap_or (first_said bound_in said) usual_bound;
   country = first_said country_in said;

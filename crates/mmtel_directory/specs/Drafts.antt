@@ -48,6 +48,7 @@ takes draft (line.Bound n) = is_none draft.bound
 takes draft (line.Country digits) = is_none draft.country
 takes draft (line.Extension extension.Reliable) = not draft.reliable
 takes draft (line.Extension extension.Timer) = not draft.timer
+takes draft (line.Extension extension.Mwi) = not draft.mwi
 takes draft (line.Mixer mixer) = is_none draft.mixer
 takes draft (line.Store name) = is_none draft.store
 
@@ -66,6 +67,7 @@ with_line draft (line.Bound n) = record draft { bound = Some n }
 with_line draft (line.Country digits) = record draft { country = Some digits }
 with_line draft (line.Extension extension.Reliable) = record draft { reliable = true }
 with_line draft (line.Extension extension.Timer) = record draft { timer = true }
+with_line draft (line.Extension extension.Mwi) = record draft { mwi = true }
 with_line draft (line.Mixer mixer) = record draft { mixer = Some mixer }
 with_line draft (line.Store name) = record draft { store = Some name }
 

@@ -44,6 +44,8 @@ pub enum Extension {
     Reliable,
     /// Session timers (RFC 4028).
     Timer,
+    /// Message waiting (3GPP TS 24.606).
+    Mwi,
 }
 
 /// What a line says.
@@ -373,6 +375,8 @@ fn extension_of(word: &[u8]) -> Option<Extension>
         Some(Extension::Reliable)
     } else if word == b"timer".as_slice() {
         Some(Extension::Timer)
+    } else if word == b"mwi".as_slice() {
+        Some(Extension::Mwi)
     } else {
         None
     }

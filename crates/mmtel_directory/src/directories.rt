@@ -102,7 +102,8 @@ fn read_lines(alloc: Global, draft: &mut Draft, bytes: &[u8]) -> Result<u64, Dir
 /// - `factory URI`; without it no room is made.
 /// - `bound N`, 0 to 16; without it 5.
 /// - `country DIGITS`, one to three; without it no number is abroad.
-/// - `extension WORD`, of `100rel` (reliable provisional answers and UPDATE, RFC 3262 and RFC 3311) and `timer` (session timers, RFC 4028); without it that extension is off.
+/// - `extension WORD`, of `100rel` (reliable provisional answers and UPDATE, RFC 3262 and RFC 3311), `timer` (session timers, RFC 4028) and
+///   `mwi` (message waiting, 3GPP TS 24.606); without it that extension is off.
 /// - `mixer IP PORT`; without it 127.0.0.1 and 40000.
 /// - `store NAME`, a name of any bytes but spaces; without it `:memory:`.
 ///

@@ -207,6 +207,7 @@ impl Draft {
             Line::Country(digits) => say_once(&mut self.country, number, digits),
             Line::Extension(Extension::Reliable) => switch_on(&mut self.reliable, number),
             Line::Extension(Extension::Timer) => switch_on(&mut self.timer, number),
+            Line::Extension(Extension::Mwi) => switch_on(&mut self.mwi, number),
             Line::Mixer(mixer) => say_once(&mut self.mixer, number, mixer),
             Line::Store(name) => say_once(&mut self.store, number, name),
         }

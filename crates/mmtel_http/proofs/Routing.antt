@@ -1,4 +1,4 @@
--- What the router of the two routes finds: the routes of the definition, for every path.
+-- What the router of the three routes finds: the routes of the definition, for every path.
 use Rattle.std.proofs.Common.{◌≡◌, ℕ, ◌-◌, ◌<◌, ◌==◌, ◌&&◌, suc, zero, List, [], ◌∷◌, ◌++◌, Option, Some, None, Bool, true, false, cond, refl, sym, ap, ◌∙◌, arith, length, codes, nat_lt, get_or, inl, inr, take, drop, MatchOption, ◌⊎◌}
 use Rattle.std.proofs.lemmas.Bool.Decides.{nat_tests}
 use Rattle.std.proofs.lemmas.Bool.{cases_Bool, and_parts}
@@ -9,14 +9,15 @@ use Rattle.matchit.specs.Seek.{seek, param_step}
 use Rattle.matchit.specs.Seek as seek_words
 use Rattle.matchit.specs.Router.{RouteOf}
 use Rattle.mmtel_scan.specs.Scanning.{after_text}
-use Rattle.mmtel_http.specs.Places.{has_slash, route_of, sheet_route}
+use Rattle.mmtel_http.specs.Places.{has_slash, numbered_route, route_of, segment_route}
 use Rattle.mmtel_http.specs.declared.routes.Route.{Route}
 use Rattle.mmtel_http.specs.declared.routes.Route.TheVariants as route
 
--- what a path names: the charging rows, the record that this segment names, or nothing
+-- what a path names: the charging rows, the record or the mailbox that this segment names, or nothing
 data Named : Type 0 where
   charges : Named
   sheet : List ℕ → Named
+  mailbox : List ℕ → Named
   nothing : Named
 
 -- the text behind a front, byte after byte
@@ -25,17 +26,22 @@ after [] text = Some text
 after (p ∷ ps) [] = None
 after (p ∷ ps) (b ∷ text) = cond (p == b) (after ps text) None
 
-abbrev sheet_or_nothing : Option (List ℕ) → Named
-sheet_or_nothing None = nothing
-sheet_or_nothing (Some []) = nothing
-sheet_or_nothing (Some (b ∷ n)) = cond (has_slash (b ∷ n)) nothing (sheet (b ∷ n))
+abbrev segment_or_nothing : (List ℕ → Named) → Option (List ℕ) → Named
+segment_or_nothing kind None = nothing
+segment_or_nothing kind (Some []) = nothing
+segment_or_nothing kind (Some (b ∷ n)) = cond (has_slash (b ∷ n)) nothing (kind (b ∷ n))
+
+abbrev sheet_or : Option (List ℕ) → Named → Named
+sheet_or None other = other
+sheet_or (Some n) other = segment_or_nothing sheet (Some n)
 
 abbrev charges_or : Option (List ℕ) → Named → Named
 charges_or (Some []) other = charges
 charges_or _ other = other
 
 abbrev named : List ℕ → Named
-named path = charges_or (after (codes "/charges") path) (sheet_or_nothing (after (codes "/simservs/") path))
+named path =
+    charges_or (after (codes "/charges") path) (sheet_or (after (codes "/simservs/") path) (segment_or_nothing mailbox (after (codes "/mailbox/") path)))
 
 slash-same : (path : List ℕ) → seek_words.has_slash path ≡ has_slash path
 slash-same [] = refl
@@ -50,6 +56,11 @@ after-small (x ∷ w) (b ∷ path) rest e small = by (x == b) (λ f. after-small
     by : (c : Bool) → (after w path ≡ Some rest → (i : ℕ) → get_or rest i 0 < 256) → cond c (after w path) None ≡ Some rest → (i : ℕ) → get_or rest i 0 < 256
     by true go f = go f
     by false go f = cc
+
+-- a record's path is no mailbox's
+sheet-alone : (o : Option (List ℕ)) → sheet_or o nothing ≡ segment_or_nothing sheet o
+sheet-alone None = refl
+sheet-alone (Some n) = refl
 
 module _ {K : Type 0} where
   no-rows : (b : Bool) (n : ℕ) → (cond {A = ℕ × RowsOf K} b (0, []) (n, [])).1 ≡ []
@@ -98,29 +109,45 @@ module _ {K : Type 0} where
       let q : (x == 257) ≡ false = grind (arith, nat_tests) in
       rw (p, q, rest-none b path) (or-none _ ∙ pick-rows (x == b) ((t, k) ∷ []) path)
 
-  -- two rows that go on with the same byte
-  seek-same : (x : ℕ) (s t : List ℕ) (k l : K) (b : ℕ) (path : List ℕ) → x < 256
-      → seek 0 ((x ∷ s, k) ∷ (x ∷ t, l) ∷ []) (b ∷ path) ≡ cond (x == b) (seek 0 ((s, k) ∷ (t, l) ∷ []) path) None
+  -- of three rows one goes on at most
+  apart-rows : (c d e : Bool) (s t u : List ℕ) (k l m : K) (path : List ℕ) → (c ≡ true → d ≡ false) → (c ≡ true → e ≡ false) → (d ≡ true → e ≡ false)
+      → seek 0 (cond c ((s, k) ∷ cond d ((t, l) ∷ cond e ((u, m) ∷ []) []) (cond e ((u, m) ∷ []) [])) (cond d ((t, l) ∷ cond e ((u, m) ∷ []) []) (cond e ((u, m) ∷ []) []))) path
+      ≡ cond c (seek 0 ((s, k) ∷ []) path) (cond d (seek 0 ((t, l) ∷ []) path) (cond e (seek 0 ((u, m) ∷ []) path) None))
+  apart-rows true d e s t u k l m path cd ce de = rw (cd refl, ce refl) refl
+  apart-rows false true e s t u k l m path cd ce de = rw (de refl) refl
+  apart-rows false false e s t u k l m path cd ce de = pick-rows e ((u, m) ∷ []) path
+
+  -- or all of them
+  same-rows : (c : Bool) (s t u : List ℕ) (k l m : K) (path : List ℕ)
+      → seek 0 (cond c ((s, k) ∷ cond c ((t, l) ∷ cond c ((u, m) ∷ []) []) (cond c ((u, m) ∷ []) [])) (cond c ((t, l) ∷ cond c ((u, m) ∷ []) []) (cond c ((u, m) ∷ []) []))) path
+      ≡ cond c (seek 0 ((s, k) ∷ (t, l) ∷ (u, m) ∷ []) path) None
+  same-rows true s t u k l m path = refl
+  same-rows false s t u k l m path = seek-none 0 path
+
+  -- three rows that go on with the same byte
+  seek-same : (x : ℕ) (s t u : List ℕ) (k l m : K) (b : ℕ) (path : List ℕ) → x < 256
+      → seek 0 ((x ∷ s, k) ∷ (x ∷ t, l) ∷ (x ∷ u, m) ∷ []) (b ∷ path) ≡ cond (x == b) (seek 0 ((s, k) ∷ (t, l) ∷ (u, m) ∷ []) path) None
   unfolding seek
-  seek-same x s t k l b path h =
+  seek-same x s t u k l m b path h =
       let p : (x == 256) ≡ false = grind (arith, nat_tests) in
       let q : (x == 257) ≡ false = grind (arith, nat_tests) in
-      let by : (c : Bool) → seek 0 (cond c ((s, k) ∷ cond c ((t, l) ∷ []) []) (cond c ((t, l) ∷ []) [])) path ≡ cond c (seek 0 ((s, k) ∷ (t, l) ∷ []) path) None =
-      λ c. elim c as (λ c. seek 0 (cond c ((s, k) ∷ cond c ((t, l) ∷ []) []) (cond c ((t, l) ∷ []) [])) path ≡ cond c (seek 0 ((s, k) ∷ (t, l) ∷ []) path) None) [ true ↦ refl | false ↦ seek-none 0 path ] in
-      rw (p, q, rest-none b path) (or-none _ ∙ by (x == b))
+      rw (p, q, rest-none b path) (or-none _ ∙ same-rows (x == b) s t u k l m path)
 
-  -- two rows that go on with two bytes
-  seek-apart : (x y : ℕ) (s t : List ℕ) (k l : K) (b : ℕ) (path : List ℕ) → x < 256 → y < 256 → (x == y) ≡ false
-      → seek 0 ((x ∷ s, k) ∷ (y ∷ t, l) ∷ []) (b ∷ path) ≡ cond (x == b) (seek 0 ((s, k) ∷ []) path) (cond (y == b) (seek 0 ((t, l) ∷ []) path) None)
+  -- three rows that go on with three bytes
+  seek-apart : (x y z : ℕ) (s t u : List ℕ) (k l m : K) (b : ℕ) (path : List ℕ) → x < 256 → y < 256 → z < 256
+      → (x == y) ≡ false → (x == z) ≡ false → (y == z) ≡ false
+      → seek 0 ((x ∷ s, k) ∷ (y ∷ t, l) ∷ (z ∷ u, m) ∷ []) (b ∷ path)
+      ≡ cond (x == b) (seek 0 ((s, k) ∷ []) path) (cond (y == b) (seek 0 ((t, l) ∷ []) path) (cond (z == b) (seek 0 ((u, m) ∷ []) path) None))
   unfolding seek
-  seek-apart x y s t k l b path h h' apart =
+  seek-apart x y z s t u k l m b path h h' h'' xy xz yz =
       let p : (x == 256) ≡ false = grind (arith, nat_tests) in
       let q : (x == 257) ≡ false = grind (arith, nat_tests) in
       let p' : (y == 256) ≡ false = grind (arith, nat_tests) in
       let q' : (y == 257) ≡ false = grind (arith, nat_tests) in
-      let by : (c d : Bool) → (c ≡ true → d ≡ false) → seek 0 (cond c ((s, k) ∷ cond d ((t, l) ∷ []) []) (cond d ((t, l) ∷ []) [])) path ≡ cond c (seek 0 ((s, k) ∷ []) path) (cond d (seek 0 ((t, l) ∷ []) path) None) =
-      λ c d. elim c as (λ c. (c ≡ true → d ≡ false) → seek 0 (cond c ((s, k) ∷ cond d ((t, l) ∷ []) []) (cond d ((t, l) ∷ []) [])) path ≡ cond c (seek 0 ((s, k) ∷ []) path) (cond d (seek 0 ((t, l) ∷ []) path) None)) [ true ↦ (λ no. rw (no refl) refl) | false ↦ (λ no. pick-rows d ((t, l) ∷ []) path) ] in
-      rw (p, q, p', q', rest-none b path) (or-none _ ∙ by (x == b) (y == b) (λ e. grind (arith, nat_tests, e, apart)))
+      let p'' : (z == 256) ≡ false = grind (arith, nat_tests) in
+      let q'' : (z == 257) ≡ false = grind (arith, nat_tests) in
+      rw (p, q, p', q', p'', q'', rest-none b path)
+      (or-none _ ∙ apart-rows (x == b) (y == b) (z == b) s t u k l m path (λ e. grind (arith, nat_tests, e, xy)) (λ e. grind (arith, nat_tests, e, xz)) (λ e. grind (arith, nat_tests, e, yz)))
 
   -- what a row that goes on with these bytes finds
   abbrev after_or : Option (List ℕ) → (List ℕ → Option K) → Option K
@@ -156,47 +183,63 @@ module _ {K : Type 0} where
       let no : (256 == b) ≡ false = grind (arith, nat_tests) in
       rw (no, seek-none 0 path, slash-same path) (pick-rest k path (has_slash (b ∷ path)))
 
-  -- which of the two routes
-  abbrev by_name : K → K → Named → Option K
-  by_name k l charges = Some k
-  by_name k l (sheet n) = Some l
-  by_name k l nothing = None
+  -- which of the three routes
+  abbrev by_name : K → K → K → Named → Option K
+  by_name k l m charges = Some k
+  by_name k l m (sheet n) = Some l
+  by_name k l m (mailbox n) = Some m
+  by_name k l m nothing = None
 
-  plain-end : (k l : K) (o : Option (List ℕ)) → after_or o (λ rest. seek 0 (([], k) ∷ []) rest) ≡ by_name k l (charges_or o nothing)
+  plain-end : (k l m : K) (o : Option (List ℕ)) → after_or o (λ rest. seek 0 (([], k) ∷ []) rest) ≡ by_name k l m (charges_or o nothing)
   unfolding seek
-  plain-end k l None = refl
-  plain-end k l (Some []) = refl
-  plain-end k l (Some (x ∷ rest)) = seek-more k x rest
+  plain-end k l m None = refl
+  plain-end k l m (Some []) = refl
+  plain-end k l m (Some (x ∷ rest)) = seek-more k x rest
 
-  rest-end : (k l : K) (o : Option (List ℕ)) → ((rest : List ℕ) → o ≡ Some rest → (i : ℕ) → get_or rest i 0 < 256) → after_or o (λ rest. seek 0 ((256 ∷ [], l) ∷ []) rest) ≡ by_name k l (sheet_or_nothing o)
-  rest-end k l None small = refl
-  rest-end k l (Some []) small = seek-rest l [] (small [] refl)
-  rest-end k l (Some (x ∷ rest)) small = seek-rest l (x ∷ rest) (small (x ∷ rest) refl) ∙ by (has_slash (x ∷ rest))
+  rest-end : (k : K) (names : Named → Option K) (kind : List ℕ → Named) (o : Option (List ℕ)) → names nothing ≡ None → ((n : List ℕ) → names (kind n) ≡ Some k)
+      → ((rest : List ℕ) → o ≡ Some rest → (i : ℕ) → get_or rest i 0 < 256) → after_or o (λ rest. seek 0 ((256 ∷ [], k) ∷ []) rest) ≡ names (segment_or_nothing kind o)
+  rest-end k names kind None none some small = sym none
+  rest-end k names kind (Some []) none some small = seek-rest k [] (small [] refl) ∙ sym none
+  rest-end k names kind (Some (x ∷ rest)) none some small = seek-rest k (x ∷ rest) (small (x ∷ rest) refl) ∙ by (has_slash (x ∷ rest))
     where
-      by : (c : Bool) → cond c None (Some l) ≡ by_name k l (cond c nothing (sheet (x ∷ rest)))
-      by true = refl
-      by false = refl
+      by : (c : Bool) → cond c None (Some k) ≡ names (cond c nothing (kind (x ∷ rest)))
+      by true = sym none
+      by false = sym (some (x ∷ rest))
 
-  inner : (k l : K) (p q : Bool) (path : List ℕ) → (p ≡ true → q ≡ false) → ((i : ℕ) → get_or path i 0 < 256)
-      → cond p (seek 0 ((codes "harges", k) ∷ []) path) (cond q (seek 0 ((codes "imservs/" ++ 256 ∷ [], l) ∷ []) path) None)
-      ≡ by_name k l (charges_or (cond p (after (codes "harges") path) None) (sheet_or_nothing (cond q (after (codes "imservs/") path) None)))
-  inner k l true q path differ small = rw (differ refl) (seek-word (codes "harges") [] k path refl ∙ plain-end k l (after (codes "harges") path))
-  inner k l false true path differ small = seek-word (codes "imservs/") (256 ∷ []) l path refl ∙ rest-end k l (after (codes "imservs/") path) (λ rest e. after-small (codes "imservs/") path rest e small)
-  inner k l false false path differ small = refl
+  inner : (k l m : K) (p q r : Bool) (path : List ℕ) → (p ≡ true → q ≡ false) → (p ≡ true → r ≡ false) → (q ≡ true → r ≡ false) → ((i : ℕ) → get_or path i 0 < 256)
+      → cond p (seek 0 ((codes "harges", k) ∷ []) path)
+      (cond q (seek 0 ((codes "ailbox/" ++ 256 ∷ [], m) ∷ []) path) (cond r (seek 0 ((codes "imservs/" ++ 256 ∷ [], l) ∷ []) path) None))
+      ≡ by_name k l m (charges_or (cond p (after (codes "harges") path) None)
+      (sheet_or (cond r (after (codes "imservs/") path) None) (segment_or_nothing mailbox (cond q (after (codes "ailbox/") path) None))))
+  inner k l m true q r path pq pr qr small = rw (pq refl, pr refl) (seek-word (codes "harges") [] k path refl ∙ plain-end k l m (after (codes "harges") path))
+  inner k l m false true r path pq pr qr small =
+      rw (qr refl) (seek-word (codes "ailbox/") (256 ∷ []) m path refl
+      ∙ rest-end m (by_name k l m) mailbox (after (codes "ailbox/") path) refl (λ n. refl) (λ rest e. after-small (codes "ailbox/") path rest e small))
+  inner k l m false false true path pq pr qr small =
+      seek-word (codes "imservs/") (256 ∷ []) l path refl
+      ∙ rest-end l (by_name k l m) sheet (after (codes "imservs/") path) refl (λ n. refl) (λ rest e. after-small (codes "imservs/") path rest e small)
+      ∙ ap (by_name k l m) (sym (sheet-alone (after (codes "imservs/") path)))
+  inner k l m false false false path pq pr qr small = refl
 
-  two-routes : (k l : K) (path : List ℕ) → ((i : ℕ) → get_or path i 0 < 256)
-      → seek 0 ((codes "/charges", k) ∷ (codes "/simservs/" ++ 256 ∷ [], l) ∷ []) path ≡ by_name k l (named path)
+  -- the rows in the order in which a router keeps them
+  three-routes : (k l m : K) (path : List ℕ) → ((i : ℕ) → get_or path i 0 < 256)
+      → seek 0 ((codes "/charges", k) ∷ (codes "/mailbox/" ++ 256 ∷ [], m) ∷ (codes "/simservs/" ++ 256 ∷ [], l) ∷ []) path ≡ by_name k l m (named path)
   unfolding seek
-  two-routes k l [] small = refl
-  two-routes k l (b ∷ []) small =
-      seek-same 47 (codes "charges") (codes "simservs/" ++ 256 ∷ []) k l b [] (omega arith)
-      ∙ (elim (47 == b) as (λ t. cond t (seek 0 ((codes "charges", k) ∷ (codes "simservs/" ++ 256 ∷ [], l) ∷ []) []) None
-      ≡ by_name k l (charges_or (cond t (after (codes "charges") []) None) (sheet_or_nothing (cond t (after (codes "simservs/") []) None)))) [ true ↦ refl | false ↦ refl ])
-  two-routes k l (b ∷ c ∷ path) small =
-      seek-same 47 (codes "charges") (codes "simservs/" ++ 256 ∷ []) k l b (c ∷ path) (omega arith)
-      ∙ (elim (47 == b) as (λ t. cond t (seek 0 ((codes "charges", k) ∷ (codes "simservs/" ++ 256 ∷ [], l) ∷ []) (c ∷ path)) None
-      ≡ by_name k l (charges_or (cond t (after (codes "charges") (c ∷ path)) None) (sheet_or_nothing (cond t (after (codes "simservs/") (c ∷ path)) None)))) [
-        | true ↦ seek-apart 99 115 (codes "harges") (codes "imservs/" ++ 256 ∷ []) k l c path (omega arith) (omega arith) refl ∙ inner k l (99 == c) (115 == c) path (λ e. grind (arith, nat_tests, e)) (λ i. small (suc (suc i)))
+  three-routes k l m [] small = refl
+  three-routes k l m (b ∷ []) small =
+      seek-same 47 (codes "charges") (codes "mailbox/" ++ 256 ∷ []) (codes "simservs/" ++ 256 ∷ []) k m l b [] (omega arith)
+      ∙ (elim (47 == b) as (λ t. cond t (seek 0 ((codes "charges", k) ∷ (codes "mailbox/" ++ 256 ∷ [], m) ∷ (codes "simservs/" ++ 256 ∷ [], l) ∷ []) []) None
+      ≡ by_name k l m (charges_or (cond t (after (codes "charges") []) None)
+      (sheet_or (cond t (after (codes "simservs/") []) None) (segment_or_nothing mailbox (cond t (after (codes "mailbox/") []) None))))) [ true ↦ refl | false ↦ refl ])
+  three-routes k l m (b ∷ c ∷ path) small =
+      seek-same 47 (codes "charges") (codes "mailbox/" ++ 256 ∷ []) (codes "simservs/" ++ 256 ∷ []) k m l b (c ∷ path) (omega arith)
+      ∙ (elim (47 == b) as (λ t. cond t (seek 0 ((codes "charges", k) ∷ (codes "mailbox/" ++ 256 ∷ [], m) ∷ (codes "simservs/" ++ 256 ∷ [], l) ∷ []) (c ∷ path)) None
+      ≡ by_name k l m (charges_or (cond t (after (codes "charges") (c ∷ path)) None)
+      (sheet_or (cond t (after (codes "simservs/") (c ∷ path)) None) (segment_or_nothing mailbox (cond t (after (codes "mailbox/") (c ∷ path)) None))))) [
+        | true ↦
+            seek-apart 99 109 115 (codes "harges") (codes "ailbox/" ++ 256 ∷ []) (codes "imservs/" ++ 256 ∷ []) k m l c path (omega arith) (omega arith) (omega arith) refl refl refl
+            ∙ inner k l m (99 == c) (109 == c) (115 == c) path
+            (λ e. grind (arith, nat_tests, e)) (λ e. grind (arith, nat_tests, e)) (λ e. grind (arith, nat_tests, e)) (λ i. small (suc (suc i)))
         | false ↦ refl
       ])
 
@@ -244,33 +287,43 @@ whole (x ∷ w) (b ∷ path) other = rw (flip b x) (by (x == b) (bytes_eq path w
 abbrev route_named : Named → Option Route
 route_named charges = Some route.Charges
 route_named (sheet n) = Some route.Sheet
+route_named (mailbox n) = Some route.Mailbox
 route_named nothing = None
 
-sheet_alike : (o : Option (List ℕ)) → route_named (sheet_or_nothing o) ≡ sheet_route o
-sheet_alike None = refl
-sheet_alike (Some []) = refl
-sheet_alike (Some (b ∷ n)) = by (has_slash (b ∷ n))
+segment_alike : (which : Route) (kind : List ℕ → Named) → ((n : List ℕ) → route_named (kind n) ≡ Some which) → (o : Option (List ℕ))
+    → route_named (segment_or_nothing kind o) ≡ segment_route which o
+segment_alike which kind is None = refl
+segment_alike which kind is (Some []) = refl
+segment_alike which kind is (Some (b ∷ n)) = by (has_slash (b ∷ n))
   where
-    by : (c : Bool) → route_named (cond c nothing (sheet (b ∷ n))) ≡ cond c None (Some route.Sheet)
+    by : (c : Bool) → route_named (cond c nothing (kind (b ∷ n))) ≡ cond c None (Some which)
     by true = refl
-    by false = refl
+    by false = is (b ∷ n)
+
+numbered_alike : (o p : Option (List ℕ)) → route_named (sheet_or o (segment_or_nothing mailbox p)) ≡ numbered_route o p
+numbered_alike None p = segment_alike route.Mailbox mailbox (λ n. refl) p
+numbered_alike (Some n) p = segment_alike route.Sheet sheet (λ n. refl) (Some n)
 
 alike : (path : List ℕ) → route_named (named path) ≡ route_of path
 alike path =
-    ap (λ (n : Named). route_named n) (sym (whole (codes "/charges") path (sheet_or_nothing (after (codes "/simservs/") path))))
+    ap (λ (n : Named). route_named n)
+    (sym (whole (codes "/charges") path (sheet_or (after (codes "/simservs/") path) (segment_or_nothing mailbox (after (codes "/mailbox/") path)))))
     ∙ by (bytes_eq path (codes "/charges"))
-    ∙ ap (λ (o : Option (List ℕ)). cond (bytes_eq path (codes "/charges")) (Some route.Charges) (sheet_route o)) (sym (after_again (codes "/simservs/") path))
+    ∙ ap (λ (o : Option (List ℕ)). cond (bytes_eq path (codes "/charges")) (Some route.Charges) (numbered_route o (after (codes "/mailbox/") path))) (sym (after_again (codes "/simservs/") path))
+    ∙ ap (λ (o : Option (List ℕ)). cond (bytes_eq path (codes "/charges")) (Some route.Charges) (numbered_route (after_text (codes "/simservs/") path) o)) (sym (after_again (codes "/mailbox/") path))
   where
-    by : (c : Bool) → route_named (cond c charges (sheet_or_nothing (after (codes "/simservs/") path))) ≡ cond c (Some route.Charges) (sheet_route (after (codes "/simservs/") path))
+    by : (c : Bool) → route_named (cond c charges (sheet_or (after (codes "/simservs/") path) (segment_or_nothing mailbox (after (codes "/mailbox/") path))))
+        ≡ cond c (Some route.Charges) (numbered_route (after (codes "/simservs/") path) (after (codes "/mailbox/") path))
     by true = refl
-    by false = sheet_alike (after (codes "/simservs/") path)
+    by false = numbered_alike (after (codes "/simservs/") path) (after (codes "/mailbox/") path)
 
 -- what is matched is the route of the definition
-pub answer : (k l : RouteOf Route) (path : List ℕ) (r : Option Route) → ((i : ℕ) → get_or path i 0 < 256) → k.value ≡ route.Charges → l.value ≡ route.Sheet
-    → MatchOption (seek 0 ((codes "/charges", k) ∷ (codes "/simservs/" ++ 256 ∷ [], l) ∷ []) path) (r ≡ None) (λ found. r ≡ Some found.value) → r ≡ route_of path
-answer k l path r small one two h = by (named path) (rw (two-routes k l path small) at h) ∙ alike path
+pub answer : (k l m : RouteOf Route) (path : List ℕ) (r : Option Route) → ((i : ℕ) → get_or path i 0 < 256) → k.value ≡ route.Charges → l.value ≡ route.Sheet → m.value ≡ route.Mailbox
+    → MatchOption (seek 0 ((codes "/charges", k) ∷ (codes "/mailbox/" ++ 256 ∷ [], m) ∷ (codes "/simservs/" ++ 256 ∷ [], l) ∷ []) path) (r ≡ None) (λ found. r ≡ Some found.value) → r ≡ route_of path
+answer k l m path r small one two three h = by (named path) (rw (three-routes k l m path small) at h) ∙ alike path
   where
-    by : (n : Named) → MatchOption (by_name k l n) (r ≡ None) (λ found. r ≡ Some found.value) → r ≡ route_named n
+    by : (n : Named) → MatchOption (by_name k l m n) (r ≡ None) (λ found. r ≡ Some found.value) → r ≡ route_named n
     by charges e = e ∙ ap (λ (v : Route). Some v) one
     by (sheet n) e = e ∙ ap (λ (v : Route). Some v) two
+    by (mailbox n) e = e ∙ ap (λ (v : Route). Some v) three
     by nothing e = e

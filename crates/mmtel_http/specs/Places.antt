@@ -1,4 +1,5 @@
--- What a request target names, and which methods the server knows there (RFC 9110 §7.1 and §9.3): the charging rows, or the service record of an account by its number.
+-- What a request target names, and which methods the server knows there (RFC 9110 §7.1 and §9.3): the charging rows, or the service record or the mailbox of an account by its
+-- number.
 use Rattle.std.specs.Prelude.{ℕ, ◌==◌, ◌&&◌, ◌-◌, ◌^◌, Bool, true, false, not, List, [], ◌∷◌, length, Some, None, if◌then◌else◌, nat_lt, codes}
 use Rattle.std.specs.declared.option.Option.{Option}
 use Rattle.std.specs.List.{list_all}
@@ -32,9 +33,21 @@ abbrev pub numbered : Option (List ℕ) → Place
 numbered None = place.Elsewhere
 numbered (Some digits) = if is_decimal digits then place.Sheet (account_of digits) else place.Elsewhere
 
+-- a place by what stands behind `/mailbox/`: the mailbox of the account of this number
+abbrev pub numbered_mailbox : Option (List ℕ) → Place
+numbered_mailbox None = place.Elsewhere
+numbered_mailbox (Some digits) = if is_decimal digits then place.Mailbox (account_of digits) else place.Elsewhere
+
+-- by what stands behind `/simservs/`, or else behind `/mailbox/`
+abbrev pub sheet_or_mailbox : (sheet mailbox : Option (List ℕ)) → Place
+sheet_or_mailbox None mailbox = numbered_mailbox mailbox
+sheet_or_mailbox (Some digits) mailbox = numbered (Some digits)
+
 -- the place of a path, byte for byte
 abbrev pub path_place : List ℕ → Place
-path_place path = if bytes_eq path (codes "/charges") then place.Charges else numbered (after_text (codes "/simservs/") path)
+path_place path =
+    if bytes_eq path (codes "/charges") then place.Charges
+    else sheet_or_mailbox (after_text (codes "/simservs/") path) (after_text (codes "/mailbox/") path)
 
 -- the place of a target: one that is not UTF-8, which no head has, names nothing
 abbrev pub place_of : List ℕ → Place
@@ -54,12 +67,19 @@ abbrev pub has_slash : List ℕ → Bool
 has_slash [] = false
 has_slash (b ∷ s) = if b == 47 then true else has_slash s
 
--- the route of a record, where one segment stands behind `/simservs/`
-abbrev pub sheet_route : Option (List ℕ) → Option Route
-sheet_route None = None
-sheet_route (Some []) = None
-sheet_route (Some (b ∷ s)) = if has_slash (b ∷ s) then None else Some route.Sheet
+-- a route whose path is begun, where one segment stands behind its begin
+abbrev pub segment_route : Route → Option (List ℕ) → Option Route
+segment_route which None = None
+segment_route which (Some []) = None
+segment_route which (Some (b ∷ s)) = if has_slash (b ∷ s) then None else Some which
+
+-- that of a record, behind `/simservs/`, or else that of a mailbox, behind `/mailbox/`
+abbrev pub numbered_route : (sheet mailbox : Option (List ℕ)) → Option Route
+numbered_route None mailbox = segment_route route.Mailbox mailbox
+numbered_route (Some digits) mailbox = segment_route route.Sheet (Some digits)
 
 -- the route of a path
 abbrev pub route_of : List ℕ → Option Route
-route_of path = if bytes_eq path (codes "/charges") then Some route.Charges else sheet_route (after_text (codes "/simservs/") path)
+route_of path =
+    if bytes_eq path (codes "/charges") then Some route.Charges
+    else numbered_route (after_text (codes "/simservs/") path) (after_text (codes "/mailbox/") path)

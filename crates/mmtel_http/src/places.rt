@@ -1,7 +1,7 @@
 //! What a request names.
 ghost use Rattle.std.specs.Prelude.{◌≡◌, IfOk, codes};
 ghost use Rattle.mmtel_scan.specs.Scanning.{after_text};
-ghost use Rattle.mmtel_http.specs.Places.{account_of, is_decimal, numbered, path_place, place_of, method_of, route_of};
+ghost use Rattle.mmtel_http.specs.Places.{account_of, is_decimal, numbered, numbered_mailbox, path_place, place_of, method_of, route_of};
 
 use crate::routes::{Route, route_of};
 use http::method::MethodError;
@@ -16,6 +16,8 @@ pub enum Place {
     Charges,
     /// The service record of this account; None where no account can have the number.
     Sheet(Option<Account>),
+    /// The mailbox of this account; None where no account can have the number.
+    Mailbox(Option<Account>),
     /// Nothing.
     Elsewhere,
 }
@@ -57,8 +59,18 @@ fn numbered(target: &[u8]) -> Place
     }
 }
 
+/// The mailbox whose number stands behind the path of mailboxes.
+fn numbered_mailbox(target: &[u8]) -> Place
+    ensures { result ≡ numbered_mailbox (after_text (codes "/mailbox/") target.now) }
+{
+    match skip_text(b"/mailbox/", target) {
+        Some(digits) if is_decimal(digits) => Place::Mailbox(account_of(digits)),
+        _ => Place::Elsewhere,
+    }
+}
+
 /// The place of a path that has this route.
-#[tactic(auto, using(crate::proofs::PathLaws::nothing_there, crate::proofs::PathLaws::charges_there, crate::proofs::PathLaws::sheet_there))]
+#[tactic(auto, using(crate::proofs::PathLaws::nothing_there, crate::proofs::PathLaws::charges_there, crate::proofs::PathLaws::sheet_there, crate::proofs::PathLaws::mailbox_there))]
 fn place_by(route: Option<Route>, path: &[u8]) -> Place
     requires { route ≡ route_of path.now }
     ensures { result ≡ path_place path.now }
@@ -66,6 +78,7 @@ fn place_by(route: Option<Route>, path: &[u8]) -> Place
     match route {
         Some(Route::Charges) => Place::Charges,
         Some(Route::Sheet) => numbered(path),
+        Some(Route::Mailbox) => numbered_mailbox(path),
         None => Place::Elsewhere,
     }
 }

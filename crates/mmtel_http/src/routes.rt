@@ -14,6 +14,8 @@ pub enum Route {
     Charges,
     /// The service record of an account.
     Sheet,
+    /// The mailbox of an account.
+    Mailbox,
 }
 
 /// The route that a router gives for a path.
@@ -33,6 +35,7 @@ fn routed(alloc: Global, path: &str) -> Result<Option<Route>, InsertError>
     let mut router = Router::new(alloc);
     router.insert("/charges", Route::Charges)?;
     router.insert("/simservs/{account}", Route::Sheet)?;
+    router.insert("/mailbox/{account}", Route::Mailbox)?;
     Ok(matched(&router, path))
 }
 

@@ -1,13 +1,17 @@
 -- What a request asks of the keeper rests on no text that is in force, and want of memory is answered alike whatever was asked.
-use Rattle.std.proofs.Common.{◌≡◌, ◌∙◌, ℕ, List, [], Option, Result, Ok, Err, refl, sym, ap, inl}
+use Rattle.std.proofs.Common.{◌≡◌, ◌∙◌, ℕ, List, [], Option, None, Result, Ok, Err, refl, sym, ap, inl}
 use Rattle.std.specs.Prelude.{OnErr}
 use Rattle.mmtel_charging.specs.declared.rows.Row.{Row}
 use Rattle.mmtel_directory.specs.declared.directories.WebDirectory.{WebDirectory}
 use Rattle.mmtel_http.specs.Requests.{Request}
 use Rattle.mmtel_keeper.specs.Kept.{Held, KeeperCalls}
+use Rattle.mmtel_mwi.specs.Counting.{counts_read}
+use Rattle.mmtel_mwi.specs.declared.counts.Counts.{Counts}
 use Rattle.mmtel_serving.specs.Calls.{Answers, Call, SaysItsText, asks, call_by, call_in, none, stores}
+use Rattle.mmtel_sheet_grammar.specs.Answers.{Read}
 use Rattle.mmtel_types.specs.declared.numbers.Account.{Account}
-use Rattle.mmtel_web.specs.Answers.{Kept, failed, no_memory, reply_of, reply_to, web_of}
+use Rattle.mmtel_web.specs.Answers.{failed, no_memory, reply_of, reply_to, web_of}
+use Rattle.mmtel_web.specs.Mailboxes.{accepted, put_by}
 use Rattle.mmtel_web.specs.Uploads.{OnlyRepliesSeeTexts, UploadsSayTheirText, unsaid}
 use Rattle.mmtel_web.specs.declared.answers.Web.{Web}
 use Rattle.mmtel_web.specs.declared.answers.Web.TheVariants as web
@@ -17,6 +21,17 @@ pub memory_reply : (rows : List Row) (w : Web) → reply_to no_memory rows w ≡
 memory_reply rows (web.Read text) = refl
 memory_reply rows (web.Store account sheet text reply) = refl
 memory_reply rows web.Charges = refl
+memory_reply rows (web.Mailbox account body) = refl
+
+put_nowhere : (account : Account) (read : Read Counts) → None ≡ accepted no_memory account read
+put_nowhere account (Ok counts) = refl
+put_nowhere account (Err fault) = refl
+
+pub memory_put : (w : Web) → None ≡ put_by no_memory w
+memory_put (web.Read text) = refl
+memory_put (web.Store account sheet text reply) = refl
+memory_put web.Charges = refl
+memory_put (web.Mailbox account body) = put_nowhere account (counts_read body)
 
 apart : no_memory ≡ failed → ⊥
 apart e = cc
@@ -31,12 +46,14 @@ pub says_its_text : (d : WebDirectory) (texts : List (Account × List ℕ)) (req
 says_its_text d texts request (web.Read text) law is = tt
 says_its_text d texts request (web.Store account sheet text reply) law is = law d texts request account sheet text reply (sym is)
 says_its_text d texts request web.Charges law is = tt
+says_its_text d texts request (web.Mailbox account body) law is = tt
 
 -- what is asked of the keeper
 call_unsaid : (w : Web) → call_by w ≡ call_by (unsaid w)
 call_unsaid (web.Read text) = refl
 call_unsaid (web.Store account sheet text reply) = refl
 call_unsaid web.Charges = refl
+call_unsaid (web.Mailbox account body) = refl
 
 pub call_same : (d : WebDirectory) (texts : List (Account × List ℕ)) (request : Request) → OnlyRepliesSeeTexts → call_by (web_of d texts request) ≡ call_in d request
 call_same d texts request law = call_unsaid (web_of d texts request) ∙ (ap call_by (law d texts request) ∙ sym (call_unsaid (web_of d [] request)))

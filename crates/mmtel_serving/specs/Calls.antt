@@ -26,6 +26,7 @@ abbrev pub call_by : Web → Call
 call_by (web.Read text) = none
 call_by (web.Store account sheet text reply) = stores account text
 call_by web.Charges = asks
+call_by (web.Mailbox account body) = none
 
 -- it does not rest on what texts there are, so it is asked without any
 abbrev pub call_in : WebDirectory → Request → Call
@@ -36,6 +37,7 @@ abbrev pub SaysItsText : Web → Type 0
 SaysItsText (web.Read text) = Unit {0}
 SaysItsText (web.Store account sheet text reply) = sheet ≡ kept_sheet text
 SaysItsText web.Charges = Unit {0}
+SaysItsText (web.Mailbox account body) = Unit {0}
 
 -- ---- what the keeper made of it, where it tells
 

@@ -1,26 +1,33 @@
 //! What the server does with the bytes of a web connection.
-ghost use Rattle.std.specs.Prelude.{◌≡◌, ◌⊎◌, [], IfOk, OnErr, Some};
+ghost use Rattle.std.specs.Prelude.{◌≡◌, ◌≢◌, ◌⊎◌, [], Err, IfOk, None, OnErr, Some};
 ghost use Rattle.mmtel_charging.specs.Rows.{text_of};
 ghost use Rattle.mmtel_http.specs.Requests.{request_of};
 ghost use Rattle.mmtel_in_force.specs.Held.{IsRegisteredBy};
 ghost use Rattle.mmtel_in_force.specs.Texts.{Registrations, put_kept};
 ghost use Rattle.mmtel_serving.specs.Calls.{Answers, Counted, Met, SaysItsText, Stored, Told, asks, call_by, call_in, stores};
 ghost use Rattle.mmtel_serving.specs.Outcomes.{kept_in};
+ghost use Rattle.mmtel_mwi.specs.Counting.{TellsCounts};
+ghost use Rattle.mmtel_mwi.specs.declared.counts.Counts.{Counts};
+ghost use Rattle.mmtel_sheet_grammar.specs.Answers.{Read};
 ghost use Rattle.mmtel_sheet_grammar.specs.Texts.{kept_sheet};
+ghost use Rattle.mmtel_sheet_grammar.specs.declared.faults.SheetFault.TheVariants as fault;
 ghost use Rattle.mmtel_web.specs.Answers as answers;
 ghost use Rattle.mmtel_web.specs.Answers.{made, no_memory, reply_of, reply_to, web_of, web_reply};
-ghost use Rattle.mmtel_web.specs.Uploads.{kept_upload, upload_by, upload_in};
+ghost use Rattle.mmtel_web.specs.Mailboxes.{accepted, counts_reply, put_by};
+ghost use Rattle.mmtel_web.specs.Uploads.{kept_upload, put_in, upload_by, upload_in};
 ghost use Rattle.mmtel_web.specs.declared.answers.Web.TheVariants as web;
 
 use crate::outcomes::{Charges, Outcome, Replies, ask_rows, store};
 use mmtel_charging::{Row, rows_text};
 use mmtel_in_force::Records;
 use mmtel_keeper::Keeper;
+use mmtel_mwi::{Counts, read_counts};
 use mmtel_scan::{List, NoMemory, Text};
+use mmtel_sheet_grammar::SheetFault;
 use mmtel_sheet_values::Sheet;
 use mmtel_types::Account;
 use mmtel_web::laws::uploads_are_what_they_say;
-use mmtel_web::{Web, WebDirectory, answer, reply};
+use mmtel_web::{Web, WebDirectory, answer, fault_reply, reply};
 use std::alloc::Global;
 
 /// What came of a request.
@@ -32,6 +39,8 @@ pub struct Served {
     pub kept: Outcome,
     /// The charging rows that the keeper gave.
     pub rows: List<Row>,
+    /// How many messages wait in the mailbox of an account, where the request says so and is accepted.
+    pub put: Option<(Account, Counts)>,
 }
 
 /// A record that is uploaded.
@@ -74,12 +83,13 @@ fn keep<K: Keeper>(alloc: Global, records: &mut Records, keeper: &mut K, upload:
 /// Answers for want of memory: this reply, which was made before.
 fn without_memory(sorry: Text, rows: List<Row>) -> Served
     requires { sorry ≡ reply_of 507 [] }
-    ensures { result ≡ record { reply = reply_of 507 []; kept = Outcome.NoMemory; rows = rows } }
+    ensures { result ≡ record { reply = reply_of 507 []; kept = Outcome.NoMemory; rows = rows; put = None } }
 {
     Served {
         reply: sorry,
         kept: Outcome::NoMemory,
         rows,
+        put: None,
     }
 }
 
@@ -95,6 +105,7 @@ fn serve_upload<K: Keeper>(
     requires its { upload.sheet ≡ kept_sheet upload.text }
     requires sorry { sorry ≡ reply_of 507 [] }
     ensures reply { result.reply ≡ answers.after_call (kept_in result.kept) said }
+    ensures put { result.put ≡ None }
     ensures texts { records.new.texts.texts
         ≡ put_kept (kept_upload (kept_in result.kept) (Some (upload.account, upload.text))) records.old.texts.texts }
     ensures registered { (registrations : Registrations) → IsRegisteredBy records.old registrations → IsRegisteredBy records.new registrations }
@@ -116,6 +127,7 @@ fn serve_upload<K: Keeper>(
         reply: replies.after_call(kept),
         kept,
         rows: List::new(),
+        put: None,
     }
 }
 
@@ -133,12 +145,14 @@ fn with_rows(alloc: Global, rows: List<Row>, sorry: Text) -> Served
     ensures reply { result.reply ≡ reply_to (kept_in result.kept) result.rows web.Charges }
     ensures kept { (kept_in result.kept ≡ made) ⊎ (kept_in result.kept ≡ no_memory) }
     ensures rows { result.rows ≡ rows }
+    ensures put { result.put ≡ None }
 {
     match rows_reply(alloc, rows.items()) {
         Ok(reply) => Served {
             reply,
             kept: Outcome::Made,
             rows,
+            put: None,
         },
         Err(NoMemory) => without_memory(sorry, rows),
     }
@@ -150,6 +164,7 @@ fn serve_charges<K: Keeper>(alloc: Global, keeper: &mut K, sorry: Text) -> Serve
     ensures reply { result.reply ≡ reply_to (kept_in result.kept) result.rows web.Charges }
     ensures told { Told (kept_in result.kept) result.rows (K.held keeper.old) (K.held keeper.new) (K.calls keeper.old) (K.calls keeper.new) }
     ensures counted { Counted (kept_in result.kept) (K.faults keeper.old) (K.faults keeper.new) }
+    ensures put { result.put ≡ None }
 {
     let failed = match reply(alloc, 503, &[]) {
         Ok(failed) => failed,
@@ -162,8 +177,50 @@ fn serve_charges<K: Keeper>(alloc: Global, keeper: &mut K, sorry: Text) -> Serve
             reply: failed,
             kept,
             rows,
+            put: None,
         },
         Outcome::NoMemory => without_memory(sorry, rows),
+    }
+}
+
+/// The reply to a document that says how many messages wait in a mailbox, where this was read of it.
+fn counts_reply(alloc: Global, read: &Result<Counts, SheetFault>) -> Result<Text, NoMemory>
+    ensures said { (wanted : Read Counts) → TellsCounts wanted read.now → IfOk result (λ said. said ≡ counts_reply wanted) }
+    ensures read { IfOk result (λ _. read.now ≢ Err fault.NoMemory) }
+{
+    match read {
+        Ok(_) => reply(alloc, 200, &[]),
+        Err(fault) => fault_reply(alloc, fault),
+    }
+}
+
+/// What is put, where this was read of a document of a mailbox.
+fn accepted(account: Account, read: Result<Counts, SheetFault>) -> Option<(Account, Counts)>
+    ensures { (wanted : Read Counts) → TellsCounts wanted read → read ≢ Err fault.NoMemory → result ≡ accepted made account wanted }
+{
+    match read {
+        Ok(counts) => Some((account, counts)),
+        Err(_) => None,
+    }
+}
+
+/// Reads how many messages wait in a mailbox, and replies; the keeper is not called.
+fn serve_mailbox(alloc: Global, account: Account, body: &[u8], sorry: Text) -> Served
+    requires { sorry ≡ reply_of 507 [] }
+    ensures reply { result.reply ≡ reply_to (kept_in result.kept) result.rows (web.Mailbox account body.now) }
+    ensures kept { (kept_in result.kept ≡ made) ⊎ (kept_in result.kept ≡ no_memory) }
+    ensures rows { result.rows ≡ [] }
+    ensures put { result.put ≡ put_by (kept_in result.kept) (web.Mailbox account body.now) }
+{
+    let read = read_counts(alloc, body);
+    match counts_reply(alloc, &read) {
+        Ok(reply) => Served {
+            reply,
+            kept: Outcome::Made,
+            rows: List::new(),
+            put: accepted(account, read),
+        },
+        Err(NoMemory) => without_memory(sorry, List::new()),
     }
 }
 
@@ -182,12 +239,14 @@ fn serve_web<K: Keeper>(
     ensures registered { (registrations : Registrations) → IsRegisteredBy records.old registrations → IsRegisteredBy records.new registrations }
     ensures keeper { Answers (call_by web) (kept_in result.kept) result.rows (K.held keeper.old) (K.held keeper.new) (K.calls keeper.old) (K.calls keeper.new) }
     ensures counted { Counted (kept_in result.kept) (K.faults keeper.old) (K.faults keeper.new) }
+    ensures put { result.put ≡ put_by (kept_in result.kept) web }
 {
     match web {
         Web::Read(reply) => Served {
             reply,
             kept: Outcome::Made,
             rows: List::new(),
+            put: None,
         },
         Web::Store {
             account,
@@ -203,6 +262,11 @@ fn serve_web<K: Keeper>(
             serve_upload(alloc, records, keeper, upload, reply, sorry)
         }
         Web::Charges => serve_charges(alloc, keeper, sorry),
+        Web::Mailbox { account, body } => {
+            let served = serve_mailbox(alloc, account, body.bytes(), sorry);
+            drop(body);
+            served
+        }
     }
 }
 
@@ -223,6 +287,7 @@ fn serve_bytes<K: Keeper>(
     ensures keeper { Answers (call_in names.now (request_of bytes.now)) (kept_in result.kept) result.rows (K.held keeper.old) (K.held keeper.new) (K.calls keeper.old)
         (K.calls keeper.new) }
     ensures counted { Counted (kept_in result.kept) (K.faults keeper.old) (K.faults keeper.new) }
+    ensures put { result.put ≡ put_in names.now (request_of bytes.now) (kept_in result.kept) }
 {
     uploads_are_what_they_say();
     match answer(alloc, names, records.texts(), bytes) {
@@ -258,6 +323,8 @@ pub fn serve<K: Keeper>(
         Answers (call_in names.now (request_of bytes.now)) (kept_in served.kept) served.rows (K.held keeper.old) (K.held keeper.new) (K.calls keeper.old) (K.calls keeper.new)) }
     // Its count of faults rose exactly where its call failed.
     ensures counted { IfOk result (λ served. Counted (kept_in served.kept) (K.faults keeper.old) (K.faults keeper.new)) }
+    // What the request says of a mailbox is told where it was accepted.
+    ensures put { IfOk result (λ served. served.put ≡ put_in names.now (request_of bytes.now) (kept_in served.kept)) }
     // Want of memory that is not answered came before anything was done: no record has changed, and the keeper was not called.
     ensures unchanged { OnErr result (records.new ≡ records.old) }
     ensures uncalled { OnErr result (keeper.new ≡ keeper.old) }

@@ -15,9 +15,10 @@ use Rattle.mmtel_types.specs.declared.numbers.Account.{Account}
 use Rattle.mmtel_uploads.specs.Uploads.{by_read, upload_of}
 use Rattle.mmtel_uploads.specs.declared.uploads.Upload.{Upload}
 use Rattle.mmtel_uploads.specs.declared.uploads.Upload.TheVariants.{Accepted, Refused}
-use Rattle.mmtel_web.specs.Answers.{bare, by_account, by_method, by_place, by_upload, is_toml, of_charges, of_sheet, web_of}
+use Rattle.mmtel_web.specs.Answers.{Kept, bare, by_account, by_method, by_place, by_upload, is_toml, of_charges, of_sheet, web_of}
+use Rattle.mmtel_web.specs.Mailboxes.{by_put, of_account, put_by}
 use Rattle.mmtel_web.specs.Parties.{identity_of, is_operator, may_ask}
-use Rattle.mmtel_web.specs.Uploads.{OnlyRepliesSeeTexts, UploadsSayTheirText, UploadsSeeNoText, unsaid, upload_by}
+use Rattle.mmtel_web.specs.Uploads.{MailboxesSeeNoText, OnlyRepliesSeeTexts, UploadsSayTheirText, UploadsSeeNoText, unsaid, upload_by}
 use Rattle.mmtel_web.specs.declared.answers.Web.{Web}
 use Rattle.mmtel_web.specs.declared.answers.Web.TheVariants as web
 
@@ -49,6 +50,7 @@ module _ (d : WebDirectory) (texts : List (Account × List ℕ)) (a : Asking) wh
   place_same : (p : Place) → unsaid (by_place d texts a p) ≡ unsaid (by_place d [] a p)
   place_same place.Charges = refl
   place_same (place.Sheet account) = sheet_same account (method_of a.method)
+  place_same (place.Mailbox account) = refl
   place_same place.Elsewhere = refl
 
 pub only_replies_see_texts : OnlyRepliesSeeTexts
@@ -61,10 +63,21 @@ upload_unsaid : (w : Web) → upload_by w ≡ upload_by (unsaid w)
 upload_unsaid (web.Read text) = refl
 upload_unsaid (web.Store account sheet text reply) = refl
 upload_unsaid web.Charges = refl
+upload_unsaid (web.Mailbox account body) = refl
 
 pub uploads_see_no_text : UploadsSeeNoText
 uploads_see_no_text d texts request =
     upload_unsaid (web_of d texts request) ∙ (ap upload_by (only_replies_see_texts d texts request) ∙ sym (upload_unsaid (web_of d [] request)))
+
+put_unsaid : (kept : Kept) (w : Web) → put_by kept w ≡ put_by kept (unsaid w)
+put_unsaid kept (web.Read text) = refl
+put_unsaid kept (web.Store account sheet text reply) = refl
+put_unsaid kept web.Charges = refl
+put_unsaid kept (web.Mailbox account body) = refl
+
+pub mailboxes_see_no_text : MailboxesSeeNoText
+mailboxes_see_no_text d texts request kept =
+    put_unsaid kept (web_of d texts request) ∙ (ap (put_by kept) (only_replies_see_texts d texts request) ∙ sym (put_unsaid kept (web_of d [] request)))
 
 -- ---- what is put in force
 
@@ -121,9 +134,32 @@ module _ (b : Account) (sheet : Sheet) (text reply : List ℕ) where
     charges_says method.Delete e = absurd cc
     charges_says method.Other e = absurd cc
 
+    -- a mailbox is no record
+    owner_says : (known own toml : Bool) (account : Account)
+        → cond known (cond own (cond toml (web.Mailbox account a.body) (bare 415)) (bare 403)) (bare 404) ≡ web.Store b sheet text reply → sheet ≡ kept_sheet text
+    owner_says true true true account e = absurd cc
+    owner_says true true false account e = absurd cc
+    owner_says true false toml account e = absurd cc
+    owner_says false own toml account e = absurd cc
+
+    of_account_says : (o : Option Account) → of_account d a o ≡ web.Store b sheet text reply → sheet ≡ kept_sheet text
+    of_account_says None e = absurd cc
+    of_account_says (Some account) e = owner_says (is_account d.accounts account) (is_operator d.operator (identity_of a.identity)) (is_toml a.kind) account e
+
+    put_only_says : (o : Option Account) (m : Method) → by_put d a o m ≡ web.Store b sheet text reply → sheet ≡ kept_sheet text
+    put_only_says o method.Get e = absurd cc
+    put_only_says o method.Put e = of_account_says o e
+    put_only_says o method.Delete e = absurd cc
+    put_only_says o method.Other e = absurd cc
+
+    mailbox_says : (on : Bool) (o : Option Account) (m : Method) → cond on (by_put d a o m) (bare 404) ≡ web.Store b sheet text reply → sheet ≡ kept_sheet text
+    mailbox_says true o m e = put_only_says o m e
+    mailbox_says false o m e = absurd cc
+
     place_says : (p : Place) → by_place d texts a p ≡ web.Store b sheet text reply → sheet ≡ kept_sheet text
     place_says place.Charges e = charges_says (method_of a.method) e
     place_says (place.Sheet account) e = sheet_says account (method_of a.method) e
+    place_says (place.Mailbox account) e = mailbox_says d.mwi account (method_of a.method) e
     place_says place.Elsewhere e = absurd cc
 
 pub uploads_say_their_text : UploadsSayTheirText

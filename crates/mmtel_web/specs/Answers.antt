@@ -1,8 +1,7 @@
--- What the server does for a request (RFC 9110 §9.3 and §15; 3GPP TS 24.623 §5): a reply, or a record to be kept and a reply, or the charging rows. The first that applies
--- is the answer.
-use Rattle.std.specs.Prelude.{ℕ, Bool, List, [], false, Some, None, if◌then◌else◌, codes, unwrap_or}
+-- What the server does for a request (RFC 9110 §9.3 and §15; 3GPP TS 24.623 §5): a reply, or a record to be kept and a reply, or the charging rows, or what waits in a mailbox.
+-- The first that applies is the answer.
+use Rattle.std.specs.Prelude.{ℕ, List, [], Some, None, if◌then◌else◌, codes, unwrap_or}
 use Rattle.std.specs.declared.option.Option.{Option}
-use Rattle.std.specs.Str.{bytes_eq}
 use Rattle.mmtel_types.specs.declared.numbers.Account.{Account}
 use Rattle.mmtel_charging.specs.declared.rows.Row.{Row}
 use Rattle.mmtel_charging.specs.Rows.{text_of}
@@ -17,32 +16,19 @@ use Rattle.mmtel_http.specs.declared.places.Method.TheVariants as method
 use Rattle.mmtel_uploads.specs.Uploads.{upload_of}
 use Rattle.mmtel_uploads.specs.declared.uploads.Upload.{Upload}
 use Rattle.mmtel_uploads.specs.declared.uploads.Upload.TheVariants.{Accepted, Refused}
+use Rattle.mmtel_web.specs.Mailboxes.{counts_reply, of_mailbox}
 use Rattle.mmtel_web.specs.Parties.{identity_of, may_ask, is_operator}
+pub use Rattle.mmtel_web.specs.Replies.{Kept, bare, failed, is_toml, made, no_memory, not_allowed, toml}
 use Rattle.mmtel_directory.specs.Directory.{is_account}
 use Rattle.mmtel_directory.specs.declared.directories.WebDirectory.{WebDirectory}
+use Rattle.mmtel_mwi.specs.Counting.{counts_read}
 use Rattle.mmtel_web.specs.declared.answers.Web.{Web}
 use Rattle.mmtel_web.specs.declared.answers.Web.TheVariants as web
-
-abbrev pub toml : List ℕ
-toml = codes "application/toml"
-
--- a reply without a body
-abbrev pub bare : ℕ → Web
-bare code = web.Read (reply_text code None [] [])
-
--- the method is none of those that are allowed
-abbrev pub not_allowed : List ℕ → Web
-not_allowed methods = web.Read (reply_text 405 (Some methods) [] [])
 
 -- an upload for the account
 abbrev pub by_upload : Account → List ℕ → Upload → Web
 by_upload account text (Accepted sheet) = web.Store account sheet text (reply_text 200 None [] [])
 by_upload account text (Refused fault) = web.Read (reply_text 409 None (codes "text/plain") fault)
-
--- the type of the body is the record's
-abbrev pub is_toml : Option (List ℕ) → Bool
-is_toml None = false
-is_toml (Some kind) = bytes_eq kind toml
 
 -- what an account asks of its record
 abbrev pub by_method : List (Account × List ℕ) → Asking → Account → Method → Web
@@ -76,6 +62,7 @@ of_charges d a method.Other = not_allowed (codes "GET")
 abbrev pub by_place : WebDirectory → List (Account × List ℕ) → Asking → Place → Web
 by_place d texts a place.Charges = of_charges d a (method_of a.method)
 by_place d texts a (place.Sheet account) = of_sheet d texts a account (method_of a.method)
+by_place d texts a (place.Mailbox account) = of_mailbox d a account (method_of a.method)
 by_place d texts a place.Elsewhere = bare 404
 
 -- what the server does for what is asked; a connection that ended before there was a whole request asked nothing that is understood
@@ -86,12 +73,6 @@ web_of d texts large = bare 413
 web_of d texts (asked a) = by_place d texts a (place_of a.target)
 
 -- ---- the reply
-
--- what became of the keeper's call, where one was due
-pub data Kept : Type 0 where
-  made : Kept
-  failed : Kept
-  no_memory : Kept
 
 -- a reply of the server itself: 200 with rows, or 503, or 507
 abbrev pub reply_of : ℕ → List ℕ → List ℕ
@@ -112,6 +93,7 @@ abbrev pub reply_to : Kept → List Row → Web → List ℕ
 reply_to kept rows (web.Read text) = without_call kept text
 reply_to kept rows (web.Store account sheet text reply) = after_call kept reply
 reply_to kept rows web.Charges = after_call kept (reply_of 200 (text_of rows))
+reply_to kept rows (web.Mailbox account body) = without_call kept (counts_reply (counts_read body))
 
 -- the reply to a request
 abbrev pub web_reply : WebDirectory → List (Account × List ℕ) → Request → Kept → List Row → List ℕ

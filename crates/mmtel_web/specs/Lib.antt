@@ -1,5 +1,7 @@
 -- What public clauses cite, which a user of the crate has to believe.
 pub mod Parties
+pub mod Replies
+pub mod Mailboxes
 pub mod Answers
 pub mod Agreed
 pub mod Uploads

@@ -6,6 +6,8 @@ use Rattle.mmtel_sheet_grammar.specs.Texts.{kept_sheet}
 use Rattle.mmtel_sheet_values.specs.declared.values.Sheet.{Sheet}
 use Rattle.mmtel_types.specs.declared.numbers.Account.{Account}
 use Rattle.mmtel_web.specs.Answers.{Kept, made, failed, no_memory, web_of}
+use Rattle.mmtel_mwi.specs.declared.counts.Counts.{Counts}
+use Rattle.mmtel_web.specs.Mailboxes.{put_by}
 use Rattle.mmtel_web.specs.declared.answers.Web.{Web}
 use Rattle.mmtel_web.specs.declared.answers.Web.TheVariants as web
 
@@ -14,10 +16,15 @@ abbrev pub upload_by : Web → Option (Account × List ℕ)
 upload_by (web.Read text) = None
 upload_by (web.Store account sheet text reply) = Some (account, text)
 upload_by web.Charges = None
+upload_by (web.Mailbox account body) = None
 
 -- what is kept does not rest on what texts there are, so it is asked without any
 abbrev pub upload_in : WebDirectory → Request → Option (Account × List ℕ)
 upload_in d request = upload_by (web_of d [] request)
+
+-- nor what is put into a mailbox
+abbrev pub put_in : WebDirectory → Request → Kept → Option (Account × Counts)
+put_in d request kept = put_by kept (web_of d [] request)
 
 -- and it is kept exactly where the keeper's call was made
 abbrev pub kept_upload : Kept → Option (Account × List ℕ) → Option (Account × List ℕ)
@@ -30,6 +37,7 @@ abbrev pub unsaid : Web → Web
 unsaid (web.Read text) = web.Read []
 unsaid (web.Store account sheet text reply) = web.Store account sheet text reply
 unsaid web.Charges = web.Charges
+unsaid (web.Mailbox account body) = web.Mailbox account body
 
 -- what is done rests on what texts there are only in what a reply reads,
 abbrev pub OnlyRepliesSeeTexts : Type 0
@@ -38,6 +46,10 @@ OnlyRepliesSeeTexts = (d : WebDirectory) (texts : List (Account × List ℕ)) (r
 -- and so what is kept does not
 abbrev pub UploadsSeeNoText : Type 0
 UploadsSeeNoText = (d : WebDirectory) (texts : List (Account × List ℕ)) (request : Request) → upload_by (web_of d texts request) ≡ upload_in d request
+
+-- nor does what is put
+abbrev pub MailboxesSeeNoText : Type 0
+MailboxesSeeNoText = (d : WebDirectory) (texts : List (Account × List ℕ)) (request : Request) (kept : Kept) → put_by kept (web_of d texts request) ≡ put_in d request kept
 
 -- what is to be put in force is what the text says
 abbrev pub UploadsSayTheirText : Type 0

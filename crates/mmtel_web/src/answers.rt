@@ -1,5 +1,5 @@
 //! What the server does for a request.
-ghost use Rattle.std.specs.Prelude.{◌≡◌, [], None, IfOk, codes, unwrap_or};
+ghost use Rattle.std.specs.Prelude.{◌≡◌, ◌≢◌, [], None, IfOk, codes, unwrap_or};
 ghost use Rattle.std.specs.Option.{option_copied};
 ghost use Rattle.http.specs.StatusCode.{IsStatusCode};
 ghost use Rattle.mmtel_http.specs.Places.{place_of};
@@ -9,16 +9,19 @@ ghost use Rattle.mmtel_http.specs.Seen.{asking};
 ghost use Rattle.mmtel_sheet_texts.specs.Texts.{text_at};
 ghost use Rattle.mmtel_uploads.specs.Uploads.{upload_of};
 ghost use Rattle.mmtel_web.specs.Answers.{bare, not_allowed, by_upload, is_toml, by_method, by_account, of_sheet, of_charges, by_place, web_of, reply_of};
+ghost use Rattle.mmtel_web.specs.Mailboxes.{by_put, fault_reply, of_account, of_document, of_mailbox, of_owner};
+ghost use Rattle.mmtel_sheet_grammar.specs.declared.faults.SheetFault.TheVariants as kinds;
 ghost use Rattle.mmtel_web.specs.declared.answers.Web.TheVariants as web;
 
 use crate::parties::{identity_of, is_operator, may_ask};
 use mmtel_directory::WebDirectory;
 use mmtel_http::{Asked, Method, Place, Request, look, method_of, place_of, reply_text};
 use mmtel_scan::{NoMemory, Text};
+use mmtel_sheet_grammar::SheetFault;
 use mmtel_sheet_texts::SheetTexts;
 use mmtel_sheet_values::Sheet;
 use mmtel_types::Account;
-use mmtel_uploads::{Upload, upload_of};
+use mmtel_uploads::{Upload, fault_text, upload_of};
 use std::alloc::Global;
 
 /// What the server does for a request.
@@ -39,6 +42,13 @@ pub enum Web {
     },
     /// It replies with the charging rows.
     Charges,
+    /// It reads how many messages wait in the account's mailbox, and replies.
+    Mailbox {
+        /// The account.
+        account: Account,
+        /// The document that says so.
+        body: Text,
+    },
 }
 
 /// A reply without a body.
@@ -189,6 +199,87 @@ fn of_charges(
     }
 }
 
+/// What the operator says of the mailbox of an account: a TOML document.
+fn of_document(alloc: Global, asked: Asked<'_>, account: Account) -> Result<Web, NoMemory>
+    ensures { IfOk result (λ w. w ≡ of_document (asking asked.entry) account) }
+{
+    if is_toml(asked.kind) {
+        let body = Text::of(alloc, asked.body)?;
+        Ok(Web::Mailbox { account, body })
+    } else {
+        bare(alloc, 415)
+    }
+}
+
+/// What somebody says of the mailbox of an account: the operator alone may.
+fn of_owner(
+    alloc: Global,
+    d: &WebDirectory,
+    asked: Asked<'_>,
+    account: Account,
+) -> Result<Web, NoMemory>
+    ensures { IfOk result (λ w. w ≡ of_owner d.now (asking asked.entry) account) }
+{
+    let identity = identity_of(alloc, asked.identity)?;
+    if is_operator(&d.operator, &identity) {
+        of_document(alloc, asked, account)
+    } else {
+        bare(alloc, 403)
+    }
+}
+
+/// What somebody says of the mailbox of an account, if it is one.
+fn of_account(
+    alloc: Global,
+    d: &WebDirectory,
+    asked: Asked<'_>,
+    account: Option<Account>,
+) -> Result<Web, NoMemory>
+    ensures { IfOk result (λ w. w ≡ of_account d.now (asking asked.entry) account) }
+{
+    let Some(account) = account else {
+        return bare(alloc, 404);
+    };
+    if d.accounts.has_account(account) {
+        of_owner(alloc, d, asked, account)
+    } else {
+        bare(alloc, 404)
+    }
+}
+
+/// What somebody asks of a mailbox: PUT alone is known there.
+fn by_put(
+    alloc: Global,
+    d: &WebDirectory,
+    asked: Asked<'_>,
+    account: Option<Account>,
+    method: Method,
+) -> Result<Web, NoMemory>
+    ensures { IfOk result (λ w. w ≡ by_put d.now (asking asked.entry) account method) }
+{
+    match method {
+        Method::Put => of_account(alloc, d, asked, account),
+        _ => not_allowed(alloc, b"PUT"),
+    }
+}
+
+/// What somebody asks of a mailbox, where there are mailboxes.
+fn of_mailbox(
+    alloc: Global,
+    d: &WebDirectory,
+    asked: Asked<'_>,
+    account: Option<Account>,
+    method: Method,
+) -> Result<Web, NoMemory>
+    ensures { IfOk result (λ w. w ≡ of_mailbox d.now (asking asked.entry) account method) }
+{
+    if d.mwi {
+        by_put(alloc, d, asked, account, method)
+    } else {
+        bare(alloc, 404)
+    }
+}
+
 /// What is asked of a place.
 fn by_place(
     alloc: Global,
@@ -202,6 +293,7 @@ fn by_place(
     match place_of(alloc, asked.target)? {
         Place::Charges => of_charges(alloc, d, asked, method),
         Place::Sheet(account) => of_sheet(alloc, d, texts, asked, account, method),
+        Place::Mailbox(account) => of_mailbox(alloc, d, asked, account, method),
         Place::Elsewhere => bare(alloc, 404),
     }
 }
@@ -227,7 +319,7 @@ pub fn answer(
     }
 }
 
-/// The reply with the charging rows (200), or where the keeper failed (503), or for want of memory (507).
+/// The reply with the charging rows (200), or without a body (200), or where the keeper failed (503), or for want of memory (507).
 ///
 /// # Errors
 ///
@@ -237,4 +329,17 @@ pub fn reply(alloc: Global, code: u16, body: &[u8]) -> Result<Text, NoMemory>
     ensures text { IfOk result (λ text. text ≡ reply_of code body.now) }
 {
     reply_text(alloc, code, None, b"text/csv", body)
+}
+
+/// The reply to a document that is refused (409): the line that tells its first fault. No reply tells want of memory.
+///
+/// # Errors
+///
+/// Want of memory, and where that is the fault.
+pub fn fault_reply(alloc: Global, fault: &SheetFault) -> Result<Text, NoMemory>
+    ensures text { IfOk result (λ text. text ≡ fault_reply fault.now) }
+    ensures other { IfOk result (λ _. fault.now ≢ kinds.NoMemory) }
+{
+    let line = fault_text(alloc, fault)?;
+    reply_text(alloc, 409, None, b"text/plain", line.bytes())
 }

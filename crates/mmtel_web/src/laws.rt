@@ -8,7 +8,7 @@ ghost use Rattle.mmtel_sheet_texts.specs.Texts.{text_at};
 ghost use Rattle.mmtel_web.specs.Agreed.{AgreeOnIdentities, AsksOf};
 ghost use Rattle.mmtel_web.specs.Answers.{Kept, web_of, web_reply};
 ghost use Rattle.mmtel_web.specs.Parties.{identity_of, may_ask};
-ghost use Rattle.mmtel_web.specs.Uploads.{OnlyRepliesSeeTexts, UploadsSayTheirText, UploadsSeeNoText};
+ghost use Rattle.mmtel_web.specs.Uploads.{MailboxesSeeNoText, OnlyRepliesSeeTexts, UploadsSayTheirText, UploadsSeeNoText};
 ghost use Rattle.mmtel_web.specs.declared.answers.Web.TheVariants as web;
 ghost use Rattle.mmtel_directory.specs.declared.directories.WebDirectory.{WebDirectory};
 
@@ -36,5 +36,6 @@ pub fn uploads_are_of_one_account()
 pub fn uploads_are_what_they_say()
     ensures replies { OnlyRepliesSeeTexts }
     ensures any { UploadsSeeNoText }
+    ensures put { MailboxesSeeNoText }
     ensures said { UploadsSayTheirText }
 {}

@@ -8,5 +8,6 @@ unfolding matchit_on_literals
 returns c =
     let a = c.in_ok-insert.ensures in
     let b = c.in_ok-insert-2.ensures in
-    let found = rw (b.1, a.1, c.new-router.ensures) at c.matched.ensures in
-    answer _ _ c.args.path.now c.matched.result (λ i. omega (arith, c.type_inv.path i)) refl refl found
+    let d = c.in_ok-insert-3.ensures in
+    let found = rw (d.1, b.1, a.1, c.new-router.ensures) at c.matched.ensures in
+    answer _ _ _ c.args.path.now c.matched.result (λ i. omega (arith, c.type_inv.path i)) refl refl refl found

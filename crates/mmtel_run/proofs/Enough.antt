@@ -1,11 +1,12 @@
 -- Enough firings of deadlines exist before each event, and more of them change nothing.
 use Rattle.std.proofs.Common.{◌≡◌, ℕ, zero, suc, ◌+◌, ◌≤◌, List, [], ◌∷◌, ◌++◌, length, refl, sym, ap, ◌∙◌, Bool, true, false, Option, Some, None, inl, inr, arith, subst}
-use Rattle.std.specs.Prelude.{◌⊎◌, nat_le, if◌then◌else◌}
+use Rattle.std.specs.Prelude.{◌⊎◌, ◌==◌, cond, nat_le, if◌then◌else◌}
+use Rattle.std.specs.Option.{option_map}
 use Rattle.mmtel_b2bua.specs.Histories.{Deed, Drops, Hears, hears_after}
 use Rattle.mmtel_b2bua.specs.Tables.{Moved}
 use Rattle.mmtel_b2bua.specs.declared.signals.Signal.{Signal}
 use Rattle.mmtel_b2bua.specs.declared.signals.Signal.TheVariants as signal
-use Rattle.mmtel_desk.specs.Invites.{invite_silent}
+use Rattle.mmtel_desk.specs.Invites.{behind_cookie, invite_silent}
 use Rattle.mmtel_desk.specs.Desks.{fresh}
 use Rattle.mmtel_directory.specs.declared.directories.Directory.{Directory}
 use Rattle.mmtel_focus.specs.Histories as rooms
@@ -14,6 +15,14 @@ use Rattle.mmtel_focus.specs.Table as tables
 use Rattle.mmtel_focus.specs.declared.signals.RoomSignal.{RoomSignal}
 use Rattle.mmtel_focus.specs.declared.signals.RoomSignal.TheVariants as of_room
 use Rattle.mmtel_in_force.specs.Texts.{Texts}
+use Rattle.mmtel_mwi.specs.Boxes.{ended, held, notice, peer_of, told}
+use Rattle.mmtel_mwi.specs.Histories as boxes
+use Rattle.mmtel_mwi.specs.Histories.{Ends, Tells}
+use Rattle.mmtel_mwi.specs.declared.subscriptions.Subscription.{Subscription}
+use Rattle.mmtel_types.specs.declared.numbers.Peer.{Peer}
+use Rattle.mmtel_types.specs.declared.numbers.SubNo.{SubNo}
+use Rattle.mmtel_run.specs.Subscriptions.{box_answered, box_due, is_last_set, notice_emits, noting, telling_last, telling_peer}
+use Rattle.mmtel_run.proofs.Fewer.{answered_fewer, last_fewer}
 use Rattle.mmtel_scan.specs.Numbers.{next_number}
 use Rattle.mmtel_transaction.specs.Answers.{Next, fires, next_due, says_due}
 use Rattle.mmtel_transaction.specs.Calls.{Done, DidBegin, live}
@@ -24,14 +33,14 @@ use Rattle.mmtel_transaction.specs.Tokens.{Drawn}
 use Rattle.mmtel_transaction.specs.declared.words.Emit.{Emit}
 use Rattle.mmtel_transaction.specs.declared.words.TKey.{TKey}
 use Rattle.mmtel_run.specs.Calls.{calls_after, site_of}
-use Rattle.mmtel_run.specs.Deadlines.{Alarm, Armed, Chosen, Deadline, OfAlarm, OfCall, OfMessage, OfSeat, choose, chosen, comes_before, first_armed, first_of, is_sooner}
+use Rattle.mmtel_run.specs.Deadlines.{Alarm, Armed, Chosen, Deadline, OfAlarm, OfBox, OfCall, OfMessage, OfSeat, choose, chosen, comes_before, first_armed, first_of, is_sooner}
 use Rattle.mmtel_run.specs.Events.{Happened, Notice, notices}
 use Rattle.mmtel_run.specs.Headline.{GivesAlways, GivesOnce, MoreChangesNothing}
 use Rattle.mmtel_run.specs.Records.{in_force}
-use Rattle.mmtel_run.specs.Rooms.{OfCalls, OfRooms, Whose, whose_key, whose_branch, rooms_after, rooms_site}
+use Rattle.mmtel_run.specs.Rooms.{OfBoxes, OfCalls, OfRooms, Whose, whose_key, whose_branch, rooms_after, rooms_site}
 use Rattle.mmtel_run.specs.Run.{IsEnough, IsEnoughAfter, IsSettled, after, clock_at, due_in, fire_one, fired_if, gives, one_more, settled, world_after}
-use Rattle.mmtel_run.specs.World.{World, alarmed, beginning, begun, calls_in, came, emitted, ended_of, fired, heard_in_rooms, heard_now, rooms_in, rung, seated, signalled, silenced, tokens_now}
-use Rattle.mmtel_run.proofs.Earlier.{emitted_deeds, emitted_rooms}
+use Rattle.mmtel_run.specs.World.{World, boxes_in, drawing, next_tag, alarmed, beginning, begun, calls_in, came, emitted, ended_of, fired, heard_in_rooms, heard_now, rooms_in, rung, seated, signalled, silenced, tokens_now}
+use Rattle.mmtel_run.proofs.Earlier.{emitted_boxes, emitted_deeds, emitted_rooms}
 use Rattle.mmtel_run.proofs.Emptying.{all_seats, rooms_fade}
 use Rattle.mmtel_run.proofs.Emptying.{is_rung as is_rung_there}
 use Rattle.mmtel_run.proofs.Lasting.{all_ways, fades, is_rung}
@@ -72,9 +81,9 @@ module _ (d : Directory) (token : List ℕ) where
 
   -- ---- what a deadline leaves
 
-  -- so many ways to go the calls have, and so many seats of rooms are taken; and so long what is under way may go on, where nothing is brought forth
+  -- so many ways to go the calls have, so many seats of rooms are taken, and so many subscriptions live; and so long what is under way may go on, where nothing is brought forth
   abbrev ways_left : World → ℕ
-  ways_left w = all_ways (calls_in d w).entries + all_seats (rooms_in d w).live
+  ways_left w = all_ways (calls_in d w).entries + all_seats (rooms_in d w).live + length (boxes_in w).live
 
   abbrev waits : World → ℕ
   waits w = all_left (live w.acts) + length w.armed
@@ -93,15 +102,15 @@ module _ (d : Directory) (token : List ℕ) where
   -- what is emitted is no matter of either
   emitted_ways : (at : ℕ) (out : List Emit) (v : World) → ways_left (emitted at out v) ≡ ways_left v
   emitted_ways at out v =
-      ap (λ (ds : List Deed). all_ways (calls_after d ds).entries + all_seats (rooms_after d (emitted at out v).rooms).live) (emitted_deeds at out v)
-      ∙ ap (λ (rs : List rooms.Deed). all_ways (calls_after d v.deeds).entries + all_seats (rooms_after d rs).live) (emitted_rooms at out v)
+      λ i. all_ways (calls_after d (emitted_deeds at out v i)).entries + all_seats (rooms_after d (emitted_rooms at out v i)).live + length (boxes.table_after (emitted_boxes at out v i)).live
 
   signalled_quietens : (at : ℕ) (x : Signal) (w : World) → is_rung x ≡ true → Quietens (signalled d token at x w) w
   signalled_quietens at x w is =
       let view = in_force w.texts w.registrations in
       let drawn : Drawn = record { token = token; drawn = w.drawn } in
       let calls = calls_in d w in
-      let left : ways_left (signalled d token at x w) ≡ all_ways (moved_by at x w).entries + all_seats (rooms_in d w).live = emitted_ways at (moved_by at x w).desk.out (heard_in at x w) in
+      let left : ways_left (signalled d token at x w) ≡ all_ways (moved_by at x w).entries + all_seats (rooms_in d w).live + length (boxes_in w).live =
+      emitted_ways at (moved_by at x w).desk.out (heard_in at x w) in
       elim (fades (site_of d) at view (next_number calls.opened) x calls.entries (fresh drawn) is) [
         | inl quiet ↦
             let same : waits (signalled d token at x w) ≡ waits w = ap (λ (out : List Emit). waits (emitted at out (heard_in at x w))) quiet.0 in
@@ -126,7 +135,8 @@ module _ (d : Directory) (token : List ℕ) where
   seated_quietens : (at : ℕ) (x : RoomSignal) (w : World) → is_rung_there x ≡ true → Quietens (seated d token at x w) w
   seated_quietens at x w is =
       let held = rooms_in d w in
-      let left : ways_left (seated d token at x w) ≡ all_ways (calls_in d w).entries + all_seats (room_moved at x w).live = emitted_ways at (room_moved at x w).effects.desk.out (heard_there at x w) in
+      let left : ways_left (seated d token at x w) ≡ all_ways (calls_in d w).entries + all_seats (room_moved at x w).live + length (boxes_in w).live =
+      emitted_ways at (room_moved at x w).effects.desk.out (heard_there at x w) in
       elim (rooms_fade (rooms_site d) at held.live held.loose (nothing (tokens_now token w)) x is) [
         | inl quiet ↦
             let same : waits (seated d token at x w) ≡ waits w = ap (λ (out : List Emit). waits (emitted at out (heard_there at x w))) quiet.0 in
@@ -137,23 +147,62 @@ module _ (d : Directory) (token : List ℕ) where
             inr (omega (arith, left, few))
       ]
 
+  -- a NOTIFY that has no answer brings nothing forth
+  answered_quietens : (branch : Option (List ℕ)) (code : ℕ) (w : World) → Quietens (box_answered branch code w) w
+  answered_quietens None code w = inl (omega arith, omega arith)
+  answered_quietens (Some branch) code w =
+      let fewer = answered_fewer branch code (boxes_in w) in
+      inl (omega arith, omega (arith, fewer))
+
+  -- whoever is told for the last time subscribes no more
+  told_last_quietens : (at : ℕ) (sub : SubNo) (s : Subscription) (w : World) → held sub (boxes_in w) ≡ Some s → Quietens (telling_last d token at sub w) w
+  told_last_quietens at sub s w e =
+      let u : World = noting (Tells sub (next_tag token w)) (drawing 1 w) in
+      let some : peer_of sub (boxes_in w) ≡ Some s.leg.dialogue.peer = ap (option_map (λ (x : Subscription). x.leg.dialogue.peer)) e in
+      let fewer : suc (length (ended sub (told sub (next_tag token w) (boxes_in w))).live) ≡ length (boxes_in w).live = last_fewer sub (next_tag token w) (boxes_in w) s e in
+      let emits = notice_emits s.leg.dialogue.peer (notice d.sip sub true (next_tag token w) at (boxes_in w)) in
+      let there : telling_last d token at sub w ≡ noting (Ends sub) (emitted at emits u) = ap (λ (o : Option Peer). noting (Ends sub) (telling_peer d token at sub true o w)) some in
+      let calls = emitted_deeds at emits u in
+      let seats = emitted_rooms at emits u in
+      let subscribed = emitted_boxes at emits u in
+      let left : ways_left (telling_last d token at sub w)
+      ≡ all_ways (calls_in d w).entries + all_seats (rooms_in d w).live + length (ended sub (told sub (next_tag token w) (boxes_in w))).live =
+      ap (λ (v : World). ways_left v) there
+      ∙ (λ i. all_ways (calls_after d (calls i)).entries + all_seats (rooms_after d (seats i)).live + length (ended sub (boxes.table_after (subscribed i))).live) in
+      inr (omega (arith, left, fewer))
+
+  due_by_quietens : (at : ℕ) (sub : SubNo) (set : ℕ) (o : Option Subscription) (w : World) → held sub (boxes_in w) ≡ o
+      → Quietens (cond (is_last_set set (option_map (λ (x : Subscription). x.set) o)) (telling_last d token at sub w) w) w
+  due_by_quietens at sub set None w e = inl (omega arith, omega arith)
+  due_by_quietens at sub set (Some s) w e = by (set == s.set)
+    where
+      by : (b : Bool) → Quietens (cond b (telling_last d token at sub w) w) w
+      by true = told_last_quietens at sub s w e
+      by false = inl (omega arith, omega arith)
+
+  box_quietens : (at : ℕ) (sub : SubNo) (set : ℕ) (w : World) → Quietens (box_due d token at sub set w) w
+  box_quietens at sub set w = due_by_quietens at sub set (held sub (boxes_in w)) w refl
+
   silenced_quietens : (at : ℕ) (branch method : List ℕ) (whose : Whose) (w : World) → Quietens (silenced d token at branch method whose w) w
   silenced_quietens at branch method OfCalls w = signalled_quietens at (signal.Silent branch method) w refl
+  silenced_quietens at branch method OfBoxes w = answered_quietens (behind_cookie branch) 408 w
   silenced_quietens at branch method OfRooms w = seated_quietens at (of_room.Silent branch method) w refl
 
   ended_quietens : (at : ℕ) (key : TKey) (whose : Whose) (w : World) → Quietens (ended_of d token at key whose w) w
   ended_quietens at key OfCalls w = signalled_quietens at (signal.Over key) w refl
+  ended_quietens at key OfBoxes w = inl (omega arith, omega arith)
   ended_quietens at key OfRooms w = seated_quietens at (of_room.Over key) w refl
 
   rung_quietens : (x : Due) (w : World) → Quietens (rung d token x w) w
   rung_quietens (due.Again peer at text) w = inl (omega arith, omega arith)
-  rung_quietens (due.Silent key branch method at) w = silenced_quietens at branch method (whose_branch (invite_silent branch method) (calls_in d w).entries) w
+  rung_quietens (due.Silent key branch method at) w = silenced_quietens at branch method (whose_branch (invite_silent branch method) (behind_cookie branch) (calls_in d w).entries (boxes_in w)) w
   rung_quietens (due.Over key at) w = ended_quietens at key (whose_key key (calls_in d w).entries) w
   rung_quietens due.Nothing w = inl (omega arith, omega arith)
 
   alarmed_quietens : (at : ℕ) (x : Alarm) (w : World) → Quietens (alarmed d token at x w) w
   alarmed_quietens at (OfCall call what) w = signalled_quietens at (signal.Due call what) w refl
   alarmed_quietens at (OfSeat room seat what) w = seated_quietens at (of_room.Due room seat what) w refl
+  alarmed_quietens at (OfBox sub set) w = box_quietens at sub set w
 
   -- ---- the deadline that fires
 

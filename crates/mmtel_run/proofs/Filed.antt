@@ -2,13 +2,13 @@
 use Rattle.std.proofs.Common.{◌≡◌, ℕ, zero, suc, List, [], ◌∷◌, ◌++◌, length, map, refl, sym, ap, ◌∙◌, Bool, true, false, Option, Some, None, Result, Ok, Err, append_assoc, append-nil, drop}
 use Rattle.std.proofs.Math.Seq.{drop-append_seam}
 use Rattle.std.specs.Prelude.{if◌then◌else◌}
-use Rattle.mmtel_answers.specs.Said.{Said}
+use Rattle.mmtel_answers.specs.Said.{Said, status_of}
 use Rattle.mmtel_b2bua.specs.Histories.{Deed, Drops, Finishes, Hears, Releases, Restores, finished_by, hears_after}
 use Rattle.mmtel_b2bua.specs.Lending.{leg_out}
 use Rattle.mmtel_b2bua.specs.Names.{party}
 use Rattle.mmtel_b2bua.specs.declared.signals.Signal.{Signal}
 use Rattle.mmtel_b2bua.specs.declared.signals.Signal.TheVariants as signal
-use Rattle.mmtel_desk.specs.Invites.{invite_answered, invite_silent}
+use Rattle.mmtel_desk.specs.Invites.{behind_cookie, branch_in, invite_answered, invite_silent}
 use Rattle.mmtel_charging.specs.declared.rows.Row.{Row}
 use Rattle.mmtel_desk.specs.declared.desks.Desk.{Desk}
 use Rattle.mmtel_directory.specs.declared.directories.Directory.{Directory}
@@ -35,13 +35,15 @@ use Rattle.mmtel_types.specs.declared.numbers.Peer.{Peer}
 use Rattle.mmtel_types.specs.declared.numbers.RoomNo.{RoomNo}
 use Rattle.mmtel_types.specs.declared.sides.Side.{Side}
 use Rattle.mmtel_run.specs.Calls.{are_full, arrived, asked_by, site_of}
-use Rattle.mmtel_run.specs.Deadlines.{Alarm, Deadline, OfAlarm, OfCall, OfMessage, OfSeat}
+use Rattle.mmtel_run.specs.Deadlines.{Alarm, Deadline, OfAlarm, OfBox, OfCall, OfMessage, OfSeat}
 use Rattle.mmtel_run.specs.Events.{Digest, Nothing, Refused, Heard, Asked, Notice, message_in, notices}
 use Rattle.mmtel_run.specs.Filed.{AreFiled, Closed, NoneWaits, RowsAreFiled, RowsAreInOrder, rows_closed, rows_in, rows_left, rows_of_calls, rows_of_rooms, rows_of_step, rows_of_steps, settling, steps_of}
-use Rattle.mmtel_run.specs.Refusals.{Course, Refuse, Enter, EnterRoom, Open, OpenRoom, JoinRoom, Register, course}
-use Rattle.mmtel_run.specs.Rooms.{Holder, InCall, InRoom, OfCalls, OfRooms, Whose, account_of_side, whose_key, whose_branch, is_with, replacement_in, rooms_site, side_replaced}
+use Rattle.mmtel_run.specs.Refusals.{Course, Refuse, Enter, EnterRoom, Open, OpenRoom, JoinRoom, Register, Subscribe, EnterBox, course}
+use Rattle.mmtel_run.specs.Rooms.{Holder, InCall, InBox, InRoom, OfBoxes, OfCalls, OfRooms, Whose, account_of_side, whose_key, whose_branch, is_with, replacement_in, rooms_site, side_replaced}
 use Rattle.mmtel_run.specs.Run.{after, clock_at, due_in, fire_one, fired_if, one_more, settled}
-use Rattle.mmtel_run.specs.World.{World, acknowledging_by, adopting, adoption_of, alarmed, answering, beginning, begun, bringing, calls_in, came, cancelling, cancelling_call, comes_of, drawing, emit_one, emitted, ended_of, entering_room, finishing, fired, handing, heard_in_rooms, heard_now, hearing, holder_in, housed, joining_of, lending, lodging, met, next_tag, noticed, opening_of, repeating, replaced_by, replaced_with, replacing, responding_to, room_joined, room_opened, rooms_in, rung, seated, signalled, silenced, taken_out, taking, tokens_now, told}
+use Rattle.mmtel_web.specs.Uploads.{put_in}
+use Rattle.mmtel_run.proofs.Beside.{Stays, answered_stays, due_stays, entering_stays, putting_stays, subscribing_stays}
+use Rattle.mmtel_run.specs.World.{World, boxes_in, serving, acknowledging_by, adopting, adoption_of, alarmed, answering, beginning, begun, bringing, calls_in, came, cancelling, cancelling_call, comes_of, drawing, emit_one, emitted, ended_of, entering_room, finishing, fired, handing, heard_in_rooms, heard_now, hearing, holder_in, housed, joining_of, lending, lodging, met, next_tag, noticed, opening_of, repeating, replaced_by, replaced_with, replacing, responding_to, room_joined, room_opened, rooms_in, rung, seated, signalled, silenced, taken_out, taking, tokens_now, told}
 
 -- ---- rows that are one list behind another
 
@@ -211,6 +213,10 @@ module _ (d : Directory) (token : List ℕ) (start : World) where
   alone : (w : World) → AddsSeats d start w → Adds d start w
   alone w e = no_calls d start w e
 
+  -- nor where message waiting did something
+  beside : (v w : World) → Stays v w → AddsSeats d start w → Adds d start v
+  beside v w stays e = alone v (unmoved v w (λ i. stays.filed i ++ stays.waiting i) stays.deeds stays.rooms e)
+
   signalled_adds : (at : ℕ) (x : Signal) (w : World) → AddsSeats d start w → Adds d start (signalled d token at x w)
   signalled_adds at x w e = bringing_adds d start at (Hears (heard_now token at x w)) (hears_after (site_of d) w.deeds (heard_now token at x w)).desk w refl e
 
@@ -234,21 +240,24 @@ module _ (d : Directory) (token : List ℕ) (start : World) where
 
   silenced_adds : (at : ℕ) (branch method : List ℕ) (whose : Whose) (w : World) → AddsSeats d start w → Adds d start (silenced d token at branch method whose w)
   silenced_adds at branch method OfCalls w e = signalled_adds at (signal.Silent branch method) w e
+  silenced_adds at branch method OfBoxes w e = beside _ w (answered_stays (behind_cookie branch) 408 w) e
   silenced_adds at branch method OfRooms w e = alone _ (seated_adds at (of_room.Silent branch method) w e)
 
   ended_adds : (at : ℕ) (key : TKey) (whose : Whose) (w : World) → AddsSeats d start w → Adds d start (ended_of d token at key whose w)
   ended_adds at key OfCalls w e = signalled_adds at (signal.Over key) w e
+  ended_adds at key OfBoxes w e = alone w e
   ended_adds at key OfRooms w e = alone _ (seated_adds at (of_room.Over key) w e)
 
   rung_adds : (x : Due) (w : World) → AddsSeats d start w → Adds d start (rung d token x w)
   rung_adds (due.Again peer at text) w e = alone _ (unmoved _ w refl refl refl e)
-  rung_adds (due.Silent key branch method at) w e = silenced_adds at branch method (whose_branch (invite_silent branch method) (calls_in d w).entries) w e
+  rung_adds (due.Silent key branch method at) w e = silenced_adds at branch method (whose_branch (invite_silent branch method) (behind_cookie branch) (calls_in d w).entries (boxes_in w)) w e
   rung_adds (due.Over key at) w e = ended_adds at key (whose_key key (calls_in d w).entries) w e
   rung_adds due.Nothing w e = alone w e
 
   alarmed_adds : (at : ℕ) (x : Alarm) (w : World) → AddsSeats d start w → Adds d start (alarmed d token at x w)
   alarmed_adds at (OfCall call what) w e = signalled_adds at (signal.Due call what) w e
   alarmed_adds at (OfSeat room seat what) w e = alone _ (seated_adds at (of_room.Due room seat what) w e)
+  alarmed_adds at (OfBox sub set) w e = beside _ w (due_stays d token at sub set w) e
 
   fired_adds : (now : ℕ) (x : Deadline) (w : World) → AddsSeats d start w → Adds d start (fired d token now x w)
   fired_adds now OfMessage w e =
@@ -317,6 +326,8 @@ module _ (d : Directory) (token : List ℕ) (start : World) where
     taking_adds key OpenRoom w e = opened_adds key (next_tag token w) (has_no_room (rooms_in d w).live) (drawing 1 w) (unmoved _ w refl refl refl e)
     taking_adds key (JoinRoom room) w e = joined_adds key room (next_tag token w) (access room.0 (rooms_in d w).live) (drawing 1 w) (unmoved _ w refl refl refl e)
     taking_adds key (Register account seconds) w e = alone _ (unmoved _ w refl refl refl e)
+    taking_adds key Subscribe w e = beside _ w (subscribing_stays d token at key s w) e
+    taking_adds key (EnterBox sub) w e = beside _ w (entering_stays d token at key s sub w) e
 
     repeating_adds : (o : Option (Peer × List ℕ)) (w : World) → AddsSeats d start w → Adds d start (repeating at o w)
     repeating_adds None w e = alone w e
@@ -334,16 +345,18 @@ module _ (d : Directory) (token : List ℕ) (start : World) where
     acknowledging_adds None w e = alone w e
     acknowledging_adds (Some (InCall call side)) w e = signalled_adds at (signal.Ack call side s) w e
     acknowledging_adds (Some (InRoom room seat)) w e = alone _ (seated_adds at (of_room.Ack room seat s) w e)
+    acknowledging_adds (Some (InBox sub)) w e = alone w e
 
     responding_adds : (key : TKey) (whose : Whose) (w : World) → AddsSeats d start w → Adds d start (responding_to d token at key s whose w)
     responding_adds key OfCalls w e = signalled_adds at (signal.Answer key s) w e
+    responding_adds key OfBoxes w e = beside _ w (answered_stays (branch_in s.heard.vias) (status_of s.heard.start) w) e
     responding_adds key OfRooms w e = alone _ (seated_adds at (of_room.Answer key s) w e)
 
     answering_adds : (o : Option transaction.Heard) (w : World) → AddsSeats d start w → Adds d start (answering d token at s o w)
     answering_adds None w e = alone _ (unmoved _ w refl refl refl e)
     answering_adds (Some (heard.Fresh key message)) w e =
         taking_adds key (course d (is_merged key.0 (live w.acts)) (are_full (calls_in d w).entries) (holder_in d s.heard w) s.heard) w e
-    answering_adds (Some (heard.Answer key message)) w e = responding_adds key (whose_branch (invite_answered s) (calls_in d w).entries) w e
+    answering_adds (Some (heard.Answer key message)) w e = responding_adds key (whose_branch (invite_answered s) (branch_in s.heard.vias) (calls_in d w).entries (boxes_in w)) w e
     answering_adds (Some (heard.Repeat sent)) w e = repeating_adds sent w e
     answering_adds (Some (heard.Acked key)) w e = alone w e
     answering_adds (Some (heard.Cancel key invite message)) w e = cancelling_adds key invite w e
@@ -363,7 +376,8 @@ module _ (d : Directory) (token : List ℕ) (start : World) where
   met_adds at Nothing w e = alone w e
   met_adds at (Refused peer source reply) w e = alone _ (unmoved _ w refl refl refl e)
   met_adds at (Heard said) w e = told_adds at said w e
-  met_adds at (Asked request kept rows) w e = alone _ (unmoved _ w refl refl refl e)
+  met_adds at (Asked request kept rows) w e =
+      beside _ (serving d at request kept rows w) (putting_stays d token at (put_in d.names request kept) (serving d at request kept rows w)) (unmoved _ w refl refl refl e)
 
   -- what the keeper took stands behind what it took before, and nothing waits
   handing_adds : (took : Bool) (rows : List Row) (w : World) → w.waiting ≡ rows → Adds d start w → Adds d start (handing took rows w)

@@ -1,6 +1,6 @@
 -- Whoever asks for a room or for a seat offers audio.
 use Rattle.std.proofs.Common.{◌≡◌, Bool, true, false, refl, Option, Some, None, codes}
-use Rattle.std.specs.Prelude.{if◌then◌else◌, is_some, Ok, Err}
+use Rattle.std.specs.Prelude.{◌&&◌, if◌then◌else◌, is_some, Ok, Err}
 use Rattle.std.specs.declared.result.Result.{Result}
 use Rattle.mmtel_directory.specs.declared.directories.Directory.{Directory}
 use Rattle.mmtel_leg.specs.Dialogues.{request_uri}
@@ -13,8 +13,8 @@ use Rattle.mmtel_trust.specs.MaskedMessages.{public_part}
 use Rattle.mmtel_types.specs.declared.numbers.Account.{Account}
 use Rattle.mmtel_run.specs.Answers.{Answer, allowing, plainly}
 use Rattle.mmtel_run.specs.Audio.{RoomsAreForAudio, is_for_room}
-use Rattle.mmtel_run.specs.Refusals.{Course, JoinRoom, OpenRoom, Refuse, by_method, course, course_by, first_that_applies, in_dialog, invited, invited_at, invited_to, is_factory, is_register, is_room, opening, refusals, registration, registration_of, room_number, to_account, with_audio}
-use Rattle.mmtel_run.specs.Rooms.{Holder, InCall, InRoom}
+use Rattle.mmtel_run.specs.Refusals.{Course, JoinRoom, OpenRoom, Refuse, Subscribe, by_method, course, course_by, entering, first_that_applies, in_dialog, is_elsewhere, is_subscribe, invited, invited_at, invited_to, is_factory, is_register, is_room, opening, refusals, registration, registration_of, room_number, to_account, with_audio}
+use Rattle.mmtel_run.specs.Rooms.{Holder, InBox, InCall, InRoom}
 
 false_true : false ≡ true → ⊥
 false_true e = cc
@@ -56,16 +56,21 @@ module _ (d : Directory) (full : Bool) (m : HeardMessage) where
       pick Offers (is_method (codes "OPTIONS") m.start) (Refuse (allowing d 200)) _ (λ e. absurd (false_true e))
       (pick Offers (is_method (codes "REFER") m.start) (Refuse (plainly 403)) _ (λ e. absurd (false_true e))
       (pick Offers (is_method (codes "INVITE") m.start) (invited d full m) _ (at_target (uri_of (request_uri m.start)))
-      (pick Offers (is_register m) (registration d.names.accounts m) (Refuse (plainly 481)) registers (λ e. absurd (false_true e)))))
+      (pick Offers (is_register m) (registration d.names.accounts m) _ registers
+      (pick Offers (is_subscribe m) Subscribe (Refuse (plainly 481)) (λ e. absurd (false_true e)) (λ e. absurd (false_true e))))))
 
   dialog : (holder : Holder) → is_for_room (in_dialog holder) ≡ true → Offers
   dialog (InCall call side) e = absurd (false_true e)
   dialog (InRoom room seat) e = absurd (false_true e)
+  dialog (InBox sub) e = absurd (false_true e)
+
+  enters : (holder : Holder) → is_for_room (entering holder m) ≡ true → Offers
+  enters holder = pick Offers (is_subscribe m && is_elsewhere holder) (Refuse (plainly 481)) (in_dialog holder) (λ e. absurd (false_true e)) (dialog holder)
 
   by_refusal : (named : Option Holder) (o : Option Answer) → is_for_room (course_by d full named m o) ≡ true → Offers
   by_refusal named (Some answer) e = absurd (false_true e)
   by_refusal None None e = by_its_method e
-  by_refusal (Some holder) None e = dialog holder e
+  by_refusal (Some holder) None e = enters holder e
 
 pub for_audio : RoomsAreForAudio
 unfolding course

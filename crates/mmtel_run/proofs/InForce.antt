@@ -8,7 +8,7 @@ use Rattle.std.specs.declared.cmp.Ordering.{Ordering}
 use Rattle.std.specs.declared.cmp.Ordering.TheVariants.{Less, Equal, Greater}
 use Rattle.std.specs.Option.{option_map, option_to_list}
 use Rattle.std.proofs.lemmas.Bool.{cases_Bool, eqb-true, eqb-false}
-use Rattle.mmtel_answers.specs.Said.{Said}
+use Rattle.mmtel_answers.specs.Said.{Said, status_of}
 use Rattle.mmtel_directory.specs.declared.directories.Directory.{Directory}
 use Rattle.mmtel_directory.specs.declared.directories.WebDirectory.{WebDirectory}
 use Rattle.mmtel_charging.specs.declared.rows.Row.{Row}
@@ -17,7 +17,7 @@ use Rattle.mmtel_b2bua.specs.Lending.{leg_out}
 use Rattle.mmtel_b2bua.specs.Names.{party}
 use Rattle.mmtel_b2bua.specs.declared.signals.Signal.{Signal}
 use Rattle.mmtel_b2bua.specs.declared.signals.Signal.TheVariants as signal
-use Rattle.mmtel_desk.specs.Invites.{invite_answered, invite_silent}
+use Rattle.mmtel_desk.specs.Invites.{behind_cookie, branch_in, invite_answered, invite_silent}
 use Rattle.mmtel_desk.specs.declared.desks.Desk.{Desk}
 use Rattle.mmtel_focus.specs.Histories as rooms
 use Rattle.mmtel_focus.specs.Table.{access, has_no_room}
@@ -55,16 +55,17 @@ use Rattle.mmtel_in_force.specs.Texts.{Registrations, Texts, end_at, put_each, p
 use Rattle.mmtel_sheet_grammar.specs.Texts.{kept_sheet}
 use Rattle.mmtel_sheet_values.specs.View.{InForce, end_in, nothing_in_force, sheet_in}
 use Rattle.mmtel_sheet_values.specs.declared.values.Sheet.{Sheet}
-use Rattle.mmtel_web.specs.Uploads.{kept_upload, upload_in}
+use Rattle.mmtel_web.specs.Uploads.{kept_upload, put_in, upload_in}
 use Rattle.mmtel_run.specs.Calls.{are_full, arrived, asked_by, site_of}
-use Rattle.mmtel_run.specs.Deadlines.{Alarm, Deadline, OfAlarm, OfCall, OfMessage, OfSeat}
+use Rattle.mmtel_run.specs.Deadlines.{Alarm, Deadline, OfAlarm, OfBox, OfCall, OfMessage, OfSeat}
 use Rattle.mmtel_run.specs.Events.{Digest, Nothing, Refused, Heard, Asked, Happened, Notice, digest_datagram, digest_event, digest_from, digest_read, message_in, notice_of, notices, refused_by}
 use Rattle.mmtel_run.specs.InForce.{CallsAreToldWhatIsInForce, LastIsInForce, TextsAreThoseKept, last_of, last_or, text_for, upload_at, uploads_of}
 use Rattle.mmtel_run.specs.Records.{with_ends, with_records}
-use Rattle.mmtel_run.specs.Refusals.{Course, Refuse, Enter, EnterRoom, Open, OpenRoom, JoinRoom, Register, course}
-use Rattle.mmtel_run.specs.Rooms.{Holder, InCall, InRoom, OfCalls, OfRooms, Whose, account_of_side, whose_key, whose_branch, is_with, replacement_in, side_replaced}
+use Rattle.mmtel_run.specs.Refusals.{Course, Refuse, Enter, EnterRoom, Open, OpenRoom, JoinRoom, Register, Subscribe, EnterBox, course}
+use Rattle.mmtel_run.specs.Rooms.{Holder, InCall, InBox, InRoom, OfBoxes, OfCalls, OfRooms, Whose, account_of_side, whose_key, whose_branch, is_with, replacement_in, side_replaced}
 use Rattle.mmtel_run.specs.Run.{after, clock_at, due_in, fire_one, fired_if, one_more, settled}
-use Rattle.mmtel_run.specs.World.{World, acknowledging_by, adopting, adoption_of, alarmed, answering, beginning, begun, bringing, calls_in, came, cancelling, cancelling_call, comes_of, drawing, emit_one, emitted, ended_of, entering_room, finishing, fired, handing, heard_in_rooms, heard_now, hearing, holder_in, housed, joining_of, lending, lodging, met, next_tag, noticed, opening_of, repeating, replaced_by, replaced_with, replacing, responding_to, room_joined, room_opened, rooms_in, rung, seated, signalled, silenced, taken_out, taking, tokens_now, told}
+use Rattle.mmtel_run.proofs.Beside.{answered_stays, due_stays, entering_stays, putting_stays, subscribing_stays}
+use Rattle.mmtel_run.specs.World.{World, boxes_in, serving, acknowledging_by, adopting, adoption_of, alarmed, answering, beginning, begun, bringing, calls_in, came, cancelling, cancelling_call, comes_of, drawing, emit_one, emitted, ended_of, entering_room, finishing, fired, handing, heard_in_rooms, heard_now, hearing, holder_in, housed, joining_of, lending, lodging, met, next_tag, noticed, opening_of, repeating, replaced_by, replaced_with, replacing, responding_to, room_joined, room_opened, rooms_in, rung, seated, signalled, silenced, taken_out, taking, tokens_now, told}
 
 -- ---- the last one counts
 
@@ -147,21 +148,24 @@ module _ (d : Directory) (token : List ℕ) where
 
   silenced_texts : (at : ℕ) (branch method : List ℕ) (whose : Whose) (w : World) → (silenced d token at branch method whose w).texts ≡ w.texts
   silenced_texts at branch method OfCalls w = signalled_texts at (signal.Silent branch method) w
+  silenced_texts at branch method OfBoxes w = (answered_stays (behind_cookie branch) 408 w).texts
   silenced_texts at branch method OfRooms w = seated_texts at (of_room.Silent branch method) w
 
   ended_texts : (at : ℕ) (key : TKey) (whose : Whose) (w : World) → (ended_of d token at key whose w).texts ≡ w.texts
   ended_texts at key OfCalls w = signalled_texts at (signal.Over key) w
+  ended_texts at key OfBoxes w = refl
   ended_texts at key OfRooms w = seated_texts at (of_room.Over key) w
 
   rung_texts : (x : Due) (w : World) → (rung d token x w).texts ≡ w.texts
   rung_texts (due.Again peer at text) w = refl
-  rung_texts (due.Silent key branch method at) w = silenced_texts at branch method (whose_branch (invite_silent branch method) (calls_in d w).entries) w
+  rung_texts (due.Silent key branch method at) w = silenced_texts at branch method (whose_branch (invite_silent branch method) (behind_cookie branch) (calls_in d w).entries (boxes_in w)) w
   rung_texts (due.Over key at) w = ended_texts at key (whose_key key (calls_in d w).entries) w
   rung_texts due.Nothing w = refl
 
   alarmed_texts : (at : ℕ) (x : Alarm) (w : World) → (alarmed d token at x w).texts ≡ w.texts
   alarmed_texts at (OfCall call what) w = signalled_texts at (signal.Due call what) w
   alarmed_texts at (OfSeat room seat what) w = seated_texts at (of_room.Due room seat what) w
+  alarmed_texts at (OfBox sub set) w = (due_stays d token at sub set w).texts
 
   fired_texts : (now : ℕ) (x : Deadline) (w : World) → (fired d token now x w).texts ≡ w.texts
   fired_texts now OfMessage w = rung_texts (says_due (next_due now (live (begun w).acts))) (record (begun w) { acts = fires (begun w).acts (next_due now (live (begun w).acts)) })
@@ -220,6 +224,8 @@ module _ (d : Directory) (token : List ℕ) (at : ℕ) (s : Said) where
   taking_texts key OpenRoom w = opened_texts key (next_tag token w) (has_no_room (rooms_in d w).live) (drawing 1 w)
   taking_texts key (JoinRoom room) w = joined_texts key room (next_tag token w) (access room.0 (rooms_in d w).live) (drawing 1 w)
   taking_texts key (Register account seconds) w = refl
+  taking_texts key Subscribe w = (subscribing_stays d token at key s w).texts
+  taking_texts key (EnterBox sub) w = (entering_stays d token at key s sub w).texts
 
   repeating_texts : (o : Option (Peer × List ℕ)) (w : World) → (repeating at o w).texts ≡ w.texts
   repeating_texts None w = refl
@@ -237,15 +243,17 @@ module _ (d : Directory) (token : List ℕ) (at : ℕ) (s : Said) where
   acknowledging_texts None w = refl
   acknowledging_texts (Some (InCall call side)) w = signalled_texts d token at (signal.Ack call side s) w
   acknowledging_texts (Some (InRoom room seat)) w = seated_texts d token at (of_room.Ack room seat s) w
+  acknowledging_texts (Some (InBox sub)) w = refl
 
   responding_texts : (key : TKey) (whose : Whose) (w : World) → (responding_to d token at key s whose w).texts ≡ w.texts
   responding_texts key OfCalls w = signalled_texts d token at (signal.Answer key s) w
+  responding_texts key OfBoxes w = (answered_stays (branch_in s.heard.vias) (status_of s.heard.start) w).texts
   responding_texts key OfRooms w = seated_texts d token at (of_room.Answer key s) w
 
   answering_texts : (o : Option transaction.Heard) (w : World) → (answering d token at s o w).texts ≡ w.texts
   answering_texts None w = refl
   answering_texts (Some (heard.Fresh key message)) w = taking_texts key (course d (is_merged key.0 (live w.acts)) (are_full (calls_in d w).entries) (holder_in d s.heard w) s.heard) w
-  answering_texts (Some (heard.Answer key message)) w = responding_texts key (whose_branch (invite_answered s) (calls_in d w).entries) w
+  answering_texts (Some (heard.Answer key message)) w = responding_texts key (whose_branch (invite_answered s) (branch_in s.heard.vias) (calls_in d w).entries (boxes_in w)) w
   answering_texts (Some (heard.Repeat sent)) w = repeating_texts sent w
   answering_texts (Some (heard.Acked key)) w = refl
   answering_texts (Some (heard.Cancel key invite message)) w = cancelling_texts key invite w
@@ -273,7 +281,7 @@ module _ (d : Directory) (token : List ℕ) where
   met_texts at Nothing w = refl
   met_texts at (Refused peer source reply) w = refl
   met_texts at (Heard said) w = told_texts d token at said w
-  met_texts at (Asked request kept rows) w = refl
+  met_texts at (Asked request kept rows) w = (putting_stays d token at (put_in d.names request kept) (serving d at request kept rows w)).texts
 
   came_texts : (at : ℕ) (x : Digest) (took : Bool) (w : World) → (came d token at x took w).texts ≡ put_kept (kept_in d.names x) w.texts
   came_texts at x took w =

@@ -31,8 +31,8 @@ use Rattle.mmtel_run.specs.Answers.{Answer, response_to}
 use Rattle.mmtel_run.specs.Events.{message_in}
 use Rattle.mmtel_run.specs.Calls.{named_by}
 use Rattle.mmtel_run.specs.Mask.{by_words, is_hiding, mask_said}
-use Rattle.mmtel_run.specs.Refusals.{Course, JoinRoom, OpenRoom, Refuse, by_method, course, course_by, course_of, first_that_applies, invited, invited_at, invited_to, is_factory, is_register, is_room, opening, refusals, registrant, registration, registration_of, room_number, to_account, with_audio}
-use Rattle.mmtel_run.specs.Rooms.{Holder, seat_by}
+use Rattle.mmtel_run.specs.Refusals.{Course, JoinRoom, OpenRoom, Refuse, Subscribe, by_method, course, course_by, course_of, first_that_applies, invited, invited_at, invited_to, is_factory, is_register, is_room, is_subscribe, opening, refusals, registrant, registration, registration_of, room_number, to_account, with_audio}
+use Rattle.mmtel_run.specs.Rooms.{Holder, box_by, seat_by}
 use Rattle.mmtel_run.specs.Answers.{allowing, plainly}
 
 -- the laws of the lower layers that this rests on
@@ -68,15 +68,19 @@ module _ (d e : Directory) (equal : EqualButForAccounts d e) where
   invited_same full m = read_same full m (uri_of (request_uri m.start))
 
   -- the account that a REGISTER names, if it is asked for
-  registered_by : (b c : Bool) (o p : Option Account) (m : HeardMessage) → (if b && c then o else None) ≡ (if b && c then p else None)
-      → (if c then (if b then registration_of o m else Refuse (plainly 403)) else Refuse (plainly 481)) ≡ (if c then (if b then registration_of p m else Refuse (plainly 403)) else Refuse (plainly 481))
-  registered_by b false o p m same = refl
-  registered_by false true o p m same = refl
-  registered_by true true o p m same = ap (λ (x : Option Account). registration_of x m) same
+  registered_by : (b c : Bool) (o p : Option Account) (m : HeardMessage) (other : Course) → (if b && c then o else None) ≡ (if b && c then p else None)
+      → (if c then (if b then registration_of o m else Refuse (plainly 403)) else other) ≡ (if c then (if b then registration_of p m else Refuse (plainly 403)) else other)
+  registered_by b false o p m other same = refl
+  registered_by false true o p m other same = refl
+  registered_by true true o p m other same = ap (λ (x : Option Account). registration_of x m) same
+
+  -- by no other method
+  abbrev subscribed : HeardMessage → Course
+  subscribed m = if is_subscribe m then Subscribe else Refuse (plainly 481)
 
   registered_same : (m : HeardMessage) → registrant d.names.accounts m ≡ registrant e.names.accounts m
-      → (if is_register m then registration d.names.accounts m else Refuse (plainly 481)) ≡ (if is_register m then registration e.names.accounts m else Refuse (plainly 481))
-  registered_same m same = registered_by m.trusted (is_register m) (to_account d.names.accounts m) (to_account e.names.accounts m) m same
+      → (if is_register m then registration d.names.accounts m else subscribed m) ≡ (if is_register m then registration e.names.accounts m else subscribed m)
+  registered_same m same = registered_by m.trusted (is_register m) (to_account d.names.accounts m) (to_account e.names.accounts m) m (subscribed m) same
 
   -- both know the same methods, support the same options and so refuse alike
   allowing_same : (code : ℕ) → allowing d code ≡ allowing e code
@@ -93,13 +97,13 @@ module _ (d e : Directory) (equal : EqualButForAccounts d e) where
       else if is_method (codes "REFER") m.start then Refuse (plainly 403)
       else if is_method (codes "INVITE") m.start then invited d full m
       else if is_register m then registration d.names.accounts m
-      else Refuse (plainly 481)) (allowing_same 200)
+      else subscribed m) (allowing_same 200)
       ∙ (ap (λ (c : Course).
       if is_method (codes "OPTIONS") m.start then Refuse (allowing e 200)
       else if is_method (codes "REFER") m.start then Refuse (plainly 403)
       else if is_method (codes "INVITE") m.start then c
       else if is_register m then registration d.names.accounts m
-      else Refuse (plainly 481)) (invited_same full m)
+      else subscribed m) (invited_same full m)
       ∙ ap (λ (c : Course).
       if is_method (codes "OPTIONS") m.start then Refuse (allowing e 200)
       else if is_method (codes "REFER") m.start then Refuse (plainly 403)
@@ -130,6 +134,7 @@ module _ (d e : Directory) (equal : EqualButForAccounts d e) where
     to_tag = refl;
     named = λ entries. refl;
     seated = λ live. refl;
+    subscribed = λ table. refl;
     decided = λ merged full named. decided_alike merged full named m m refl register;
     answer_head = λ tag answer. ap (λ (s : Addr). head_of (response_to s tag (said_by peer source m) answer)) equal.sip;
     answer = λ strange tag answer. ap (λ (s : Addr). response_to s tag (said_by peer source m) answer) equal.sip;
@@ -186,6 +191,7 @@ module _ (d e : Directory) (equal : EqualButForAccounts d e) where
       to_tag = ap (λ (x : HeardMessage). x.to_tag) alike.public;
       named = λ entries. ap (λ (x : HeardMessage). named_by x entries) alike.public;
       seated = λ live. ap (λ (x : HeardMessage). seat_by x live) alike.public;
+      subscribed = λ table. ap (λ (x : HeardMessage). box_by x table) alike.public;
       decided = λ merged full named. decided_alike merged full named m n alike.public register;
       answer_head = λ tag answer.
           ap (λ (s : Addr). head_of (response_to s tag (said_by peer source m) answer)) equal.sip

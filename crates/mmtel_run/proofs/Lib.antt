@@ -1,9 +1,13 @@
 mod Accessing
+mod Beside
+pub mod BoxSteps
+pub mod BoxWords
 mod Drawing
 mod DrawingInRooms
 mod Earlier
 mod Emptying
 mod Enough
+mod Fewer
 mod Filed
 mod ForAudio
 mod InForce

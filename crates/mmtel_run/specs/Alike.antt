@@ -4,6 +4,7 @@ use Rattle.mmtel_answers.specs.Said.{Said}
 use Rattle.mmtel_b2bua.specs.declared.entries.Entry.{Entry}
 use Rattle.mmtel_directory.specs.declared.directories.Directory.{Directory}
 use Rattle.mmtel_focus.specs.Rooms.{Room}
+use Rattle.mmtel_mwi.specs.Boxes.{Table}
 use Rattle.mmtel_transaction.specs.Heads.{head_of}
 use Rattle.mmtel_trust.specs.Digest.{HeardMessage}
 use Rattle.mmtel_trust.specs.Peers.{is_trusted}
@@ -14,7 +15,7 @@ use Rattle.mmtel_run.specs.Calls.{named_by}
 use Rattle.mmtel_run.specs.Events.{message_in}
 use Rattle.mmtel_run.specs.Mask.{mask_said}
 use Rattle.mmtel_run.specs.Refusals.{course, registrant}
-use Rattle.mmtel_run.specs.Rooms.{Holder, seat_by}
+use Rattle.mmtel_run.specs.Rooms.{Holder, box_by, seat_by}
 
 -- ---- configurations
 
@@ -47,6 +48,7 @@ pub record Kin (one other : Directory) (peer : Peer) (source : Addr) (message se
   -- whose dialog they name, and what is done with them
   pub named : (entries : List Entry) → named_by message entries ≡ named_by second entries
   pub seated : (live : List Room) → seat_by message live ≡ seat_by second live
+  pub subscribed : (table : Table) → box_by message table ≡ box_by second table
   pub decided : (merged full : Bool) (named : Option Holder) → course one merged full named message ≡ course other merged full named second
   -- the answers to them
   pub answer_head : (tag : List ℕ) (answer : Answer) →

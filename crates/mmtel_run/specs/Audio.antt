@@ -3,7 +3,7 @@ use Rattle.std.specs.Prelude.{◌≡◌, Bool, true, false, Option}
 use Rattle.mmtel_directory.specs.declared.directories.Directory.{Directory}
 use Rattle.mmtel_sdp.specs.Offers.{offers_audio}
 use Rattle.mmtel_trust.specs.Digest.{HeardMessage}
-use Rattle.mmtel_run.specs.Refusals.{Course, Refuse, Enter, EnterRoom, Open, OpenRoom, JoinRoom, Register, course}
+use Rattle.mmtel_run.specs.Refusals.{Course, Refuse, Enter, EnterRoom, Open, OpenRoom, JoinRoom, Register, Subscribe, EnterBox, course}
 use Rattle.mmtel_run.specs.Rooms.{Holder}
 
 -- it asks for a room, or for a seat
@@ -15,6 +15,8 @@ is_for_room Open = false
 is_for_room OpenRoom = true
 is_for_room (JoinRoom room) = true
 is_for_room (Register account seconds) = false
+is_for_room Subscribe = false
+is_for_room (EnterBox sub) = false
 
 abbrev pub RoomsAreForAudio : Type 0
 RoomsAreForAudio = (directory : Directory) (merged full : Bool) (named : Option Holder) (message : HeardMessage) →

@@ -1,4 +1,5 @@
--- The deadlines of calls and of seats of rooms, and which of all deadlines comes first (RFC 3261 §17; §13.3.1.4, TS 24.604 §4.8, RFC 3515 §2.4.5).
+-- The deadlines of calls, of seats of rooms and of subscriptions, and which of all deadlines comes first (RFC 3261 §17; §13.3.1.4, TS 24.604 §4.8, RFC 3515 §2.4.5, RFC
+-- 6665 §4.2.2).
 use Rattle.std.specs.Prelude.{ℕ, ◌==◌, ◌&&◌, ◌||◌, nat_lt, nat_le, Bool, true, false, if◌then◌else◌, List, [], ◌∷◌, Option, Some, None}
 use Rattle.mmtel_transaction.specs.Answers.{Next}
 use Rattle.mmtel_transaction.specs.Deadlines.{step_due}
@@ -8,13 +9,16 @@ use Rattle.mmtel_transaction.specs.declared.words.RoomWord.{RoomWord}
 use Rattle.mmtel_transaction.specs.declared.words.RoomWord.TheVariants as of_seat
 use Rattle.mmtel_types.specs.declared.numbers.CallNo.{CallNo}
 use Rattle.mmtel_types.specs.declared.numbers.RoomNo.{RoomNo}
+use Rattle.mmtel_types.specs.declared.numbers.SubNo.{SubNo}
 
--- ---- deadlines of calls and seats
+-- ---- deadlines of calls, seats and subscriptions
 
--- what is due, of a call or of a seat of a room
+-- what is due, of a call, of a seat of a room, or of a subscription to a mailbox
 pub data Alarm : Type 0 where
   OfCall : (call : CallNo) → (what : DueWord) → Alarm
   OfSeat : (room : RoomNo) → (seat : ℕ) → (what : RoomWord) → Alarm
+  -- that the time of a subscription is over, which this SUBSCRIBE of it set
+  OfBox : (sub : SubNo) → (set : ℕ) → Alarm
 
 -- it, its moment, and the step in which it was armed
 pub record Armed : Type 0 where
@@ -22,7 +26,7 @@ pub record Armed : Type 0 where
   pub at : ℕ
   pub step : ℕ
 
--- the order of those that were armed in one step for one moment: they are of one call, or of one seat
+-- the order of those that were armed in one step for one moment: they are of one call, of one seat, or of one subscription
 abbrev pub call_rank : DueWord → ℕ
 call_rank (due.NoReply attempt) = 0
 call_rank (due.NoPrack answer) = 1
@@ -37,6 +41,7 @@ seat_rank (of_seat.NoAck success) = 3
 abbrev pub rank : Alarm → ℕ
 rank (OfCall call what) = call_rank what
 rank (OfSeat room seat what) = seat_rank what
+rank (OfBox sub set) = 0
 
 -- by moment, then by the step that armed them, then by that order
 abbrev pub is_sooner : Armed → Armed → Bool
@@ -68,12 +73,12 @@ first_armed now (armed ∷ others) = chosen (nat_le armed.at now) armed others (
 
 -- ---- all deadlines
 
--- the first one: of a message, or of a call or a seat, with the other ones of calls and seats
+-- the first one: of a message, or of a call, a seat or a subscription, with the other ones of these
 pub data Deadline : Type 0 where
   OfMessage : Deadline
   OfAlarm : (armed : Armed) → (others : List Armed) → Deadline
 
--- that of a message comes before that of a call or a seat, unless its moment is later, or of one moment its step
+-- that of a message comes before any other, unless its moment is later, or of one moment its step
 abbrev pub comes_before : Next → Armed → Bool
 comes_before next armed = nat_lt next.at armed.at || (next.at == armed.at && nat_le (step_due next.entry) armed.step)
 

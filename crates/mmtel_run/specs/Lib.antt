@@ -3,6 +3,8 @@
 pub mod Headline
 -- What it hears, what was done in it, and what each deed adds:
 pub mod Events
+pub mod Ground
+pub mod Subscriptions
 pub mod World
 -- Which deadline comes first, and to which call or room a message belongs:
 pub mod Deadlines

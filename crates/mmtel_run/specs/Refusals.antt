@@ -31,9 +31,10 @@ use Rattle.mmtel_types.specs.declared.addrs.Addr.{Addr}
 use Rattle.mmtel_types.specs.declared.numbers.Account.{Account}
 use Rattle.mmtel_types.specs.declared.numbers.CallNo.{CallNo}
 use Rattle.mmtel_types.specs.declared.numbers.RoomNo.{RoomNo}
+use Rattle.mmtel_types.specs.declared.numbers.SubNo.{SubNo}
 use Rattle.mmtel_types.specs.declared.sides.Side.{Side}
 use Rattle.mmtel_run.specs.Answers.{Answer, allowing, plainly, too_small, unsupported, without_extension}
-use Rattle.mmtel_run.specs.Rooms.{Holder, InCall, InRoom}
+use Rattle.mmtel_run.specs.Rooms.{Holder, InBox, InCall, InRoom}
 
 -- ---- what may be done
 
@@ -52,6 +53,10 @@ pub data Course : Type 0 where
   JoinRoom : (room : RoomNo) → Course
   -- it registers an account for so many seconds
   Register : (account : Account) → (seconds : ℕ) → Course
+  -- it subscribes to a mailbox (RFC 6665 §4.2.1)
+  Subscribe : Course
+  -- it is heard in the dialog of this subscription
+  EnterBox : (sub : SubNo) → Course
 
 -- ---- the refusals
 
@@ -109,7 +114,7 @@ session_refusals directory message =
     (is_timed directory message.start && is_short_session (check message.session), too_small) ∷ []
 
 -- each refusal with its condition, in their order. `merged` says that another live transaction has its From tag, Call-ID and CSeq (§8.2.2.2), `named` that its dialog is
--- that of a call or of a seat (§12.2.2)
+-- that of a call, of a seat or of a subscription (§12.2.2)
 abbrev pub refusals : Directory → (merged named : Bool) → HeardMessage → List (Bool × Answer)
 refusals directory merged named message =
     (not (is_known_method directory message.start), allowing directory 405) ∷
@@ -200,6 +205,11 @@ registration accounts message = if message.trusted then registration_of (to_acco
 abbrev pub registrant : List AccountIdentity → HeardMessage → Option Account
 registrant accounts message = if message.trusted && is_register message then to_account accounts message else None
 
+-- ---- SUBSCRIBE
+
+abbrev pub is_subscribe : HeardMessage → Bool
+is_subscribe message = is_method (codes "SUBSCRIBE") message.start
+
 -- ---- what is not refused
 
 -- by its method: OPTIONS is answered, REFER, BYE and what else there may be are of a dialog
@@ -209,17 +219,29 @@ by_method directory full message =
     else if is_method (codes "REFER") message.start then Refuse (plainly 403)
     else if is_method (codes "INVITE") message.start then invited directory full message
     else if is_register message then registration directory.names.accounts message
+    else if is_subscribe message then Subscribe
     else Refuse (plainly 481)
 
 -- in the dialog of whoever has it
 abbrev pub in_dialog : Holder → Course
 in_dialog (InCall call side) = Enter call side
 in_dialog (InRoom room seat) = EnterRoom room seat
+in_dialog (InBox sub) = EnterBox sub
+
+-- it is of no subscription
+abbrev pub is_elsewhere : Holder → Bool
+is_elsewhere (InCall call side) = true
+is_elsewhere (InRoom room seat) = true
+is_elsewhere (InBox sub) = false
+
+-- a SUBSCRIBE in the dialog of a call or of a seat is of no subscription: neither hears it (RFC 6665 §4.2.1.2)
+abbrev pub entering : Holder → HeardMessage → Course
+entering holder message = if is_subscribe message && is_elsewhere holder then Refuse (plainly 481) else in_dialog holder
 
 -- in its dialog, where it has one
 abbrev pub course_in : Directory → (full : Bool) → (named : Option Holder) → HeardMessage → Course
 course_in directory full None message = by_method directory full message
-course_in directory full (Some holder) message = in_dialog holder
+course_in directory full (Some holder) message = entering holder message
 
 abbrev pub course_by : Directory → (full : Bool) → (named : Option Holder) → HeardMessage → Option Answer → Course
 course_by directory full named message None = course_in directory full named message

@@ -20,6 +20,7 @@ use Rattle.mmtel_focus.specs.declared.referrals.Replaces.{Replaces}
 use Rattle.mmtel_leg.specs.Dialogues.{opened}
 use Rattle.mmtel_leg.specs.Legs.{Leg}
 use Rattle.mmtel_message.specs.Faults.{is_method}
+use Rattle.mmtel_mwi.specs.Boxes as mailboxes
 use Rattle.mmtel_transaction.specs.declared.words.Emit.{Emit}
 use Rattle.mmtel_transaction.specs.declared.words.Emit.TheVariants as emit
 use Rattle.mmtel_transaction.specs.declared.words.TKey.{TKey}
@@ -28,6 +29,7 @@ use Rattle.mmtel_types.specs.declared.numbers.Account.{Account}
 use Rattle.mmtel_types.specs.declared.numbers.CallNo.{CallNo}
 use Rattle.mmtel_types.specs.declared.numbers.Peer.{Peer}
 use Rattle.mmtel_types.specs.declared.numbers.RoomNo.{RoomNo}
+use Rattle.mmtel_types.specs.declared.numbers.SubNo.{SubNo}
 use Rattle.mmtel_types.specs.declared.sides.Side.{Side}
 use Rattle.mmtel_run.specs.Answers.{further_methods}
 use Rattle.mmtel_run.specs.Calls.{DialogName, dialog_name, find_dialog, name_by, named_by}
@@ -46,17 +48,22 @@ rooms_site directory = record {
 abbrev pub rooms_after : Directory → List Deed → Table
 rooms_after directory deeds = table_after (rooms_site directory) deeds
 
--- ---- whose a message is. Each tag, Call-ID and branch of the server's is drawn once, and a leg is in a call or in a room: so no dialog, no branch and no client
--- transaction is of a call and of a room both, and it decides nothing that calls are asked first
+-- ---- whose a message is. Each tag, Call-ID and branch of the server's is drawn once, and a leg is in a call, a room or a mailbox: so no dialog, no branch and no client
+-- transaction is of two of them, and it decides nothing that calls are asked first and mailboxes last
 
--- who has a dialog: a side of a call, or a seat of a room
+-- who has a dialog: a side of a call, a seat of a room, or who subscribes to a mailbox
 pub data Holder : Type 0 where
   InCall : (call : CallNo) → (side : Side) → Holder
   InRoom : (room : RoomNo) → (seat : ℕ) → Holder
+  InBox : (sub : SubNo) → Holder
 
-abbrev pub in_room : Option (RoomNo × ℕ) → Option Holder
-in_room None = None
-in_room (Some x) = Some (InRoom x.0 x.1)
+abbrev pub in_box : Option SubNo → Option Holder
+in_box None = None
+in_box (Some sub) = Some (InBox sub)
+
+abbrev pub in_room_or : Option Holder → Option (RoomNo × ℕ) → Option Holder
+in_room_or other None = other
+in_room_or other (Some x) = Some (InRoom x.0 x.1)
 
 abbrev pub in_call_or : Option Holder → Option (CallNo × Side) → Option Holder
 in_call_or other None = other
@@ -70,9 +77,17 @@ find_seat (Some name) live = found name.call_id name.local name.remote live
 abbrev pub seat_by : HeardMessage → List Room → Option (RoomNo × ℕ)
 seat_by message live = find_seat (dialog_name message) live
 
+-- the subscription that lives and whose dialog has this name
+abbrev pub find_box : Option DialogName → mailboxes.Table → Option SubNo
+find_box None table = None
+find_box (Some name) table = mailboxes.found name.call_id name.local name.remote table
+
+abbrev pub box_by : HeardMessage → mailboxes.Table → Option SubNo
+box_by message table = find_box (dialog_name message) table
+
 -- whose dialog a message names
-abbrev pub holder_of : HeardMessage → List Entry → List Room → Option Holder
-holder_of message entries live = in_call_or (in_room (seat_by message live)) (named_by message entries)
+abbrev pub holder_of : HeardMessage → List Entry → List Room → mailboxes.Table → Option Holder
+holder_of message entries live table = in_call_or (in_room_or (in_box (box_by message table)) (seat_by message live)) (named_by message entries)
 
 -- an INVITE of some call has this branch
 abbrev pub is_of_calls : (branch : Option (List ℕ)) → List Entry → Bool
@@ -82,9 +97,15 @@ is_of_calls branch entries = is_some (position (sent_it branch) entries)
 abbrev pub is_key_of_calls : TKey → List Entry → Bool
 is_key_of_calls key entries = is_some (position (heard_by key) entries)
 
--- whose a request is that the server sent: of the calls, or of the rooms
+-- a NOTIFY of some subscription with this branch has no final answer
+abbrev pub is_of_boxes : (branch : Option (List ℕ)) → mailboxes.Table → Bool
+is_of_boxes None table = false
+is_of_boxes (Some branch) table = is_some (mailboxes.asked_by branch table)
+
+-- whose a request is that the server sent: of the calls, of the mailboxes, or of the rooms
 pub data Whose : Type 0 where
   OfCalls : Whose
+  OfBoxes : Whose
   OfRooms : Whose
 
 -- of the rooms is what is of no call
@@ -92,9 +113,15 @@ abbrev pub calls_or_rooms : (is_of_calls : Bool) → Whose
 calls_or_rooms true = OfCalls
 calls_or_rooms false = OfRooms
 
--- by its branch
-abbrev pub whose_branch : (branch : Option (List ℕ)) → List Entry → Whose
-whose_branch branch entries = calls_or_rooms (is_of_calls branch entries)
+-- nor of a mailbox
+abbrev pub whose_of : (is_of_calls is_of_boxes : Bool) → Whose
+whose_of true is_of_boxes = OfCalls
+whose_of false true = OfBoxes
+whose_of false false = OfRooms
+
+-- by its branch, of an INVITE that a call may have sent, and of any request
+abbrev pub whose_branch : (invite branch : Option (List ℕ)) → List Entry → mailboxes.Table → Whose
+whose_branch invite branch entries table = whose_of (is_of_calls invite entries) (is_of_boxes branch table)
 
 -- by the client transaction in which it was answered
 abbrev pub whose_key : TKey → List Entry → Whose

@@ -1,23 +1,20 @@
--- What was done in a run so far, layer by layer, and what each deed adds. Of a layer stands the list of what was done on it, never a table: what was opened, is live, is
--- due or waits is a function of that list. Of the records stands the text of each account, by the last one that was kept (`specs/InForce`).
-use Rattle.std.specs.Prelude.{ℕ, ◌+◌, ◌-◌, Bool, true, false, List, [], ◌∷◌, ◌++◌, length, Option, Some, None, Result, Ok, Err, if◌then◌else◌}
+-- What was done in a run so far, and what each deed adds to it: what is done on the calls, the rooms and the mailboxes, with deadlines, messages, web requests and rows.
+use Rattle.std.specs.Prelude.{ℕ, ◌+◌, Bool, true, false, List, [], ◌∷◌, ◌++◌, length, Option, Some, None, Result, Ok, Err, if◌then◌else◌}
 use Rattle.mmtel_answers.specs.Said.{Said}
 use Rattle.mmtel_b2bua.specs.Histories as histories
 use Rattle.mmtel_b2bua.specs.Histories.{Deed, Drops, Finishes, Hears, Releases, Restores, finished_by, hears_after}
 use Rattle.mmtel_b2bua.specs.Lending.{leg_out}
 use Rattle.mmtel_b2bua.specs.Names.{party}
-use Rattle.mmtel_b2bua.specs.Tables.{Table}
 use Rattle.mmtel_b2bua.specs.declared.entries.Entry.{Entry}
 use Rattle.mmtel_b2bua.specs.declared.signals.Signal.{Signal}
 use Rattle.mmtel_b2bua.specs.declared.signals.Signal.TheVariants as signal
-use Rattle.mmtel_desk.specs.Invites.{invite_answered, invite_silent}
+use Rattle.mmtel_desk.specs.Invites.{behind_cookie, branch_in, invite_answered, invite_silent}
 use Rattle.mmtel_charging.specs.declared.rows.Row.{Row}
 use Rattle.mmtel_desk.specs.declared.desks.Desk.{Desk}
 use Rattle.mmtel_directory.specs.declared.directories.Directory.{Directory}
 use Rattle.mmtel_focus.specs.Histories as rooms
 use Rattle.mmtel_focus.specs.Histories.{brought_after, coming}
 use Rattle.mmtel_focus.specs.Rooms.{Room}
-use Rattle.mmtel_focus.specs.Table as tables
 use Rattle.mmtel_focus.specs.Table.{access, has_no_room}
 use Rattle.mmtel_focus.specs.declared.faults.RoomFault.{RoomFault}
 use Rattle.mmtel_focus.specs.declared.referrals.Replaces.{Replaces}
@@ -26,145 +23,39 @@ use Rattle.mmtel_focus.specs.declared.signals.RoomSignal.TheVariants as of_room
 use Rattle.mmtel_http.specs.Requests.{Request}
 use Rattle.mmtel_leg.specs.declared.legs.Released.{Released}
 use Rattle.mmtel_leg.specs.declared.legs.Released.TheVariants as released
-use Rattle.mmtel_message.specs.Message.{Message}
-use Rattle.mmtel_message.specs.Texts.{message_text}
-use Rattle.mmtel_message.specs.declared.messages.Start.{Start}
-use Rattle.mmtel_outside.specs.declared.events.Offer.{Offer}
 use Rattle.mmtel_outside.specs.declared.events.Offer.TheVariants as offer
-use Rattle.mmtel_scan.specs.Numbers.{token_text}
-use Rattle.mmtel_sheet_values.specs.View.{is_registered}
-use Rattle.mmtel_sheet_values.specs.declared.values.Sheet.{Sheet}
-use Rattle.mmtel_transaction.specs.Answers.{next_due, hears, hear_says, fires, says_due, peer_of, is_merged}
-use Rattle.mmtel_transaction.specs.Calls.{Done, DidBegin, DidAsk, DidReply, DidAck, DidSettle, live}
+use Rattle.mmtel_transaction.specs.Answers.{next_due, hears, hear_says, fires, says_due, is_merged}
+use Rattle.mmtel_transaction.specs.Calls.{DidBegin, live}
 use Rattle.mmtel_transaction.specs.Tokens.{Drawn}
 use Rattle.mmtel_transaction.specs.declared.words.Due.{Due}
 use Rattle.mmtel_transaction.specs.declared.words.Due.TheVariants as due
-use Rattle.mmtel_transaction.specs.declared.words.Emit.{Emit}
 use Rattle.mmtel_transaction.specs.declared.words.Emit.TheVariants as emit
 use Rattle.mmtel_transaction.specs.declared.words.Heard as transaction
 use Rattle.mmtel_transaction.specs.declared.words.Heard.TheVariants as heard
 use Rattle.mmtel_transaction.specs.declared.words.TKey.{TKey}
-use Rattle.mmtel_trust.specs.Digest.{HeardMessage, caller_account}
+use Rattle.mmtel_trust.specs.Digest.{caller_account}
 use Rattle.mmtel_types.specs.Sides.{other_of}
-use Rattle.mmtel_types.specs.declared.addrs.Addr.{Addr}
 use Rattle.mmtel_types.specs.declared.numbers.Account.{Account}
 use Rattle.mmtel_types.specs.declared.numbers.CallNo.{CallNo}
 use Rattle.mmtel_types.specs.declared.numbers.Peer.{Peer}
 use Rattle.mmtel_types.specs.declared.numbers.RoomNo.{RoomNo}
 use Rattle.mmtel_types.specs.declared.sides.Side.{Side}
 use Rattle.mmtel_web.specs.Answers.{Kept, web_reply}
-use Rattle.mmtel_in_force.specs.Texts.{Texts, end_at, put_each, record_of, put_kept}
-use Rattle.mmtel_web.specs.Uploads.{kept_upload, upload_in}
-use Rattle.mmtel_run.specs.Answers.{Answer, completed_reply, plainly, response_to, tag_for, tags_due, to_tag_in}
-use Rattle.mmtel_run.specs.Calls.{are_full, arrived, asked_by, calls_after, site_of}
-use Rattle.mmtel_run.specs.Deadlines.{Alarm, Armed, Deadline, OfAlarm, OfCall, OfMessage, OfSeat}
+use Rattle.mmtel_in_force.specs.Texts.{put_kept}
+use Rattle.mmtel_web.specs.Uploads.{kept_upload, put_in, upload_in}
+use Rattle.mmtel_run.specs.Answers.{plainly, response_to}
+use Rattle.mmtel_run.specs.Calls.{are_full, arrived, asked_by, site_of}
+use Rattle.mmtel_run.specs.Deadlines.{Alarm, Armed, Deadline, OfAlarm, OfBox, OfCall, OfMessage, OfSeat}
 use Rattle.mmtel_run.specs.Events.{Digest, Nothing, Refused, Heard, Asked, message_in}
 use Rattle.mmtel_run.specs.Records.{in_force, until_of}
-use Rattle.mmtel_run.specs.Refusals.{Course, Refuse, Enter, EnterRoom, Open, OpenRoom, JoinRoom, Register, course}
-use Rattle.mmtel_run.specs.Rooms.{Holder, InCall, InRoom, OfCalls, OfRooms, Whose, account_of_side, holder_of, is_with, leg_by, replacement_in, rooms_after}
+use Rattle.mmtel_run.specs.Refusals.{Course, Refuse, Enter, EnterRoom, Open, OpenRoom, JoinRoom, Register, Subscribe, EnterBox, course}
+use Rattle.mmtel_run.specs.Rooms.{Holder, InCall, InRoom, InBox, OfBoxes, OfCalls, OfRooms, Whose, account_of_side, holder_of, is_with, leg_by, replacement_in}
 use Rattle.mmtel_run.specs.Rooms.{rooms_site, side_replaced, status_by, whose_branch, whose_key}
-
--- a list for each layer
-pub record World : Type 0 where
-  -- the greatest moment so far
-  pub clock : ℕ
-  -- how many events came and deadlines fired
-  pub steps : ℕ
-  -- the calls on the transactions, the newest first
-  pub acts : List Done
-  -- how many numbers were drawn
-  pub drawn : ℕ
-  -- what was done on the calls, and on the rooms, the newest first
-  pub deeds : List Deed
-  pub rooms : List rooms.Deed
-  -- the deadlines of calls and of seats that did not fire, in the order in which they were armed
-  pub armed : List Armed
-  -- the text that was loaded or kept last for each account that has one
-  pub texts : Texts
-  -- the accounts that were registered, each until a moment, the newest registration first
-  pub registrations : List (Account × ℕ)
-  -- the charging rows that were closed and that the keeper did not take, in order, and those that it took
-  pub waiting : List Row
-  pub filed : List Row
-  -- all that was offered, in order
-  pub offers : List Offer
-
--- nothing was done yet; these texts were loaded
-abbrev pub beginning : (loaded : Texts) → World
-beginning loaded = record {
-  clock = 0;
-  steps = 0;
-  acts = [];
-  drawn = 0;
-  deeds = [];
-  rooms = [];
-  armed = [];
-  texts = put_each loaded [];
-  registrations = [];
-  waiting = [];
-  filed = [];
-  offers = [];
-}
-
--- ---- what is in force
-
--- the record of an account
-abbrev pub record_in_force : World → Account → Sheet
-record_in_force world account = record_of world.texts account
-
--- whether an account is registered at a moment
-abbrev pub is_registered_in : World → Account → ℕ → Bool
-is_registered_in world account now = is_registered (end_at world.registrations account) now
-
--- ---- calls and rooms
-
--- as they stand
-abbrev pub calls_in : Directory → World → Table
-calls_in directory world = calls_after directory world.deeds
-
-abbrev pub rooms_in : Directory → World → tables.Table
-rooms_in directory world = rooms_after directory world.rooms
-
--- whose dialog a message names
-abbrev pub holder_in : Directory → HeardMessage → World → Option Holder
-holder_in directory message world = holder_of message (calls_in directory world).entries (rooms_in directory world).live
-
--- ---- single deeds
-
-abbrev pub offering : List Offer → World → World
-offering offers world = record world { offers = world.offers ++ offers }
-
-abbrev pub acting : Done → World → World
-acting act world = record world { acts = act ∷ world.acts }
-
-abbrev pub drawing : ℕ → World → World
-drawing count world = record world { drawn = world.drawn + count }
-
-abbrev pub arming : Armed → World → World
-arming armed world = record world { armed = world.armed ++ armed ∷ [] }
-
--- to the peer of a live transaction
-abbrev pub to_peer : ℕ → List ℕ → Option Peer → List Offer
-to_peer at text None = []
-to_peer at text (Some peer) = offer.To peer at text ∷ []
-
--- what a layer wants done, at a moment: whatever is offered for one goes through here
-abbrev pub emit_one : ℕ → Emit → World → World
-emit_one at (emit.Ask peer message) world = offering (offer.To peer at (message_text message) ∷ []) (acting (DidAsk peer message at) world)
-emit_one at (emit.Reply key message) world = offering (to_peer at (message_text message) (peer_of key.0 (live world.acts))) (acting (DidReply key.0 message at) world)
-emit_one at (emit.Plain peer text) world = offering (offer.To peer at text ∷ []) world
-emit_one at (emit.Ack key message) world = offering (to_peer at (message_text message) (peer_of key.0 (live world.acts))) (acting (DidAck key.0 message) world)
-emit_one at (emit.Settled key own) world = acting (DidSettle key.0 own) world
-emit_one at (emit.Arm call what when) world = arming (record { alarm = OfCall call what; at = when; step = world.steps - 1 }) world
-emit_one at (emit.ArmSeat room seat what when) world = arming (record { alarm = OfSeat room seat what; at = when; step = world.steps - 1 }) world
-
-abbrev pub emitted : ℕ → List Emit → World → World
-emitted at [] world = world
-emitted at (emit ∷ emits) world = emitted at emits (emit_one at emit world)
-
--- the tokens, of which so many numbers were drawn
-abbrev pub tokens_now : (token : List ℕ) → World → Drawn
-tokens_now token world = record { token = token; drawn = world.drawn }
+use Rattle.mmtel_mwi.specs.Boxes as mailboxes
+use Rattle.mmtel_answers.specs.Said.{status_of}
+pub use Rattle.mmtel_run.specs.Ground.{World, acting, arming, beginning, boxes_in, calls_in, drawing, emit_one, emitted, holder_in, is_registered_in, next_tag, offering}
+pub use Rattle.mmtel_run.specs.Ground.{record_in_force, refusing, replying, replying_plainly, rooms_in, to_peer, tokens_now}
+use Rattle.mmtel_run.specs.Subscriptions.{box_answered, box_due, entering_box, putting, subscribing}
 
 -- ---- what is done on the calls
 
@@ -228,17 +119,20 @@ begun world = record world { steps = world.steps + 1; acts = DidBegin world.step
 -- a request was given up, or a transaction has ended: whoever sent the request hears of it
 abbrev pub silenced : Directory → (token : List ℕ) → ℕ → (branch method : List ℕ) → Whose → World → World
 silenced directory token at branch method OfCalls world = signalled directory token at (signal.Silent branch method) world
+silenced directory token at branch method OfBoxes world = box_answered (behind_cookie branch) 408 world
 silenced directory token at branch method OfRooms world = seated directory token at (of_room.Silent branch method) world
 
 abbrev pub ended_of : Directory → (token : List ℕ) → ℕ → TKey → Whose → World → World
 ended_of directory token at key OfCalls world = signalled directory token at (signal.Over key) world
+ended_of directory token at key OfBoxes world = world
 ended_of directory token at key OfRooms world = seated directory token at (of_room.Over key) world
 
 -- what a deadline of a message brings: the same bytes again; or that a request is given up, or that a transaction has ended
 abbrev pub rung : Directory → (token : List ℕ) → Due → World → World
 rung directory token (due.Again peer at text) world = offering (offer.To peer at text ∷ []) world
 rung directory token (due.Silent key branch method at) world =
-    silenced directory token at branch method (whose_branch (invite_silent branch method) (calls_in directory world).entries) world
+    silenced directory token at branch method
+    (whose_branch (invite_silent branch method) (behind_cookie branch) (calls_in directory world).entries (boxes_in world)) world
 rung directory token (due.Over key at) world = ended_of directory token at key (whose_key key (calls_in directory world).entries) world
 rung directory token due.Nothing world = world
 
@@ -246,10 +140,11 @@ rung directory token due.Nothing world = world
 abbrev pub fired_in : Directory → (token : List ℕ) → ℕ → World → World
 fired_in directory token now world = rung directory token (says_due (next_due now (live world.acts))) (record world { acts = fires world.acts (next_due now (live world.acts)) })
 
--- one of a call or of a seat fires
+-- one of a call, of a seat or of a subscription fires
 abbrev pub alarmed : Directory → (token : List ℕ) → ℕ → Alarm → World → World
 alarmed directory token at (OfCall call what) world = signalled directory token at (signal.Due call what) world
 alarmed directory token at (OfSeat room seat what) world = seated directory token at (of_room.Due room seat what) world
+alarmed directory token at (OfBox sub set) world = box_due directory token at sub set world
 
 abbrev pub struck : Directory → (token : List ℕ) → Armed → (others : List Armed) → World → World
 struck directory token armed others world = alarmed directory token armed.at armed.alarm (record world { armed = others })
@@ -258,25 +153,6 @@ struck directory token armed others world = alarmed directory token armed.at arm
 abbrev pub fired : Directory → (token : List ℕ) → ℕ → Deadline → World → World
 fired directory token now OfMessage world = fired_in directory token now (begun world)
 fired directory token now (OfAlarm armed others) world = struck directory token armed others (begun world)
-
--- ---- answers
-
--- an answer in a transaction, with a tag of the server where To has none
-abbrev pub replying : Directory → (token : List ℕ) → ℕ → TKey → Said → Answer → World → World
-replying directory token at key said answer world =
-    emitted at (emit.Reply key (response_to directory.sip (tag_for token world.drawn said.heard.to_tag) said answer) ∷ []) (drawing (tags_due said.heard.to_tag) world)
-
--- an answer without one
-abbrev pub replying_plainly : Directory → (token : List ℕ) → ℕ → Said → Answer → World → World
-replying_plainly directory token at said answer world =
-    emitted at (emit.Plain said.peer (message_text (response_to directory.sip (tag_for token world.drawn said.heard.to_tag) said answer)) ∷ [])
-    (drawing (tags_due said.heard.to_tag) world)
-
--- the reply to bytes of a peer that were refused as they were read
-abbrev pub refusing : (token : List ℕ) → ℕ → Peer → Addr → Message Start → World → World
-refusing token at peer source reply world =
-    emitted at (emit.Plain peer (message_text (completed_reply (tag_for token world.drawn (to_tag_in reply.lines)) source reply)) ∷ [])
-    (drawing (tags_due (to_tag_in reply.lines)) world)
 
 -- ---- registrations
 
@@ -299,10 +175,11 @@ abbrev pub serving : Directory → ℕ → Request → Kept → List Row → Wor
 serving directory at request kept rows world =
     offering (offer.Web at (web_reply directory.names world.texts request kept rows) ∷ []) (keeping (kept_upload kept (upload_in directory.names request)) world)
 
--- ---- who comes to a room (RFC 4579 §5.1, §5.4): a tag is drawn, which the answer has, a refusal too
+-- and behind it what an upload to a mailbox brings its subscribers
+abbrev pub served : Directory → (token : List ℕ) → ℕ → Request → Kept → List Row → World → World
+served directory token at request kept rows world = putting directory token at (put_in directory.names request kept) (serving directory at request kept rows world)
 
-abbrev pub next_tag : (token : List ℕ) → World → List ℕ
-next_tag token world = token_text token (world.drawn + 1)
+-- ---- who comes to a room (RFC 4579 §5.1, §5.4): a tag is drawn, which the answer has, a refusal too
 
 -- no seat is found
 abbrev pub turned_away : Directory → ℕ → TKey → Said → (tag : List ℕ) → (code : ℕ) → World → World
@@ -394,14 +271,17 @@ taking directory token at key said Open world = signalled directory token at (ar
 taking directory token at key said OpenRoom world = opening_room directory token at key said world
 taking directory token at key said (JoinRoom room) world = joining_room directory token at key said room world
 taking directory token at key said (Register account seconds) world = registered directory token at key said account seconds world
+taking directory token at key said Subscribe world = subscribing directory token at key said world
+taking directory token at key said (EnterBox sub) world = entering_box directory token at key said sub world
 
--- a request that opened a transaction, where the calls and the rooms stand so
-abbrev pub taking_among : Directory → (token : List ℕ) → ℕ → TKey → Said → List Entry → List Room → World → World
-taking_among directory token at key said entries live_rooms world =
-    taking directory token at key said (course directory (is_merged key.0 (live world.acts)) (are_full entries) (holder_of said.heard entries live_rooms) said.heard) world
+-- a request that opened a transaction, where the calls, the rooms and the mailboxes stand so
+abbrev pub taking_among : Directory → (token : List ℕ) → ℕ → TKey → Said → List Entry → List Room → mailboxes.Table → World → World
+taking_among directory token at key said entries live_rooms table world =
+    taking directory token at key said (course directory (is_merged key.0 (live world.acts)) (are_full entries) (holder_of said.heard entries live_rooms table) said.heard) world
 
 abbrev pub taking_fresh : Directory → (token : List ℕ) → ℕ → TKey → Said → World → World
-taking_fresh directory token at key said world = taking_among directory token at key said (calls_in directory world).entries (rooms_in directory world).live world
+taking_fresh directory token at key said world =
+    taking_among directory token at key said (calls_in directory world).entries (rooms_in directory world).live (boxes_in world) world
 
 -- what was sent is sent again, to whom it was sent
 abbrev pub repeating : ℕ → Option (Peer × List ℕ) → World → World
@@ -423,17 +303,22 @@ abbrev pub acknowledging_by : Directory → (token : List ℕ) → ℕ → Said 
 acknowledging_by directory token at said None world = world
 acknowledging_by directory token at said (Some (InCall call side)) world = signalled directory token at (signal.Ack call side said) world
 acknowledging_by directory token at said (Some (InRoom room seat)) world = seated directory token at (of_room.Ack room seat said) world
+acknowledging_by directory token at said (Some (InBox sub)) world = world
 
 abbrev pub acknowledging : Directory → (token : List ℕ) → ℕ → Said → World → World
 acknowledging directory token at said world = acknowledging_by directory token at said (holder_in directory said.heard world) world
 
--- a response goes to whoever sent the request that it answers: to the calls where an INVITE of one has its branch, and else to the rooms
+-- a response goes to whoever sent the request that it answers: to the calls where an INVITE of one has its branch, to the mailboxes where a NOTIFY of one has it, and else to the
+-- rooms
 abbrev pub responding_to : Directory → (token : List ℕ) → ℕ → TKey → Said → Whose → World → World
 responding_to directory token at key said OfCalls world = signalled directory token at (signal.Answer key said) world
+responding_to directory token at key said OfBoxes world = box_answered (branch_in said.heard.vias) (status_of said.heard.start) world
 responding_to directory token at key said OfRooms world = seated directory token at (of_room.Answer key said) world
 
 abbrev pub responding : Directory → (token : List ℕ) → ℕ → TKey → Said → World → World
-responding directory token at key said world = responding_to directory token at key said (whose_branch (invite_answered said) (calls_in directory world).entries) world
+responding directory token at key said world =
+    responding_to directory token at key said
+    (whose_branch (invite_answered said) (branch_in said.heard.vias) (calls_in directory world).entries (boxes_in world)) world
 
 -- what is done with a message, by what the transactions say of it; None where too many of them are live
 abbrev pub answering : Directory → (token : List ℕ) → ℕ → Said → Option transaction.Heard → World → World
@@ -474,7 +359,7 @@ abbrev pub met : Directory → (token : List ℕ) → ℕ → Digest → World �
 met directory token at Nothing world = world
 met directory token at (Refused peer source reply) world = refusing token at peer source reply world
 met directory token at (Heard said) world = told directory token at said world
-met directory token at (Asked request kept rows) world = serving directory at request kept rows world
+met directory token at (Asked request kept rows) world = served directory token at request kept rows world
 
 -- at the end of an event the rows that wait are handed over
 abbrev pub ended : (took : Bool) → World → World

@@ -1,0 +1,39 @@
+-- Subscriptions grow fewer: whatever a deadline brings forth for one ends it, and a NOTIFY that has no answer brings nothing forth. So deadlines come to an end.
+use Rattle.std.proofs.Common.{◌≡◌, ℕ, suc, ◌≤◌, List, [], ◌∷◌, length, refl, ap, Bool, true, false, Option, Some, None, arith, inl, inr}
+use Rattle.std.proofs.lemmas.Bool.{cases_Bool}
+use Rattle.std.specs.Prelude.{find, if◌then◌else◌}
+use Rattle.mmtel_mwi.specs.Boxes.{Table, answered, changed, ended, ended_by, having_told, held, is_final, is_numbered, refused_by, settled, told, without}
+use Rattle.mmtel_mwi.specs.declared.subscriptions.Subscription.{Subscription}
+use Rattle.mmtel_types.specs.declared.numbers.SubNo.{SubNo}
+
+module _ {X : Type 0} (p : X → Bool) where
+  -- the first for which something is so is taken out, or there is none
+  pub no_more : (xs : List X) → length (without p xs) ≤ length xs
+  no_more [] = omega arith
+  no_more (x ∷ xs) =
+      elim (cases_Bool (p x)) [
+        | inl y ↦ rw y (omega arith)
+        | inr n ↦ let rest = no_more xs in rw n (omega (arith, rest))
+      ]
+
+  -- it is taken out where it became another before
+  pub one_fewer : (f : X → X) → ((x : X) → p (f x) ≡ p x) → (x : X) (xs : List X) → find p xs ≡ Some x → suc (length (without p (changed p f xs))) ≡ length xs
+  one_fewer f same x [] e = absurd cc
+  one_fewer f same x (y ∷ ys) e =
+      elim (cases_Bool (p y)) [
+        | inl is ↦ rw (is, same y, is) refl
+        | inr n ↦ rw (n, n) (ap suc (one_fewer f same x ys (rw n at e)))
+      ]
+
+-- a subscription that lives is told for the last time, and ends
+pub last_fewer : (sub : SubNo) (branch : List ℕ) (table : Table) (s : Subscription) → held sub table ≡ Some s → suc (length (ended sub (told sub branch table)).live) ≡ length table.live
+last_fewer sub branch table s e = one_fewer (is_numbered sub) having_told (λ x. refl) s table.live e
+
+-- a NOTIFY has an answer, or none
+if_fewer : (b : Bool) (branch : List ℕ) (o : Option SubNo) (table : Table) → length (if b then settled branch (ended_by o table) else table).live ≤ length table.live
+if_fewer false branch o table = omega arith
+if_fewer true branch None table = omega arith
+if_fewer true branch (Some sub) table = no_more (is_numbered sub) table.live
+
+pub answered_fewer : (branch : List ℕ) (code : ℕ) (table : Table) → length (answered branch code table).live ≤ length table.live
+answered_fewer branch code table = if_fewer (is_final code) branch (refused_by branch code table) table

@@ -57,7 +57,7 @@ each_filter P f (x ∷ xs) e = elim (cases_Bool (f x)) [
   | inr n ↦ rw n (each_filter P f xs e.1)
 ]
 
-each_found : {A : Type 0} (P : A → Type 0) (f : A → Bool) (xs : List A) (y : A) → Each P xs → find f xs ≡ Some y → P y × (f y ≡ true)
+pub each_found : {A : Type 0} (P : A → Type 0) (f : A → Bool) (xs : List A) (y : A) → Each P xs → find f xs ≡ Some y → P y × (f y ≡ true)
 each_found P f [] y e is = let none : None ≡ Some y = is in absurd cc
 each_found P f (x ∷ xs) y e is = elim (cases_Bool (f x)) [
   | inl z ↦
@@ -314,11 +314,15 @@ module _ (sip : Addr) (text : List ℕ) where
   AwaitedWasSent [] branch peer = ⊥
   AwaitedWasSent (ask ∷ asks) branch peer = ((ask.0 ≡ peer) × IsAwaited sip branch ask.1) ⊎ AwaitedWasSent asks branch peer
 
-  -- as where an INVITE is
+  -- as where one of such a method is
+  pub asked_awaited : (method : List ℕ) → is_awaited_method method ≡ true → (asks : List (Peer × Message Start)) (branch : List ℕ) (peer : Peer) → WasAsked sip asks method branch peer → AwaitedWasSent asks branch peer
+  asked_awaited method waits [] branch peer is = absurd is
+  asked_awaited method waits (ask ∷ asks) branch peer (inl here) = inl (here.0, record { method = method; waited_for = waits; request = here.1 })
+  asked_awaited method waits (ask ∷ asks) branch peer (inr there) = inr (asked_awaited method waits asks branch peer there)
+
+  -- an INVITE
   pub invite_awaited : (asks : List (Peer × Message Start)) (branch : List ℕ) (peer : Peer) → WasSent sip asks branch peer → AwaitedWasSent asks branch peer
-  invite_awaited [] branch peer is = absurd is
-  invite_awaited (ask ∷ asks) branch peer (inl here) = inl (here.0, record { method = codes "INVITE"; waited_for = refl; request = here.1 })
-  invite_awaited (ask ∷ asks) branch peer (inr there) = inr (invite_awaited asks branch peer there)
+  invite_awaited = asked_awaited (codes "INVITE") refl
 
   sent_number : (high : ℕ) (asks : List (Peer × Message Start)) (branch : List ℕ) (peer : Peer) → Falls high asks → AwaitedWasSent asks branch peer → (n : ℕ) × (0 < n) × (n < high) × (branch ≡ token_text text n)
   sent_number high [] branch peer f is = absurd is

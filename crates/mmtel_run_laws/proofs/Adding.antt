@@ -1,12 +1,13 @@
 -- A run only adds to what was offered.
-use Rattle.std.proofs.Common.{◌≡◌, ℕ, zero, suc, List, [], ◌∷◌, ◌++◌, length, refl, sym, ap, ◌∙◌, Bool, true, false, Option, Some, None, Result, Ok, Err, append_assoc, append-nil}
-use Rattle.mmtel_answers.specs.Said.{Said}
+use Rattle.std.proofs.Common.{◌≡◌, ℕ, zero, suc, List, [], ◌∷◌, ◌++◌, length, refl, sym, ap, ◌∙◌, Bool, true, false, Option, Some, None, Result, Ok, Err, codes, append_assoc, append-nil}
+use Rattle.std.specs.Prelude.{◌==◌, if◌then◌else◌}
+use Rattle.mmtel_answers.specs.Said.{Said, status_of}
 use Rattle.mmtel_b2bua.specs.Histories.{Deed, Drops, Finishes, Hears, Releases, Restores, finished_by, hears_after}
 use Rattle.mmtel_b2bua.specs.Lending.{leg_out}
 use Rattle.mmtel_b2bua.specs.Names.{party}
 use Rattle.mmtel_b2bua.specs.declared.signals.Signal.{Signal}
 use Rattle.mmtel_b2bua.specs.declared.signals.Signal.TheVariants as signal
-use Rattle.mmtel_desk.specs.Invites.{invite_answered, invite_silent}
+use Rattle.mmtel_desk.specs.Invites.{behind_cookie, branch_in, invite_answered, invite_silent}
 use Rattle.mmtel_charging.specs.declared.rows.Row.{Row}
 use Rattle.mmtel_desk.specs.declared.desks.Desk.{Desk}
 use Rattle.mmtel_directory.specs.declared.directories.Directory.{Directory}
@@ -17,10 +18,17 @@ use Rattle.mmtel_focus.specs.declared.referrals.Replaces.{Replaces}
 use Rattle.mmtel_focus.specs.declared.signals.RoomSignal.{RoomSignal}
 use Rattle.mmtel_focus.specs.declared.signals.RoomSignal.TheVariants as of_room
 use Rattle.mmtel_http.specs.Requests.{Request}
+use Rattle.mmtel_leg.specs.declared.dialogues.DialogueFault.{DialogueFault}
 use Rattle.mmtel_leg.specs.declared.legs.Released.{Released}
+use Rattle.mmtel_message.specs.Faults.{is_method}
 use Rattle.mmtel_message.specs.Message.{Message}
 use Rattle.mmtel_message.specs.Texts.{message_text}
 use Rattle.mmtel_message.specs.declared.messages.Start.{Start}
+use Rattle.mmtel_mwi.specs.Boxes.{is_full, next_sub, notice, peer_of, says, set_by, subscribers_of}
+use Rattle.mmtel_mwi.specs.Histories as mailboxes
+use Rattle.mmtel_mwi.specs.Histories.{Ends, Puts, Refreshes, Subscribes, Tells}
+use Rattle.mmtel_mwi.specs.Subscribing.{granted, refusal}
+use Rattle.mmtel_mwi.specs.declared.counts.Counts.{Counts}
 use Rattle.mmtel_outside.specs.declared.events.Offer.{Offer}
 use Rattle.mmtel_outside.specs.declared.events.Offer.TheVariants as offer
 use Rattle.mmtel_transaction.specs.Answers.{fires, hear_says, is_merged, next_due, says_due}
@@ -38,18 +46,21 @@ use Rattle.mmtel_types.specs.declared.numbers.Account.{Account}
 use Rattle.mmtel_types.specs.declared.numbers.CallNo.{CallNo}
 use Rattle.mmtel_types.specs.declared.numbers.Peer.{Peer}
 use Rattle.mmtel_types.specs.declared.numbers.RoomNo.{RoomNo}
+use Rattle.mmtel_types.specs.declared.numbers.SubNo.{SubNo}
 use Rattle.mmtel_types.specs.declared.sides.Side.{Side}
 use Rattle.mmtel_web.specs.Answers.{Kept, web_reply}
-use Rattle.mmtel_web.specs.Uploads.{kept_upload, upload_in}
+use Rattle.mmtel_web.specs.Uploads.{kept_upload, put_in, upload_in}
 use Rattle.mmtel_run.specs.Answers.{Answer, completed_reply, plainly, response_to, tag_for, tags_due, to_tag_in}
 use Rattle.mmtel_run.specs.Calls.{are_full, arrived, asked_by, site_of}
-use Rattle.mmtel_run.specs.Deadlines.{Alarm, Deadline, OfAlarm, OfCall, OfMessage, OfSeat}
+use Rattle.mmtel_run.specs.Deadlines.{Alarm, Deadline, OfAlarm, OfBox, OfCall, OfMessage, OfSeat}
 use Rattle.mmtel_run.specs.Events.{Digest, Nothing, Refused, Heard, Asked, Happened, Notice, message_in, notice_of, notices}
 use Rattle.mmtel_run.specs.Records.{until_of}
-use Rattle.mmtel_run.specs.Refusals.{Course, Refuse, Enter, EnterRoom, Open, OpenRoom, JoinRoom, Register, course}
-use Rattle.mmtel_run.specs.Rooms.{Holder, InCall, InRoom, OfCalls, OfRooms, Whose, account_of_side, whose_key, whose_branch, is_with, replacement_in, side_replaced, status_by}
+use Rattle.mmtel_run.specs.Refusals.{Course, Refuse, Enter, EnterRoom, Open, OpenRoom, JoinRoom, Register, Subscribe, EnterBox, course}
+use Rattle.mmtel_run.specs.Rooms.{Holder, InBox, InCall, InRoom, OfBoxes, OfCalls, OfRooms, Whose, account_of_side, leg_by, whose_key, whose_branch, is_with, replacement_in, side_replaced, status_by}
 use Rattle.mmtel_run.specs.Run.{after, clock_at, due_in, fire_one, fired_if, one_more, settled, world_after}
-use Rattle.mmtel_run.specs.World.{World, acknowledging_by, adopting, adoption_of, alarmed, answering, beginning, begun, bringing, calls_in, came, cancelling, cancelling_call, comes_of, drawing, emit_one, emitted, ended, ended_of, entering_room, finishing, fired, handing, heard_in_rooms, heard_now, hearing, holder_in, housed, joining_of, joining_room, keeping, lending, lodging, met, next_tag, noticed, offering, opening_of, opening_room, refusing, registering, repeating, replaced, replaced_by, replaced_with, replacing, replying, replying_plainly, responding_to, room_joined, room_opened, rooms_in, rung, seated, serving, signalled, silenced, taken_out, taking, told, tokens_now, turned_away}
+use Rattle.mmtel_run.specs.Subscriptions.{arming_until, asking_of, box_answered, box_due, entered_by, entering_box, entering_by, granting, is_last_set, made, made_for, mailbox_named, notice_emits, noting}
+use Rattle.mmtel_run.specs.Subscriptions.{other_answer, putting, refreshing_by, refusing_answer, standing, subscribing, subscribing_by, telling, telling_each, telling_last, telling_peer}
+use Rattle.mmtel_run.specs.World.{World, acknowledging_by, adopting, adoption_of, alarmed, answering, beginning, begun, boxes_in, bringing, calls_in, came, cancelling, cancelling_call, comes_of, drawing, emit_one, emitted, ended, ended_of, entering_room, finishing, fired, handing, heard_in_rooms, heard_now, hearing, holder_in, housed, joining_of, joining_room, keeping, lending, lodging, met, next_tag, noticed, offering, opening_of, opening_room, refusing, registering, repeating, replaced, replaced_by, replaced_with, replacing, replying, replying_plainly, responding_to, room_joined, room_opened, rooms_in, rung, seated, serving, signalled, silenced, taken_out, taking, told, tokens_now, turned_away}
 use Rattle.mmtel_run_laws.specs.Added.{DeadlinesAdd, EventsAdd, RunsAdd, behind, unsaid}
 
 -- what a deed does is done behind what was offered before
@@ -119,25 +130,111 @@ module _ (d : Directory) (token : List ℕ) where
   refusing_adds at peer source reply b w =
       emitted_adds at (emit.Plain peer (message_text (completed_reply (tag_for token w.drawn (to_tag_in reply.lines)) source reply)) ∷ []) b (drawing (tags_due (to_tag_in reply.lines)) w)
 
+  -- ---- mailboxes
+
+  either_adds : (c : Bool) (f g : World → World) → Adds f → Adds g → Adds (λ w. if c then f w else g w)
+  either_adds true f g one other = one
+  either_adds false f g one other = other
+
+  telling_peer_adds : (at : ℕ) (sub : SubNo) (last : Bool) (o : Option Peer) → Adds (telling_peer d token at sub last o)
+  telling_peer_adds at sub last None b w = refl
+  telling_peer_adds at sub last (Some peer) b w =
+      emitted_adds at (notice_emits peer (notice d.sip sub last (next_tag token w) at (boxes_in w))) b (noting (Tells sub (next_tag token w)) (drawing 1 w))
+
+  telling_adds : (at : ℕ) (sub : SubNo) (last : Bool) → Adds (telling d token at sub last)
+  telling_adds at sub last b w = telling_peer_adds at sub last (peer_of sub (boxes_in w)) b w
+
+  telling_last_adds : (at : ℕ) (sub : SubNo) → Adds (telling_last d token at sub)
+  telling_last_adds at sub b w = ap (noting (Ends sub)) (telling_adds at sub true b w)
+
+  arming_until_adds : (sub : SubNo) (set : Option ℕ) (until : ℕ) → Adds (arming_until sub set until)
+  arming_until_adds sub None until b w = refl
+  arming_until_adds sub (Some set) until b w = refl
+
+  standing_adds : (at : ℕ) (sub : SubNo) (seconds : ℕ) → Adds (standing d token at sub seconds)
+  standing_adds at sub seconds b w =
+      let set : Option ℕ = set_by sub (boxes_in w) in
+      either_adds (seconds == 0) (telling_last d token at sub) (λ v. arming_until sub set (until_of at seconds) (telling d token at sub false v)) (telling_last_adds at sub)
+      (λ c v. ap (arming_until sub set (until_of at seconds)) (telling_adds at sub false c v) ∙ arming_until_adds sub set (until_of at seconds) c (telling d token at sub false v)) b w
+
+  made_adds : (at : ℕ) (key : TKey) (s : Said) (account : Account) (seconds : ℕ) → Adds (made d token at key s account seconds)
+  made_adds at key s account seconds b w =
+      let tag : List ℕ = next_tag token w in
+      let noted : World = noting (Subscribes account (leg_by tag s) (until_of at seconds)) (drawing 1 w) in
+      let replies : List Emit = emit.Reply key (response_to d.sip tag s (granting seconds)) ∷ [] in
+      ap (standing d token at (next_sub (boxes_in w)) seconds) (emitted_adds at replies b noted) ∙ standing_adds at (next_sub (boxes_in w)) seconds b (emitted at replies noted)
+
+  made_for_adds : (at : ℕ) (key : TKey) (s : Said) (o : Option Account) → Adds (made_for d token at key s o)
+  made_for_adds at key s None b w = replying_adds at key s (plainly 403) b w
+  made_for_adds at key s (Some account) b w =
+      either_adds (is_full (boxes_in w)) (replying d token at key s (plainly 503)) (made d token at key s account (granted s.heard.expires)) (replying_adds at key s (plainly 503))
+      (made_adds at key s account (granted s.heard.expires)) b w
+
+  subscribing_by_adds : (at : ℕ) (key : TKey) (s : Said) (o : Option ℕ) → Adds (subscribing_by d token at key s o)
+  subscribing_by_adds at key s None b w = made_for_adds at key s (mailbox_named d s.heard) b w
+  subscribing_by_adds at key s (Some code) b w = replying_adds at key s (refusing_answer code) b w
+
+  subscribing_adds : (at : ℕ) (key : TKey) (s : Said) → Adds (subscribing d token at key s)
+  subscribing_adds at key s b w = subscribing_by_adds at key s (refusal (asking_of d false s.heard)) b w
+
+  refreshing_adds : (at : ℕ) (key : TKey) (s : Said) (sub : SubNo) (o : Option ℕ) → Adds (refreshing_by d token at key s sub o)
+  refreshing_adds at key s sub (Some code) b w = replying_adds at key s (refusing_answer code) b w
+  refreshing_adds at key s sub None b w =
+      let seconds : ℕ = granted s.heard.expires in
+      let noted : World = noting (Refreshes sub (until_of at seconds)) w in
+      ap (standing d token at sub seconds) (replying_adds at key s (granting seconds) b noted) ∙ standing_adds at sub seconds b (replying d token at key s (granting seconds) noted)
+
+  entered_adds : (at : ℕ) (key : TKey) (s : Said) (sub : SubNo) → Adds (entered_by d token at key s sub)
+  entered_adds at key s sub b w =
+      let code : Option ℕ = refusal (asking_of d true s.heard) in
+      either_adds (is_method (codes "SUBSCRIBE") s.heard.start) (refreshing_by d token at key s sub code) (replying d token at key s (other_answer d s.heard)) (refreshing_adds at key s sub code)
+      (replying_adds at key s (other_answer d s.heard)) b w
+
+  entering_by_adds : (at : ℕ) (key : TKey) (s : Said) (sub : SubNo) (r : Result (Unit {0}) DialogueFault) → Adds (entering_by d token at key s sub r)
+  entering_by_adds at key s sub (Err fault) b w = replying_adds at key s (plainly 500) b w
+  entering_by_adds at key s sub (Ok done) b w = entered_adds at key s sub b (noting (mailboxes.Hears sub (message_in s.heard)) w)
+
+  entering_box_adds : (at : ℕ) (key : TKey) (s : Said) (sub : SubNo) → Adds (entering_box d token at key s sub)
+  entering_box_adds at key s sub b w = entering_by_adds at key s sub (says sub (message_in s.heard) (boxes_in w)) b w
+
+  telling_each_adds : (at : ℕ) (subs : List SubNo) → Adds (telling_each d token at subs)
+  telling_each_adds at [] b w = refl
+  telling_each_adds at (sub ∷ subs) b w = ap (telling_each d token at subs) (telling_adds at sub false b w) ∙ telling_each_adds at subs b (telling d token at sub false w)
+
+  putting_adds : (at : ℕ) (o : Option (Account × Counts)) → Adds (putting d token at o)
+  putting_adds at None b w = refl
+  putting_adds at (Some put) b w = telling_each_adds at (subscribers_of put.0 (boxes_in w)) b (noting (Puts put.0 put.1) w)
+
+  box_due_adds : (at : ℕ) (sub : SubNo) (set : ℕ) → Adds (box_due d token at sub set)
+  box_due_adds at sub set b w =
+      either_adds (is_last_set set (set_by sub (boxes_in w))) (telling_last d token at sub) (λ v. v) (telling_last_adds at sub) (λ c v. refl) b w
+
+  box_answered_adds : (branch : Option (List ℕ)) (code : ℕ) → Adds (box_answered branch code)
+  box_answered_adds None code b w = refl
+  box_answered_adds (Some branch) code b w = refl
+
   -- ---- deadlines
 
   silenced_adds : (at : ℕ) (branch method : List ℕ) (whose : Whose) → Adds (silenced d token at branch method whose)
   silenced_adds at branch method OfCalls b w = signalled_adds at (signal.Silent branch method) b w
+  silenced_adds at branch method OfBoxes b w = box_answered_adds (behind_cookie branch) 408 b w
   silenced_adds at branch method OfRooms b w = seated_adds at (of_room.Silent branch method) b w
 
   ended_of_adds : (at : ℕ) (key : TKey) (whose : Whose) → Adds (ended_of d token at key whose)
   ended_of_adds at key OfCalls b w = signalled_adds at (signal.Over key) b w
+  ended_of_adds at key OfBoxes b w = refl
   ended_of_adds at key OfRooms b w = seated_adds at (of_room.Over key) b w
 
   rung_adds : (x : Due) → Adds (rung d token x)
   rung_adds (due.Again peer at text) b w = offering_adds (offer.To peer at text ∷ []) b w
-  rung_adds (due.Silent key branch method at) b w = silenced_adds at branch method (whose_branch (invite_silent branch method) (calls_in d w).entries) b w
+  rung_adds (due.Silent key branch method at) b w = silenced_adds at branch method (whose_branch (invite_silent branch method) (behind_cookie branch) (calls_in d w).entries (boxes_in w)) b w
   rung_adds (due.Over key at) b w = ended_of_adds at key (whose_key key (calls_in d w).entries) b w
   rung_adds due.Nothing b w = refl
 
   alarmed_adds : (at : ℕ) (x : Alarm) → Adds (alarmed d token at x)
   alarmed_adds at (OfCall call what) b w = signalled_adds at (signal.Due call what) b w
   alarmed_adds at (OfSeat room seat what) b w = seated_adds at (of_room.Due room seat what) b w
+  alarmed_adds at (OfBox sub set) b w = box_due_adds at sub set b w
 
   fired_adds : (now : ℕ) (x : Deadline) → Adds (fired d token now x)
   fired_adds now OfMessage b w = rung_adds (says_due (next_due now (live (begun w).acts))) b (record (begun w) { acts = fires (begun w).acts (next_due now (live (begun w).acts)) })
@@ -216,6 +313,8 @@ module _ (d : Directory) (token : List ℕ) where
     taking_adds key OpenRoom b w = opening_room_adds key b w
     taking_adds key (JoinRoom room) b w = joining_room_adds key room b w
     taking_adds key (Register account seconds) b w = replying_adds at key s (plainly 200) b (registering account (until_of at seconds) w)
+    taking_adds key Subscribe b w = subscribing_adds at key s b w
+    taking_adds key (EnterBox sub) b w = entering_box_adds at key s sub b w
 
     repeating_adds : (o : Option (Peer × List ℕ)) → Adds (repeating at o)
     repeating_adds None b w = refl
@@ -233,16 +332,18 @@ module _ (d : Directory) (token : List ℕ) where
     acknowledging_adds None b w = refl
     acknowledging_adds (Some (InCall call side)) b w = signalled_adds at (signal.Ack call side s) b w
     acknowledging_adds (Some (InRoom room seat)) b w = seated_adds at (of_room.Ack room seat s) b w
+    acknowledging_adds (Some (InBox sub)) b w = refl
 
     responding_adds : (key : TKey) (whose : Whose) → Adds (responding_to d token at key s whose)
     responding_adds key OfCalls b w = signalled_adds at (signal.Answer key s) b w
+    responding_adds key OfBoxes b w = box_answered_adds (branch_in s.heard.vias) (status_of s.heard.start) b w
     responding_adds key OfRooms b w = seated_adds at (of_room.Answer key s) b w
 
     answering_adds : (o : Option transaction.Heard) → Adds (answering d token at s o)
     answering_adds None b w = replying_plainly_adds at s (plainly 503) b w
     answering_adds (Some (heard.Fresh key message)) b w =
         taking_adds key (course d (is_merged key.0 (live w.acts)) (are_full (calls_in d w).entries) (holder_in d s.heard w) s.heard) b w
-    answering_adds (Some (heard.Answer key message)) b w = responding_adds key (whose_branch (invite_answered s) (calls_in d w).entries) b w
+    answering_adds (Some (heard.Answer key message)) b w = responding_adds key (whose_branch (invite_answered s) (branch_in s.heard.vias) (calls_in d w).entries (boxes_in w)) b w
     answering_adds (Some (heard.Repeat sent)) b w = repeating_adds sent b w
     answering_adds (Some (heard.Acked key)) b w = refl
     answering_adds (Some (heard.Cancel key invite message)) b w = cancelling_adds key invite b w
@@ -264,7 +365,9 @@ module _ (d : Directory) (token : List ℕ) where
   met_adds at Nothing b w = refl
   met_adds at (Refused peer source reply) b w = refusing_adds at peer source reply b w
   met_adds at (Heard said) b w = told_adds at said b w
-  met_adds at (Asked request kept rows) b w = serving_adds d at request kept rows b w
+  met_adds at (Asked request kept rows) b w =
+      let put : Option (Account × Counts) = put_in d.names request kept in
+      ap (putting d token at put) (serving_adds d at request kept rows b w) ∙ putting_adds at put b (serving d at request kept rows w)
 
   handing_adds : (took : Bool) (rows : List Row) → Adds (handing took rows)
   handing_adds took [] b w = refl

@@ -1,5 +1,5 @@
 -- The branch of an INVITE, PRACK or UPDATE that the server sent is read back as it was written, and a response names the branch of the one that it answers (RFC 3261 §8.1.1.7, §17.1.3).
-use Rattle.std.proofs.Common.{◌≡◌, ◌∙◌, ◌^◌, ◌<◌, ◌+◌, ◌-◌, Bool, true, false, inl, inr, ℕ, List, [], ◌∷◌, ◌++◌, Ok, Option, Some, None, ap, arith, codes, decimal, drop, length, refl, subst, sym, take, nat_lt}
+use Rattle.std.proofs.Common.{◌≡◌, ◌∙◌, ◌^◌, ◌<◌, ◌-◌, Bool, true, false, inl, inr, ℕ, List, [], ◌∷◌, ◌++◌, Ok, Option, Some, None, ap, arith, codes, decimal, drop, length, refl, subst, sym, take, nat_lt}
 use Rattle.std.specs.Prelude.{◌⊎◌, if◌then◌else◌}
 use Rattle.std.specs.Option.{unwrap_or}
 use Rattle.std.specs.Str.{bytes_eq}

@@ -31,14 +31,17 @@ use Rattle.mmtel_trust.specs.MaskedMessages.{public_part}
 use Rattle.mmtel_types.specs.declared.numbers.Account.{Account}
 use Rattle.mmtel_types.specs.declared.numbers.CallNo.{CallNo}
 use Rattle.mmtel_types.specs.declared.numbers.RoomNo.{RoomNo}
+use Rattle.mmtel_types.specs.declared.numbers.SubNo.{SubNo}
 use Rattle.mmtel_types.specs.declared.sides.Side.{Side}
 use Rattle.mmtel_types.specs.declared.sides.Side.TheVariants.{Caller, Callee}
 use Rattle.mmtel_run.specs.Answers.{Answer, plainly}
 use Rattle.mmtel_run.specs.Calls.{find_dialog, name_by, named_by}
-use Rattle.mmtel_run.specs.Refusals.{Course, Enter, EnterRoom, JoinRoom, Open, OpenRoom, Refuse, Register, always_known, by_method, course, course_by, first_that_applies, in_dialog, invited, invited_at, is_factory, is_known_method, is_register, is_room, known_if_reliable, known_if_waiting, refusals, registration, registration_of, to_account}
+use Rattle.mmtel_run.specs.Refusals.{Course, Enter, EnterBox, EnterRoom, JoinRoom, Open, OpenRoom, Refuse, Register, Subscribe, always_known, by_method, course, course_by, entering, first_that_applies, in_dialog, invited, invited_at}
+use Rattle.mmtel_run.specs.Refusals.{is_elsewhere, is_factory, is_known_method, is_register, is_room, is_subscribe, known_if_reliable, known_if_waiting, refusals, registration, registration_of, to_account}
 use Rattle.mmtel_run.specs.Events.{message_in}
-use Rattle.mmtel_run.specs.Rooms.{Holder, InCall, InRoom, in_call_or, in_room}
-use Rattle.mmtel_run_laws.specs.Belonging.{is_opening}
+use Rattle.mmtel_run.specs.Rooms.{Holder, InBox, InCall, InRoom, in_box, in_call_or, in_room_or}
+use Rattle.mmtel_run.specs.World.{World, calls_in}
+use Rattle.mmtel_run_laws.specs.Belonging.{is_opening, is_subscribing, may_subscribe}
 use Rattle.mmtel_run_laws.proofs.Fits.{true_false}
 
 -- ---- kinds of courses
@@ -51,6 +54,8 @@ enters Open = false
 enters OpenRoom = false
 enters (JoinRoom room) = false
 enters (Register account seconds) = false
+enters Subscribe = false
+enters (EnterBox sub) = true
 
 -- it opens a call or a room, or asks for a seat
 abbrev pub opens : Course → Bool
@@ -61,6 +66,8 @@ opens Open = true
 opens OpenRoom = true
 opens (JoinRoom room) = true
 opens (Register account seconds) = false
+opens Subscribe = false
+opens (EnterBox sub) = false
 
 -- where it enters
 abbrev entered : Holder → Course → Holder
@@ -71,18 +78,23 @@ entered other Open = other
 entered other OpenRoom = other
 entered other (JoinRoom room) = other
 entered other (Register account seconds) = other
+entered other Subscribe = other
+entered other (EnterBox sub) = InBox sub
 
 enters_there : (x : Holder) → enters (in_dialog x) ≡ true
 enters_there (InCall call side) = refl
 enters_there (InRoom room seat) = refl
+enters_there (InBox sub) = refl
 
 no_opening : (x : Holder) → opens (in_dialog x) ≡ false
 no_opening (InCall call side) = refl
 no_opening (InRoom room seat) = refl
+no_opening (InBox sub) = refl
 
 entered_there : (other x : Holder) → entered other (in_dialog x) ≡ x
 entered_there other (InCall call side) = refl
 entered_there other (InRoom room seat) = refl
+entered_there other (InBox sub) = refl
 
 if_no : (k : Course → Bool) (b : Bool) (x y : Course) → k x ≡ false → k y ≡ false → k (if b then x else y) ≡ false
 if_no k true x y e f = e
@@ -107,11 +119,22 @@ method_enters d full m =
     (if_no enters (is_method (codes "INVITE") m.start) _ _ (invited_enters d full m (uri_of (request_uri m.start)))
     (if_no enters (is_register m) _ _
     (if_no enters m.trusted _ _ (registers enters (to_account d.names.accounts m) m (λ answer. refl) (λ account seconds. refl)) refl)
-    refl)))
+    (if_no enters (is_subscribe m) Subscribe (Refuse (plainly 481)) refl refl))))
+
+-- what enters the dialog of whoever has it enters that one
+entering_named : (m : HeardMessage) (y x : Holder) → entering y m ≡ in_dialog x → y ≡ x
+entering_named m y x e = go (is_subscribe m && is_elsewhere y) e
+  where
+    go : (c : Bool) → (if c then Refuse (plainly 481) else in_dialog y) ≡ in_dialog x → y ≡ x
+    go true f = absurd (true_false (sym (ap enters f ∙ enters_there x)))
+    go false f = sym (entered_there x y) ∙ (ap (entered x) f ∙ entered_there x x)
+
+opens_entering : (m : HeardMessage) (x : Holder) → opens (entering x m) ≡ false
+opens_entering m x = if_no opens (is_subscribe m && is_elsewhere x) (Refuse (plainly 481)) (in_dialog x) refl (no_opening x)
 
 enters_by : (d : Directory) (full : Bool) (named : Option Holder) (m : HeardMessage) (o : Option Answer) (x : Holder) → course_by d full named m o ≡ in_dialog x → named ≡ Some x
 enters_by d full None m None x e = absurd (true_false (sym (ap enters e ∙ enters_there x) ∙ method_enters d full m))
-enters_by d full (Some y) m None x e = ap (λ (h : Holder). Some h) (sym (entered_there x y) ∙ (ap (entered x) e ∙ entered_there x x))
+enters_by d full (Some y) m None x e = ap (λ (h : Holder). Some h) (entering_named m y x e)
 enters_by d full named m (Some answer) x e = absurd (true_false (sym (ap enters e ∙ enters_there x)))
 
 pub enters_named : (d : Directory) (merged full : Bool) (named : Option Holder) (m : HeardMessage) (x : Holder) → course d merged full named m ≡ in_dialog x → named ≡ Some x
@@ -125,22 +148,34 @@ none_some A x e = cc
 abbrev call_in : CallNo × Side → Holder → CallNo × Side
 call_in other (InCall call side) = (call, side)
 call_in other (InRoom room seat) = other
+call_in other (InBox sub) = other
 
 abbrev is_call : Holder → Bool
 is_call (InCall call side) = true
 is_call (InRoom room seat) = false
+is_call (InBox sub) = false
 
 abbrev holder_or : Holder → Option Holder → Holder
 holder_or other None = other
 holder_or other (Some x) = x
 
-of_room : (o : Option (RoomNo × ℕ)) (x : CallNo × Side) → in_room o ≡ Some (InCall x.0 x.1) → ⊥
-of_room None x e = none_some Holder (InCall x.0 x.1) e
-of_room (Some y) x e = true_false (sym (ap (λ (o : Option Holder). is_call (holder_or (InCall x.0 x.1) o)) e))
+of_room : (b : Option SubNo) (o : Option (RoomNo × ℕ)) (x : CallNo × Side) → in_room_or (in_box b) o ≡ Some (InCall x.0 x.1) → ⊥
+of_room None None x e = none_some Holder (InCall x.0 x.1) e
+of_room (Some sub) None x e = true_false (sym (ap (λ (o : Option Holder). is_call (holder_or (InCall x.0 x.1) o)) e))
+of_room b (Some y) x e = true_false (sym (ap (λ (o : Option Holder). is_call (holder_or (InCall x.0 x.1) o)) e))
 
-pub of_call : (r : Option (RoomNo × ℕ)) (o : Option (CallNo × Side)) (x : CallNo × Side) → in_call_or (in_room r) o ≡ Some (InCall x.0 x.1) → o ≡ Some x
-of_call r None x e = absurd (of_room r x e)
-of_call r (Some y) x e = ap (λ (o : Option Holder). Some (call_in x (holder_or (InCall x.0 x.1) o))) e
+-- it is no call's where it is nobody's, or a subscription's
+pub of_nobody : (b : Option SubNo) (r : Option (RoomNo × ℕ)) (o : Option (CallNo × Side)) → in_call_or (in_room_or (in_box b) r) o ≡ None → o ≡ None
+of_nobody b r None e = refl
+of_nobody b r (Some y) e = let n : None ≡ Some (InCall y.0 y.1) = sym e in absurd (none_some Holder (InCall y.0 y.1) n)
+
+pub of_box : (b : Option SubNo) (r : Option (RoomNo × ℕ)) (o : Option (CallNo × Side)) (sub : SubNo) → in_call_or (in_room_or (in_box b) r) o ≡ Some (InBox sub) → o ≡ None
+of_box b r None sub e = refl
+of_box b r (Some y) sub e = absurd (true_false (ap (λ (o : Option Holder). is_call (holder_or (InBox sub) o)) e))
+
+pub of_call : (b : Option SubNo) (r : Option (RoomNo × ℕ)) (o : Option (CallNo × Side)) (x : CallNo × Side) → in_call_or (in_room_or (in_box b) r) o ≡ Some (InCall x.0 x.1) → o ≡ Some x
+of_call b r None x e = absurd (of_room b r x e)
+of_call b r (Some y) x e = ap (λ (o : Option Holder). Some (call_in x (holder_or (InCall x.0 x.1) o))) e
 
 -- it has a tag of the server
 tagged_by : (c t f : Option (List ℕ)) (es : List Entry) (x : CallNo × Side) → find_dialog (name_by c t f) es ≡ Some x → is_none t ≡ false
@@ -160,10 +195,10 @@ method_opens : (d : Directory) (full : Bool) (m : HeardMessage) → is_method (c
 method_opens d full m none =
     if_no opens (is_method (codes "OPTIONS") m.start) _ _ refl
     (if_no opens (is_method (codes "REFER") m.start) _ _ refl
-    (ap (λ (b : Bool). opens (if b then invited d full m else if is_register m then registration d.names.accounts m else Refuse (plainly 481))) none
+    (ap (λ (b : Bool). opens (if b then invited d full m else if is_register m then registration d.names.accounts m else if is_subscribe m then Subscribe else Refuse (plainly 481))) none
     ∙ if_no opens (is_register m) _ _
     (if_no opens m.trusted _ _ (registers opens (to_account d.names.accounts m) m (λ answer. refl) (λ account seconds. refl)) refl)
-    refl))
+    (if_no opens (is_subscribe m) Subscribe (Refuse (plainly 481)) refl refl)))
 
 -- of a list of refusals none applies
 abbrev first_holds : List (Bool × Answer) → Bool
@@ -198,7 +233,7 @@ opens_by d merged full None m None none e = elim (cases_Bool (is_method (codes "
   | inl y ↦ ap (λ (b : Bool). b && is_none m.to_tag) y ∙ untagged d merged m none
   | inr n ↦ absurd (true_false (sym e ∙ method_opens d full m n))
 ]
-opens_by d merged full (Some x) m None none e = absurd (true_false (sym e ∙ no_opening x))
+opens_by d merged full (Some x) m None none e = absurd (true_false (sym e ∙ opens_entering m x))
 opens_by d merged full named m (Some answer) none e = absurd (true_false (sym e))
 
 pub opens_opening : (d : Directory) (merged full : Bool) (named : Option Holder) (m : HeardMessage) → opens (course d merged full named m) ≡ true → is_opening m ≡ true
@@ -211,32 +246,54 @@ not_false : (b : Bool) → not b ≡ false → b ≡ true
 not_false true e = refl
 not_false false e = absurd (true_false e)
 
-known_by : (d : Directory) (merged full : Bool) (named : Option Holder) (m : HeardMessage) (x : Holder) (o : Option Answer) → first_that_applies (refusals d merged (is_some named) m) ≡ o
-    → course_by d full named m o ≡ in_dialog x → is_known_method d m.start ≡ true
-known_by d merged full named m x None none e = not_false (is_known_method d m.start) (passes (refusals d merged (is_some named) m) none).0
-known_by d merged full named m x (Some answer) none e = absurd (true_false (sym (ap enters e ∙ enters_there x)))
+abbrev pub refuses : Course → Bool
+refuses (Refuse answer) = true
+refuses (Enter call side) = false
+refuses (EnterRoom room seat) = false
+refuses Open = false
+refuses OpenRoom = false
+refuses (JoinRoom room) = false
+refuses (Register account seconds) = false
+refuses Subscribe = false
+refuses (EnterBox sub) = false
+
+taken_there : (x : Holder) → refuses (in_dialog x) ≡ false
+taken_there (InCall call side) = refl
+taken_there (InRoom room seat) = refl
+taken_there (InBox sub) = refl
+
+-- so has whatever is not refused
+known_by : (d : Directory) (merged full : Bool) (named : Option Holder) (m : HeardMessage) (o : Option Answer) → first_that_applies (refusals d merged (is_some named) m) ≡ o
+    → refuses (course_by d full named m o) ≡ false → is_known_method d m.start ≡ true
+known_by d merged full named m None none e = not_false (is_known_method d m.start) (passes (refusals d merged (is_some named) m) none).0
+known_by d merged full named m (Some answer) none e = absurd (true_false e)
 
 abbrev methods : (reliable waiting : Bool) → List (List ℕ)
 methods reliable waiting = always_known ++ (known_if_reliable reliable ++ known_if_waiting waiting)
 
-unlisted : (reliable waiting : Bool) (start : Start) (name : List ℕ) → reliable ≡ false → ((w : Bool) → list_any (λ (n : List ℕ). bytes_eq name n) (methods false w) ≡ false)
-    → list_any (λ (n : List ℕ). is_method n start) (methods reliable waiting) ≡ true → is_method name start ≡ false
-unlisted true waiting start name off none known = absurd (true_false off)
-unlisted false waiting (Request method uri) name off none known = elim (cases_Bool (bytes_eq method name)) [
+unlisted : (names : List (List ℕ)) (start : Start) (name : List ℕ) → list_any (λ (n : List ℕ). bytes_eq name n) names ≡ false → list_any (λ (n : List ℕ). is_method n start) names ≡ true → is_method name start ≡ false
+unlisted names (Request method uri) name none known = elim (cases_Bool (bytes_eq method name)) [
   | inl y ↦
       let same : method ≡ name = (bytes_eq-Decides method name).0 y in
-      absurd (true_false (sym known ∙ subst (λ (b : List ℕ). list_any (λ (n : List ℕ). bytes_eq b n) (methods false waiting) ≡ false) (sym same) (none waiting)))
+      absurd (true_false (sym known ∙ subst (λ (b : List ℕ). list_any (λ (n : List ℕ). bytes_eq b n) names ≡ false) (sym same) none))
   | inr n ↦ n
 ]
-unlisted false waiting (Status code phrase) name off none known = refl
+unlisted names (Status code phrase) name none known = refl
 
-no_prack : (w : Bool) → list_any (λ (n : List ℕ). bytes_eq (codes "PRACK") n) (methods false w) ≡ false
-no_prack true = refl
-no_prack false = refl
+no_prack : (r w : Bool) → r ≡ false → list_any (λ (n : List ℕ). bytes_eq (codes "PRACK") n) (methods r w) ≡ false
+no_prack true w off = absurd (true_false off)
+no_prack false true off = refl
+no_prack false false off = refl
 
-no_update : (w : Bool) → list_any (λ (n : List ℕ). bytes_eq (codes "UPDATE") n) (methods false w) ≡ false
-no_update true = refl
-no_update false = refl
+no_update : (r w : Bool) → r ≡ false → list_any (λ (n : List ℕ). bytes_eq (codes "UPDATE") n) (methods r w) ≡ false
+no_update true w off = absurd (true_false off)
+no_update false true off = refl
+no_update false false off = refl
+
+no_subscribe : (r w : Bool) → w ≡ false → list_any (λ (n : List ℕ). bytes_eq (codes "SUBSCRIBE") n) (methods r w) ≡ false
+no_subscribe r true off = absurd (true_false off)
+no_subscribe true false off = refl
+no_subscribe false false off = refl
 
 neither : (b c : Bool) → b ≡ false → c ≡ false → (b || c) ≡ false
 neither false false e f = refl
@@ -251,8 +308,80 @@ pub known_across : (d : Directory) (merged full : Bool) (named : Option Holder) 
     goes_across side m ≡ false
 unfolding course
 known_across d merged full named side m x e off =
-    let known = known_by d merged full named (public_part m.heard) x (first_that_applies (refusals d merged (is_some named) (public_part m.heard))) refl e in
-    across_by side m (unlisted d.reliable d.names.mwi m.heard.start (codes "PRACK") off no_prack known) (unlisted d.reliable d.names.mwi m.heard.start (codes "UPDATE") off no_update known)
+    let names : List (List ℕ) = methods d.reliable d.names.mwi in
+    let known = known_by d merged full named (public_part m.heard) (first_that_applies (refusals d merged (is_some named) (public_part m.heard))) refl (ap refuses e ∙ taken_there x) in
+    across_by side m (unlisted names m.heard.start (codes "PRACK") (no_prack d.reliable d.names.mwi off) known) (unlisted names m.heard.start (codes "UPDATE") (no_update d.reliable d.names.mwi off) known)
+
+-- ---- a SUBSCRIBE that is not refused is one where messages are waited for, and opens nothing
+
+pub subscribe_waits : (d : Directory) (merged full : Bool) (named : Option Holder) (m : HeardMessage) → refuses (course d merged full named m) ≡ false → is_subscribe m ≡ true → may_subscribe d m ≡ true
+unfolding course
+subscribe_waits d merged full named m taken is =
+    let known = known_by d merged full named (public_part m) (first_that_applies (refusals d merged (is_some named) (public_part m))) refl taken in
+    elim (cases_Bool d.names.mwi) [
+      | inl y ↦ ap (λ (b : Bool). b && d.names.mwi) is ∙ y
+      | inr n ↦ absurd (true_false (sym is ∙ unlisted (methods d.reliable d.names.mwi) m.start (codes "SUBSCRIBE") (no_subscribe d.reliable d.names.mwi n) known))
+    ]
+
+-- what names a dialog of a call subscribes to nothing
+never : (b : Bool) → (b && false) ≡ false
+never true = refl
+never false = refl
+
+pub subscribes_elsewhere : (d : Directory) (w : World) (m : HeardMessage) (x : CallNo × Side) → named_by m (calls_in d w).entries ≡ Some x → is_subscribing d w m ≡ false
+subscribes_elsewhere d w m x named = ap (λ (o : Option (CallNo × Side)). may_subscribe d m && is_none o) named ∙ never (may_subscribe d m)
+
+other_method : (start : Start) (one other : List ℕ) → bytes_eq one other ≡ false → is_method one start ≡ true → is_method other start ≡ false
+other_method (Request method uri) one other differ e = subst (λ (b : List ℕ). bytes_eq b other ≡ false) (sym ((bytes_eq-Decides method one).0 e)) differ
+other_method (Status code phrase) one other differ e = refl
+
+pub subscribe_opens_nothing : (m : HeardMessage) → is_subscribe m ≡ true → is_opening m ≡ false
+subscribe_opens_nothing m is = ap (λ (b : Bool). b && is_none m.to_tag) (other_method m.start (codes "SUBSCRIBE") (codes "INVITE") refl is)
+
+-- ---- what subscribes is a SUBSCRIBE of no dialog
+
+abbrev subscribes : Course → Bool
+subscribes (Refuse answer) = false
+subscribes (Enter call side) = false
+subscribes (EnterRoom room seat) = false
+subscribes Open = false
+subscribes OpenRoom = false
+subscribes (JoinRoom room) = false
+subscribes (Register account seconds) = false
+subscribes Subscribe = true
+subscribes (EnterBox sub) = false
+
+none_there : (x : Holder) → subscribes (in_dialog x) ≡ false
+none_there (InCall call side) = refl
+none_there (InRoom room seat) = refl
+none_there (InBox sub) = refl
+
+invited_subscribes : (d : Directory) (full : Bool) (m : HeardMessage) (r : Result Uri Refusal) → subscribes (invited_at d full m r) ≡ false
+invited_subscribes d full m (Ok target) =
+    if_no subscribes (is_factory d.factory target) _ _ (if_no subscribes (offers_audio m.body) _ _ refl refl)
+    (if_no subscribes (is_room d.sip target) _ _ (if_no subscribes (offers_audio m.body) _ _ refl refl) (if_no subscribes full _ _ refl refl))
+invited_subscribes d full m (Err refusal) = if_no subscribes full _ _ refl refl
+
+method_subscribes : (d : Directory) (full : Bool) (m : HeardMessage) → is_subscribe m ≡ false → subscribes (by_method d full m) ≡ false
+method_subscribes d full m none =
+    if_no subscribes (is_method (codes "OPTIONS") m.start) _ _ refl
+    (if_no subscribes (is_method (codes "REFER") m.start) _ _ refl
+    (if_no subscribes (is_method (codes "INVITE") m.start) _ _ (invited_subscribes d full m (uri_of (request_uri m.start)))
+    (if_no subscribes (is_register m) _ _
+    (if_no subscribes m.trusted _ _ (registers subscribes (to_account d.names.accounts m) m (λ answer. refl) (λ account seconds. refl)) refl)
+    (ap (λ (b : Bool). subscribes (if b then Subscribe else Refuse (plainly 481))) none))))
+
+subscribes_by : (d : Directory) (full : Bool) (named : Option Holder) (m : HeardMessage) (o : Option Answer) → subscribes (course_by d full named m o) ≡ true → (named ≡ None) × (is_subscribe m ≡ true)
+subscribes_by d full None m None e = elim (cases_Bool (is_subscribe m)) [
+  | inl y ↦ (refl, y)
+  | inr n ↦ absurd (true_false (sym e ∙ method_subscribes d full m n))
+]
+subscribes_by d full (Some x) m None e = absurd (true_false (sym e ∙ if_no subscribes (is_subscribe m && is_elsewhere x) (Refuse (plainly 481)) (in_dialog x) refl (none_there x)))
+subscribes_by d full named m (Some answer) e = absurd (true_false (sym e))
+
+pub subscribes_alone : (d : Directory) (merged full : Bool) (named : Option Holder) (m : HeardMessage) → course d merged full named m ≡ Subscribe → (named ≡ None) × (is_subscribe m ≡ true)
+unfolding course
+subscribes_alone d merged full named m e = subscribes_by d full named (public_part m) (first_that_applies (refusals d merged (is_some named) (public_part m))) (ap subscribes e)
 
 -- ---- requests and responses
 

@@ -1,6 +1,6 @@
 -- What is decided of a request that was read: what is answered is clean, and a call is opened for a clean Request-URI alone.
 use Rattle.std.proofs.Common.{◌≡◌, Bool, true, false, not, ℕ, List, [], ◌∷◌, Option, Some, None, refl, sym, IfSome, Result, Ok, Err}
-use Rattle.std.specs.Prelude.{◌+◌, codes, decimal, if◌then◌else◌, is_some}
+use Rattle.std.specs.Prelude.{◌+◌, ◌&&◌, codes, decimal, if◌then◌else◌, is_some}
 use Rattle.std.specs.List.{list_all}
 use Rattle.std.proofs.lemmas.Option.{none-some}
 use Rattle.mmtel_answers.specs.Said.{Said, phrase_in, said}
@@ -28,9 +28,9 @@ use Rattle.mmtel_trust.specs.MaskedMessages.{public_part}
 use Rattle.mmtel_types.specs.declared.addrs.Addr.{Addr}
 use Rattle.mmtel_types.specs.declared.numbers.Account.{Account}
 use Rattle.mmtel_types.specs.declared.numbers.Peer.{Peer}
-use Rattle.mmtel_run.specs.Answers.{Answer, completed_reply, further_methods, is_unsupported, response_to, tag_for, unsupported, unsupported_line, without_extension}
-use Rattle.mmtel_run.specs.Refusals.{Course, Enter, EnterRoom, JoinRoom, Open, OpenRoom, Refuse, Register, by_method, course, course_by, course_in, first_that_applies, in_dialog, invited_at, is_factory, is_foreign, is_foreign_uri, is_known_method, is_register, is_room, opening, refusals, registration_of, room_number, to_account, with_audio}
-use Rattle.mmtel_run.specs.Rooms.{Holder, InCall, InRoom}
+use Rattle.mmtel_run.specs.Answers.{Answer, completed_reply, further_methods, is_unsupported, plainly, response_to, tag_for, unsupported, unsupported_line, without_extension}
+use Rattle.mmtel_run.specs.Refusals.{Course, Enter, EnterBox, EnterRoom, JoinRoom, Open, OpenRoom, Refuse, Register, Subscribe, is_elsewhere, is_subscribe, by_method, course, course_by, course_in, first_that_applies, in_dialog, invited_at, is_factory, is_foreign, is_foreign_uri, is_known_method, is_register, is_room, opening, refusals, registration_of, room_number, to_account, with_audio}
+use Rattle.mmtel_run.specs.Rooms.{Holder, InBox, InCall, InRoom}
 use Rattle.mmtel_run_laws.proofs.Received.{IsReadWell}
 
 -- ---- what was heard
@@ -102,6 +102,8 @@ IsCleanCourse start Open = IsClean (request_uri start)
 IsCleanCourse start OpenRoom = Unit {0}
 IsCleanCourse start (JoinRoom room) = Unit {0}
 IsCleanCourse start (Register account seconds) = Unit {0}
+IsCleanCourse start Subscribe = Unit {0}
+IsCleanCourse start (EnterBox sub) = Unit {0}
 
 either : (start : Start) (b : Bool) (x y : Course) → IsCleanCourse start x → IsCleanCourse start y → IsCleanCourse start (if b then x else y)
 either start true x y h g = h
@@ -139,15 +141,17 @@ module _ (d : Directory) (full : Bool) (m : HeardMessage) where
       either m.start (is_method (codes "OPTIONS") m.start) _ _ (allowed_clean (further_methods d))
       (either m.start (is_method (codes "REFER") m.start) _ _ refl
       (either m.start (is_method (codes "INVITE") m.start) _ _ (target-clean (uri_of (request_uri m.start)) uri)
-      (either m.start (is_register m) _ _ (either m.start m.trusted _ _ (registers (to_account d.names.accounts m)) refl) refl)))
+      (either m.start (is_register m) _ _ (either m.start m.trusted _ _ (registers (to_account d.names.accounts m)) refl)
+      (either m.start (is_subscribe m) Subscribe (Refuse (plainly 481)) tt refl))))
 
   dialog-clean : (holder : Holder) → IsCleanCourse m.start (in_dialog holder)
   dialog-clean (InCall call side) = tt
   dialog-clean (InRoom room seat) = tt
+  dialog-clean (InBox sub) = tt
 
   in-clean : (named : Option Holder) → IsClean (request_uri m.start) → IsCleanCourse m.start (course_in d full named m)
   in-clean None uri = method-clean uri
-  in-clean (Some holder) uri = dialog-clean holder
+  in-clean (Some holder) uri = either m.start (is_subscribe m && is_elsewhere holder) (Refuse (plainly 481)) (in_dialog holder) refl (dialog-clean holder)
 
   by-clean : (named : Option Holder) (o : Option Answer) → IfSome o IsCleanAnswer → (o ≡ None → IsClean (request_uri m.start)) → IsCleanCourse m.start (course_by d full named m o)
   by-clean named None h uri = in-clean named (uri refl)

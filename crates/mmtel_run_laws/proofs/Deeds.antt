@@ -10,7 +10,7 @@ use Rattle.mmtel_b2bua_laws.specs.Alike.{AlikeEntries, AlikeTables, AreKept}
 use Rattle.mmtel_b2bua_laws.specs.Answers.{AlikeTablesAnswerAlike}
 use Rattle.mmtel_b2bua_laws.specs.AlikeDeeds.{BothFinish, BothHear, BothRelease, BothRestore, HearAlike, StandAlike, TablesStayAlike}
 use Rattle.mmtel_b2bua_laws.specs.Signals.{AsksWell, CallersAlike, LooksAlike, TableHears, public_signal}
-use Rattle.mmtel_desk.specs.Invites.{invite_silent}
+use Rattle.mmtel_desk.specs.Invites.{behind_cookie, invite_silent}
 use Rattle.mmtel_call_laws.specs.Secret.Parts.{public_released}
 use Rattle.mmtel_call_laws.specs.Secret.Premises.{AreAsked, IsAmong}
 use Rattle.mmtel_call_laws.specs.Secret.Roles.{Plain, Role}
@@ -47,16 +47,18 @@ use Rattle.mmtel_types.specs.declared.numbers.CallNo.{CallNo}
 use Rattle.mmtel_types.specs.declared.numbers.Peer.{Peer}
 use Rattle.mmtel_types.specs.declared.numbers.RoomNo.{RoomNo}
 use Rattle.mmtel_types.specs.declared.sides.Side.{Side}
+use Rattle.mmtel_mwi.specs.Boxes as mailboxes
 use Rattle.mmtel_run.specs.Alike.{trusts}
 use Rattle.mmtel_run.specs.Calls.{site_of}
-use Rattle.mmtel_run.specs.Deadlines.{Alarm, Armed, Chosen, Deadline, OfAlarm, OfCall, OfMessage, OfSeat, first_armed, first_of}
+use Rattle.mmtel_run.specs.Deadlines.{Alarm, Armed, Chosen, Deadline, OfAlarm, OfBox, OfCall, OfMessage, OfSeat, first_armed, first_of}
 use Rattle.mmtel_run.specs.InForce.{CallsAreToldWhatIsInForce}
 use Rattle.mmtel_run.specs.Records.{in_force}
-use Rattle.mmtel_run.specs.Rooms.{OfCalls, OfRooms, Whose, calls_or_rooms, rooms_site, whose_branch, whose_key}
+use Rattle.mmtel_run.specs.Rooms.{OfBoxes, OfCalls, OfRooms, Whose, calls_or_rooms, is_of_boxes, is_of_calls, rooms_site, whose_branch, whose_key, whose_of}
 use Rattle.mmtel_run.specs.Run.{due_in, fire_one, fired_if, settled}
 use Rattle.mmtel_run.specs.View.{view}
-use Rattle.mmtel_run.specs.World.{World, alarmed, begun, bringing, calls_in, comes_of, ended_of, fired, fired_in, finishing, heard_in_rooms, heard_now, housed, lending, lodging, noticed, offering, rooms_in, rung, seated, signalled, silenced, tokens_now}
+use Rattle.mmtel_run.specs.World.{World, alarmed, begun, bringing, calls_in, comes_of, ended_of, fired, fired_in, finishing, heard_in_rooms, heard_now, housed, lending, lodging, noticed, offering, rooms_in, rung, seated, signalled, silenced, tokens_now, boxes_in}
 use Rattle.mmtel_run_laws.specs.Alike.{AreAmong, SiteAlike}
+use Rattle.mmtel_run_laws.proofs.BoxesAlike.{box_answered-alike, box_due-alike}
 use Rattle.mmtel_run_laws.proofs.Emitting.{Knows, Pair, acting-alike, emitted-alike, offering-alike, one_offer}
 use Rattle.mmtel_run_laws.proofs.Growing.{settled_before}
 
@@ -108,8 +110,11 @@ module _ (law : TextsDecideNothing) (tables : TablesStayAlike) (told : CallsAreT
   pub tokens_same : (v w : World) → Two v w → tokens_now token v ≡ tokens_now token w
   tokens_same v w a = ap (λ (n : ℕ). record { token = token; drawn = n }) a.alike.drawn
 
-  pub branches_alike : (branch : Option (List ℕ)) (v w : World) → Two v w → whose_branch branch (calls_in d v).entries ≡ whose_branch branch (calls_in e w).entries
-  branches_alike branch v w a = ap (λ (o : Option ℕ). calls_or_rooms (is_some o)) (laws.answers.sent records (trusts d) branch (bare (calls_in d v)) (bare (calls_in e w)) (tables_alike v w a))
+  pub branches_alike : (invite branch : Option (List ℕ)) (v w : World) → Two v w →
+      whose_branch invite branch (calls_in d v).entries (boxes_in v) ≡ whose_branch invite branch (calls_in e w).entries (boxes_in w)
+  branches_alike invite branch v w a =
+      ap (λ (o : Option ℕ). whose_of (is_some o) (is_of_boxes branch (boxes_in v))) (laws.answers.sent records (trusts d) invite (bare (calls_in d v)) (bare (calls_in e w)) (tables_alike v w a))
+      ∙ ap (λ (table : mailboxes.Table). whose_of (is_of_calls invite (calls_in e w).entries) (is_of_boxes branch table)) a.alike.boxes
 
   key_same : (key : TKey) (v w : World) → Two v w → whose_key key (calls_in d v).entries ≡ whose_key key (calls_in e w).entries
   key_same key v w a = ap (λ (o : Option ℕ). calls_or_rooms (is_some o)) (laws.answers.heard records (trusts d) key (bare (calls_in d v)) (bare (calls_in e w)) (tables_alike v w a))
@@ -136,6 +141,7 @@ module _ (law : TextsDecideNothing) (tables : TablesStayAlike) (told : CallsAreT
           calls = entries;
           opened = opened;
           rooms = a.alike.rooms;
+          boxes = a.alike.boxes;
           armed = a.alike.armed;
           texts = a.alike.texts;
           registrations = a.alike.registrations;
@@ -158,6 +164,7 @@ module _ (law : TextsDecideNothing) (tables : TablesStayAlike) (told : CallsAreT
       calls = entries;
       opened = opened;
       rooms = a.alike.rooms;
+      boxes = a.alike.boxes;
       armed = a.alike.armed;
       texts = a.alike.texts;
       registrations = a.alike.registrations;
@@ -212,6 +219,7 @@ module _ (law : TextsDecideNothing) (tables : TablesStayAlike) (told : CallsAreT
       calls = a.alike.calls;
       opened = a.alike.opened;
       rooms = a.alike.rooms;
+      boxes = a.alike.boxes;
       armed = a.alike.armed;
       texts = a.alike.texts;
       registrations = a.alike.registrations;
@@ -252,6 +260,7 @@ module _ (law : TextsDecideNothing) (tables : TablesStayAlike) (told : CallsAreT
           calls = a.alike.calls;
           opened = a.alike.opened;
           rooms = dropped_alike x (length desk.rows) (length other.rows) v w a does (ap (λ (rows : List Row). length rows) desks.rows);
+          boxes = a.alike.boxes;
           armed = a.alike.armed;
           texts = a.alike.texts;
           registrations = a.alike.registrations;
@@ -385,15 +394,19 @@ module _ (law : TextsDecideNothing) (tables : TablesStayAlike) (told : CallsAreT
     asks_too = tt;
   }
 
-  -- of the calls, or else of the rooms
+  -- ---- who hears that a request has no answer, or that a transaction ended
+
+  -- of the calls, of the mailboxes, or else of the rooms
   silenced-alike : (at : ℕ) (branch method : List ℕ) (whose : Whose) (v w : World) → K (silenced e token at branch method whose w).acts → Two v w →
       Two (silenced d token at branch method whose v) (silenced e token at branch method whose w)
   silenced-alike at branch method OfCalls v w k a = signalled-alike at (signal.Silent branch method) (signal.Silent branch method) Plain Plain v w a (silent_says at branch method v w) k
+  silenced-alike at branch method OfBoxes v w k a = box_answered-alike law records d e token keys sites K older knows (behind_cookie branch) 408 v w a
   silenced-alike at branch method OfRooms v w k a = seated-alike at (both.Silent branch method) v w a tt tt k
 
   ended_of-alike : (at : ℕ) (key : TKey) (whose : Whose) (v w : World) → K (ended_of e token at key whose w).acts → Two v w →
       Two (ended_of d token at key whose v) (ended_of e token at key whose w)
   ended_of-alike at key OfCalls v w k a = signalled-alike at (signal.Over key) (signal.Over key) Plain Plain v w a (over_says at key v w) k
+  ended_of-alike at key OfBoxes v w k a = a
   ended_of-alike at key OfRooms v w k a = seated-alike at (both.Over key) v w a tt tt k
 
   -- ---- deadlines
@@ -440,7 +453,7 @@ module _ (law : TextsDecideNothing) (tables : TablesStayAlike) (told : CallsAreT
   moment_due due.Nothing = 0
 
   abbrev silent_in : Directory → (at : ℕ) → (branch method : List ℕ) → World → World
-  silent_in x at branch method u = silenced x token at branch method (whose_branch (invite_silent branch method) (calls_in x u).entries) u
+  silent_in x at branch method u = silenced x token at branch method (whose_branch (invite_silent branch method) (behind_cookie branch) (calls_in x u).entries (boxes_in u)) u
 
   rung_silent : (i j : ℕ) (branch other method way : List ℕ) (v w : World) → i ≡ j → branch ≡ other → method ≡ way → K (silent_in e j other way w).acts → Two v w →
       Two (silent_in d i branch method v) (silent_in e j other way w)
@@ -448,8 +461,8 @@ module _ (law : TextsDecideNothing) (tables : TablesStayAlike) (told : CallsAreT
       subst (λ (n : ℕ). Two (silent_in d n branch method v) (silent_in e j other way w)) (sym moment)
       (subst (λ (b : List ℕ). Two (silent_in d j b method v) (silent_in e j other way w)) (sym one)
       (subst (λ (m : List ℕ). Two (silent_in d j other m v) (silent_in e j other way w)) (sym two)
-      (subst (λ (whose : Whose). Two (silenced d token j other way whose v) (silent_in e j other way w)) (sym (branches_alike (invite_silent other way) v w a))
-      (silenced-alike j other way (whose_branch (invite_silent other way) (calls_in e w).entries) v w k a))))
+      (subst (λ (whose : Whose). Two (silenced d token j other way whose v) (silent_in e j other way w)) (sym (branches_alike (invite_silent other way) (behind_cookie other) v w a))
+      (silenced-alike j other way (whose_branch (invite_silent other way) (behind_cookie other) (calls_in e w).entries (boxes_in w)) v w k a))))
 
   abbrev over_in : Directory → (at : ℕ) → TKey → World → World
   over_in x at key u = ended_of x token at key (whose_key key (calls_in x u).entries) u
@@ -502,6 +515,7 @@ module _ (law : TextsDecideNothing) (tables : TablesStayAlike) (told : CallsAreT
       calls = a.alike.calls;
       opened = a.alike.opened;
       rooms = a.alike.rooms;
+      boxes = a.alike.boxes;
       armed = a.alike.armed;
       texts = a.alike.texts;
       registrations = a.alike.registrations;
@@ -533,6 +547,7 @@ module _ (law : TextsDecideNothing) (tables : TablesStayAlike) (told : CallsAreT
       calls = a.alike.calls;
       opened = a.alike.opened;
       rooms = a.alike.rooms;
+      boxes = a.alike.boxes;
       armed = refl;
       texts = a.alike.texts;
       registrations = a.alike.registrations;
@@ -546,6 +561,7 @@ module _ (law : TextsDecideNothing) (tables : TablesStayAlike) (told : CallsAreT
   alarmed-alike : (at : ℕ) (x : Alarm) (v w : World) → K (alarmed e token at x w).acts → Two v w → Two (alarmed d token at x v) (alarmed e token at x w)
   alarmed-alike at (OfCall call what) v w k a = signalled-alike at (signal.Due call what) (signal.Due call what) Plain Plain v w a (due_says at call what v w) k
   alarmed-alike at (OfSeat room seat what) v w k a = seated-alike at (both.Due room seat what) v w a tt tt k
+  alarmed-alike at (OfBox sub set) v w k a = box_due-alike law records d e token keys sites K older knows at sub set v w a
 
   fired-alike : (now : ℕ) (x : Deadline) (v w : World) → K (fired e token now x w).acts → Two v w → Two (fired d token now x v) (fired e token now x w)
   fired-alike now OfMessage v w k a = fired_in-alike now (begun v) (begun w) k (begun-alike v w a)

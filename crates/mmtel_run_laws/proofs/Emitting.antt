@@ -166,6 +166,7 @@ module _ (law : TextsDecideNothing) (records : List Sheet) (d e : Directory) (ke
       calls = a.alike.calls;
       opened = a.alike.opened;
       rooms = a.alike.rooms;
+      boxes = a.alike.boxes;
       armed = a.alike.armed;
       texts = a.alike.texts;
       registrations = a.alike.registrations;
@@ -186,6 +187,7 @@ module _ (law : TextsDecideNothing) (records : List Sheet) (d e : Directory) (ke
       calls = a.alike.calls;
       opened = a.alike.opened;
       rooms = a.alike.rooms;
+      boxes = a.alike.boxes;
       armed = a.alike.armed;
       texts = a.alike.texts;
       registrations = a.alike.registrations;
@@ -206,6 +208,7 @@ module _ (law : TextsDecideNothing) (records : List Sheet) (d e : Directory) (ke
       calls = a.alike.calls;
       opened = a.alike.opened;
       rooms = a.alike.rooms;
+      boxes = a.alike.boxes;
       armed = a.alike.armed;
       texts = a.alike.texts;
       registrations = a.alike.registrations;
@@ -226,7 +229,8 @@ module _ (law : TextsDecideNothing) (records : List Sheet) (d e : Directory) (ke
       (λ p strange. ap (λ (o : Option Peer). view p (to_peer at (message_text m) o)) peers ∙ peer_offer d p at (message_text m) (message_text n) (peer_of key.0 (live w.acts)) strange text)
       (acting-alike _ _ v w (((law (trusts d) v.acts w.acts a.alike.acts).1).replies key.0 m n at head number text) a)
 
-  ask-alike : (at : ℕ) (peer : Peer) (m n : Message Start) (v w : World) → head_of m ≡ head_of n → (trusts d peer ≡ false → message_text m ≡ message_text n) → Two v w → Two (emit_one at (emit.Ask peer m) v) (emit_one at (emit.Ask peer n) w)
+  pub ask-alike : (at : ℕ) (peer : Peer) (m n : Message Start) (v w : World) → head_of m ≡ head_of n → (trusts d peer ≡ false → message_text m ≡ message_text n) → Two v w →
+      Two (emit_one at (emit.Ask peer m) v) (emit_one at (emit.Ask peer n) w)
   ask-alike at peer m n v w head text a =
       offering-alike (offer.To peer at (message_text m) ∷ []) (offer.To peer at (message_text n) ∷ []) _ _
       (λ p strange. one_offer d p peer at (message_text m) (message_text n) strange text)
@@ -245,7 +249,7 @@ module _ (law : TextsDecideNothing) (records : List Sheet) (d e : Directory) (ke
   settle-alike : (at : ℕ) (key : TKey) (own : Option ℕ) (v w : World) → Two v w → Two (emit_one at (emit.Settled key own) v) (emit_one at (emit.Settled key own) w)
   settle-alike at key own v w a = acting-alike _ _ v w (((law (trusts d) v.acts w.acts a.alike.acts).1).settles key.0 own) a
 
-  arm-alike : (x : Alarm) (when : ℕ) (v w : World) → Two v w
+  pub arm-alike : (x : Alarm) (when : ℕ) (v w : World) → Two v w
       → Two (arming (record { alarm = x; at = when; step = v.steps - 1 }) v) (arming (record { alarm = x; at = when; step = w.steps - 1 }) w)
   arm-alike x when v w a = record {
     alike = record {
@@ -256,6 +260,7 @@ module _ (law : TextsDecideNothing) (records : List Sheet) (d e : Directory) (ke
       calls = a.alike.calls;
       opened = a.alike.opened;
       rooms = a.alike.rooms;
+      boxes = a.alike.boxes;
       armed = ap (λ (l : List Waiting). l ++ record { alarm = x; at = when; step = v.steps - 1 } ∷ []) a.alike.armed ∙ ap (λ (n : ℕ). w.armed ++ record { alarm = x; at = when; step = n - 1 } ∷ []) a.alike.steps;
       texts = a.alike.texts;
       registrations = a.alike.registrations;

@@ -101,7 +101,7 @@ goes_more w v (emit.Ask peer message) e g = offered_more w v peer (message_text 
 goes_more w v (emit.Reply key message) e (at, g) = (at, handed_more w v key.0 message (DidReply key.0 message at) e g)
 goes_more w v (emit.Plain peer text) e g = offered_more w v peer text e g
 goes_more w v (emit.Ack key message) e g = handed_more w v key.0 message (DidAck key.0 message) e g
-goes_more w v (emit.Settled key own) e g = tt
+goes_more w v (emit.Settled key own) e g = subst (IsIn (DidSettle key.0 own)) (sym e.on_acts) (in-right (DidSettle key.0 own) e.acts w.acts g)
 goes_more w v (emit.Arm call what at) e g = tt
 goes_more w v (emit.ArmSeat room seat what at) e g = tt
 
@@ -132,7 +132,7 @@ emit_goes at (emit.Ack key message) w = record {
   done = refl;
   offered = λ peer is. (at, in-right _ w.offers _ (to_peer_is at (message_text message) peer (peer_of key.0 (live w.acts)) is));
 }
-emit_goes at (emit.Settled key own) w = tt
+emit_goes at (emit.Settled key own) w = inl refl
 emit_goes at (emit.Arm call what when) w = tt
 emit_goes at (emit.ArmSeat room seat what when) w = tt
 

@@ -1,6 +1,6 @@
 -- What is true of all that was done on the transactions was true of it before: deeds only add to that list.
 use Rattle.std.proofs.Common.{ℕ, zero, suc, List, [], ◌∷◌, ◌++◌, length, Bool, true, false, Option, Some, None, Result, Ok, Err}
-use Rattle.mmtel_answers.specs.Said.{Said}
+use Rattle.mmtel_answers.specs.Said.{Said, status_of}
 use Rattle.mmtel_b2bua.specs.Histories.{Deed, Drops, Finishes, Hears, Releases, Restores, finished_by, hears_after}
 use Rattle.mmtel_b2bua.specs.Lending.{leg_out}
 use Rattle.mmtel_b2bua.specs.Names.{party}
@@ -16,7 +16,7 @@ use Rattle.mmtel_focus.specs.declared.referrals.Replaces.{Replaces}
 use Rattle.mmtel_focus.specs.declared.signals.RoomSignal.{RoomSignal}
 use Rattle.mmtel_focus.specs.declared.signals.RoomSignal.TheVariants as of_room
 use Rattle.mmtel_leg.specs.declared.legs.Released.{Released}
-use Rattle.mmtel_desk.specs.Invites.{invite_answered, invite_silent}
+use Rattle.mmtel_desk.specs.Invites.{behind_cookie, branch_in, invite_answered, invite_silent}
 use Rattle.mmtel_transaction.specs.Answers.{Next, fires, hear_says, is_merged, next_due, part_of, says_due}
 use Rattle.mmtel_transaction.specs.Calls.{DidAck, DidAsk, DidBegin, DidFire, DidSettle, DidHear, DidReply, Done, live}
 use Rattle.mmtel_transaction.specs.Heads.{head_of}
@@ -35,15 +35,23 @@ use Rattle.mmtel_types.specs.declared.numbers.RoomNo.{RoomNo}
 use Rattle.mmtel_types.specs.declared.sides.Side.{Side}
 use Rattle.mmtel_run.specs.Answers.{Answer, plainly, response_to, tag_for}
 use Rattle.mmtel_run.specs.Calls.{are_full, arrived, asked_by, site_of}
-use Rattle.mmtel_run.specs.Deadlines.{Alarm, Deadline, OfAlarm, OfCall, OfMessage, OfSeat}
+use Rattle.mmtel_run.specs.Deadlines.{Alarm, Deadline, OfAlarm, OfBox, OfCall, OfMessage, OfSeat}
 use Rattle.mmtel_run.specs.Events.{Digest, Nothing, Refused, Heard, Asked, Notice, message_in}
 use Rattle.mmtel_run.specs.Records.{until_of}
-use Rattle.mmtel_run.specs.Refusals.{Course, Refuse, Enter, EnterRoom, Open, OpenRoom, JoinRoom, Register, course}
-use Rattle.mmtel_run.specs.Rooms.{Holder, InCall, InRoom, OfCalls, OfRooms, Whose, account_of_side, whose_branch, whose_key, is_with, replacement_in, side_replaced, status_by}
+use Rattle.mmtel_run.specs.Refusals.{Course, Refuse, Enter, EnterRoom, Open, OpenRoom, JoinRoom, Register, Subscribe, EnterBox, course}
+use Rattle.mmtel_run.specs.Rooms.{Holder, InBox, InCall, InRoom, OfBoxes, OfCalls, OfRooms, Whose, account_of_side, whose_branch, whose_key, is_with, replacement_in, side_replaced, status_by}
 use Rattle.mmtel_run.specs.Run.{after, clock_at, due_in, fire_one, fired_if, one_more, settled}
-use Rattle.mmtel_run.specs.World.{World, acknowledging_by, adopting, adoption_of, alarmed, answering, begun, bringing, calls_in, came, cancelling, cancelling_call, comes_of, drawing, emit_one, emitted, ended_of, entering_room, fired, finishing, handing, heard_in_rooms, heard_now, hearing, holder_in, housed, joining_of, joining_room, lending, lodging, met, next_tag, noticed, opening_of, opening_room, registering, repeating, replaced, replaced_by, replaced_with, replacing, replying, responding_to, room_joined, room_opened, rooms_in, rung, seated, signalled, silenced, taken_out, taking, told, tokens_now}
+use Rattle.mmtel_web.specs.Uploads.{put_in}
+use Rattle.mmtel_run.specs.Subscriptions.{granting, noting, other_answer, refusing_answer}
+use Rattle.mmtel_run.proofs.BoxSteps as mailing
+use Rattle.mmtel_run.proofs.BoxSteps.{AreAnswers, AreSteps, tells_in}
+use Rattle.mmtel_run.specs.World.{World, boxes_in, serving, acknowledging_by, adopting, adoption_of, alarmed, answering, begun, bringing, calls_in, came, cancelling, cancelling_call, comes_of, drawing, emit_one, emitted, ended_of, entering_room, fired, finishing, handing, heard_in_rooms, heard_now, hearing, holder_in, housed, joining_of, joining_room, lending, lodging, met, next_tag, noticed, opening_of, opening_room, registering, repeating, replaced, replaced_by, replaced_with, replacing, replying, responding_to, room_joined, room_opened, rooms_in, rung, seated, signalled, silenced, taken_out, taking, told, tokens_now}
 
 -- P is of all that was done, and of all that was done before
+-- whatever is asked, and whatever refuses it
+abbrev pub Anyhow : (within : Bool) → Option ℕ → Type 0
+Anyhow within o = Unit {0}
+
 module _ (P : List Done → Type 0) (older : (x : Done) (h : List Done) → P (x ∷ h) → P h) where
   abbrev AllTrue : World → Type 0
   AllTrue w = P w.acts
@@ -70,6 +78,13 @@ module _ (P : List Done → Type 0) (older : (x : Done) (h : List Done) → P (x
 
   replying_before : (d : Directory) (token : List ℕ) (at : ℕ) (key : TKey) (s : Said) (answer : Answer) (w : World) → AllTrue (replying d token at key s answer w) → AllTrue w
   replying_before d token at key s answer w e = older (DidReply key.0 (response_to d.sip (tag_for token w.drawn s.heard.to_tag) s answer) at) w.acts e
+
+  -- from a later world to an earlier one
+  abbrev Back : World → World → Type 0
+  Back w v = AllTrue v → AllTrue w
+
+  then_back : (u v w : World) → Back u v → Back v w → Back u w
+  then_back u v w first second e = first (second e)
 
   pub handing_before : (took : Bool) (rows : List Row) (w : World) → AllTrue (handing took rows w) → AllTrue w
   handing_before took [] w e = e
@@ -99,23 +114,51 @@ module _ (P : List Done → Type 0) (older : (x : Done) (h : List Done) → P (x
     pub noticed_before : (at : ℕ) (room : RoomNo) (seat code : ℕ) (w : World) → AllTrue (noticed d token at room seat code w) → AllTrue w
     noticed_before at room seat code w e = housed_before at (rooms.Notifies room.0 seat code (tokens_now token w)) w e
 
+    -- ---- mailboxes
+
+    box_steps : (at : ℕ) → AreSteps d token at Back
+    box_steps at = record {
+      same = λ w e. e;
+      next = then_back;
+      notes = λ deed w none e. e;
+      draws = λ w e. e;
+      arms = λ armed w e. e;
+      asks = λ sub last peer message w lives is. emitted_before at (emit.Ask peer message ∷ []) (tells_in token sub w);
+    }
+
+    box_answers : (at : ℕ) (key : TKey) (s : Said) → AreAnswers d token at Back key s Anyhow
+    box_answers at key s = record {
+      reads = λ within. tt;
+      subscribes = λ account until w may e. e;
+      grants = λ deed seconds w may. emitted_before at (emit.Reply key (response_to d.sip (next_tag token w) s (granting seconds)) ∷ []) (noting deed (drawing 1 w));
+      renews = λ seconds w may. replying_before d token at key s (granting seconds) w;
+      refuses = λ within code w may. replying_before d token at key s (refusing_answer code) w;
+      denies = λ code w is. replying_before d token at key s (plainly code) w;
+      others = λ w is. replying_before d token at key s (other_answer d s.heard) w;
+    }
+
+    -- ---- deadlines
+
     silenced_before : (at : ℕ) (branch method : List ℕ) (whose : Whose) (w : World) → AllTrue (silenced d token at branch method whose w) → AllTrue w
     silenced_before at branch method OfCalls w e = signalled_before at (signal.Silent branch method) w e
+    silenced_before at branch method OfBoxes w e = mailing.answered Back (λ v e. e) (λ deed v none e. e) (behind_cookie branch) 408 w e
     silenced_before at branch method OfRooms w e = seated_before at (of_room.Silent branch method) w e
 
     ended_of_before : (at : ℕ) (key : TKey) (whose : Whose) (w : World) → AllTrue (ended_of d token at key whose w) → AllTrue w
     ended_of_before at key OfCalls w e = signalled_before at (signal.Over key) w e
+    ended_of_before at key OfBoxes w e = e
     ended_of_before at key OfRooms w e = seated_before at (of_room.Over key) w e
 
     rung_before : (x : Due) (w : World) → AllTrue (rung d token x w) → AllTrue w
     rung_before (due.Again peer at text) w e = e
-    rung_before (due.Silent key branch method at) w e = silenced_before at branch method (whose_branch (invite_silent branch method) (calls_in d w).entries) w e
+    rung_before (due.Silent key branch method at) w e = silenced_before at branch method (whose_branch (invite_silent branch method) (behind_cookie branch) (calls_in d w).entries (boxes_in w)) w e
     rung_before (due.Over key at) w e = ended_of_before at key (whose_key key (calls_in d w).entries) w e
     rung_before due.Nothing w e = e
 
     alarmed_before : (at : ℕ) (x : Alarm) (w : World) → AllTrue (alarmed d token at x w) → AllTrue w
     alarmed_before at (OfCall call what) w e = signalled_before at (signal.Due call what) w e
     alarmed_before at (OfSeat room seat what) w e = seated_before at (of_room.Due room seat what) w e
+    alarmed_before at (OfBox sub set) w e = mailing.ends d token at Back (box_steps at) sub set w e
 
     fired_before : (now : ℕ) (x : Deadline) (w : World) → AllTrue (fired d token now x w) → AllTrue w
     fired_before now OfMessage w e =
@@ -194,6 +237,8 @@ module _ (P : List Done → Type 0) (older : (x : Done) (h : List Done) → P (x
       taking_before key OpenRoom w e = opening_room_before key w e
       taking_before key (JoinRoom room) w e = joining_room_before key room w e
       taking_before key (Register account seconds) w e = replying_before d token at key s (plainly 200) (registering account (until_of at seconds) w) e
+      taking_before key Subscribe w e = mailing.subscribes d token at Back (box_steps at) key s Anyhow (box_answers at key s) w e
+      taking_before key (EnterBox sub) w e = mailing.enters d token at Back (box_steps at) key s Anyhow (box_answers at key s) sub w e
 
       repeating_before : (o : Option (Peer × List ℕ)) (w : World) → AllTrue (repeating at o w) → AllTrue w
       repeating_before None w e = e
@@ -211,15 +256,17 @@ module _ (P : List Done → Type 0) (older : (x : Done) (h : List Done) → P (x
       acknowledging_by_before None w e = e
       acknowledging_by_before (Some (InCall call side)) w e = signalled_before at (signal.Ack call side s) w e
       acknowledging_by_before (Some (InRoom room seat)) w e = seated_before at (of_room.Ack room seat s) w e
+      acknowledging_by_before (Some (InBox sub)) w e = e
 
       responding_to_before : (key : TKey) (whose : Whose) (w : World) → AllTrue (responding_to d token at key s whose w) → AllTrue w
       responding_to_before key OfCalls w e = signalled_before at (signal.Answer key s) w e
+      responding_to_before key OfBoxes w e = mailing.answered Back (λ v e. e) (λ deed v none e. e) (branch_in s.heard.vias) (status_of s.heard.start) w e
       responding_to_before key OfRooms w e = seated_before at (of_room.Answer key s) w e
 
       pub answering_before : (o : Option transaction.Heard) (w : World) → AllTrue (answering d token at s o w) → AllTrue w
       answering_before None w e = e
       answering_before (Some (heard.Fresh key message)) w e = taking_before key (course d (is_merged key.0 (live w.acts)) (are_full (calls_in d w).entries) (holder_in d s.heard w) s.heard) w e
-      answering_before (Some (heard.Answer key message)) w e = responding_to_before key (whose_branch (invite_answered s) (calls_in d w).entries) w e
+      answering_before (Some (heard.Answer key message)) w e = responding_to_before key (whose_branch (invite_answered s) (branch_in s.heard.vias) (calls_in d w).entries (boxes_in w)) w e
       answering_before (Some (heard.Repeat sent)) w e = repeating_before sent w e
       answering_before (Some (heard.Acked key)) w e = e
       answering_before (Some (heard.Cancel key invite message)) w e = cancelling_before key invite w e
@@ -239,7 +286,7 @@ module _ (P : List Done → Type 0) (older : (x : Done) (h : List Done) → P (x
     met_before at Nothing w e = e
     met_before at (Refused peer source reply) w e = e
     met_before at (Heard said) w e = told_before at said w e
-    met_before at (Asked request kept rows) w e = e
+    met_before at (Asked request kept rows) w e = mailing.puts d token at Back (box_steps at) (λ account counts v f. f) (put_in d.names request kept) (serving d at request kept rows w) e
 
     pub came_before : (at : ℕ) (x : Digest) (took : Bool) (w : World) → AllTrue (came d token at x took w) → AllTrue w
     came_before at x took w e =

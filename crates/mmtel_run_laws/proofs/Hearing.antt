@@ -1,4 +1,5 @@
--- What is done on calls and rooms in one event of a run: what calls hear they hear with the records and registrations that were in force before it, and each request with a server transaction of its own; a leg that is put back is of the side that is away; and no seat of a room is left, and no room closed, without a signal.
+-- What is done on calls and rooms in one event of a run: what calls hear they hear with the records and registrations that were in force before it, and each request with a server transaction
+-- of its own; a leg that is put back is of the side that is away; and no seat of a room is left, and no room closed, without a signal. What is done on mailboxes is none of this.
 -- The words of a run are walked once. A world stands so still where nothing is done on calls and rooms, and after a deed on calls, and after one on rooms.
 use Rattle.std.proofs.Common.{◌≡◌, ℕ, zero, suc, ◌+◌, List, [], ◌∷◌, ◌++◌, length, refl, sym, ap, ◌∙◌, subst, ◌≤◌, arith, le_refl, ◌==◌, inl, inr, Bool, true, false, Option, Some, None, IfSome, Result, Ok, Err}
 use Rattle.std.specs.Prelude.{if◌then◌else◌, is_some, nat_le, option_map, slice_get}
@@ -6,7 +7,7 @@ use Rattle.std.specs.List.{find}
 use Rattle.std.proofs.lemmas.Bool.{eq-eqb, eqb-true}
 use Rattle.std.proofs.lemmas.Bool.Decides.{nat_tests}
 use Rattle.std.proofs.lemmas.Option.{none-some}
-use Rattle.mmtel_answers.specs.Said.{Said}
+use Rattle.mmtel_answers.specs.Said.{Said, status_of}
 use Rattle.mmtel_b2bua.specs.Histories.{Deed, Drops, Finishes, Hears, Releases, Restores, finished_by, hears_after, table_after}
 use Rattle.mmtel_b2bua.specs.Lending.{entry_of, leg_out, takes_back}
 use Rattle.mmtel_b2bua.specs.Names.{party}
@@ -14,7 +15,7 @@ use Rattle.mmtel_b2bua.specs.declared.signals.Signal.{Signal}
 use Rattle.mmtel_b2bua.specs.declared.signals.Signal.TheVariants as signal
 use Rattle.mmtel_b2bua_laws.specs.Deeds.{out_by}
 use Rattle.mmtel_b2bua_laws.specs.Legs.{LegsGoBack}
-use Rattle.mmtel_desk.specs.Invites.{invite_answered, invite_silent}
+use Rattle.mmtel_desk.specs.Invites.{behind_cookie, branch_in, invite_answered, invite_silent}
 use Rattle.mmtel_call_decisions.specs.Site.{Site}
 use Rattle.mmtel_call_laws.specs.Heads.Emits.{Each}
 use Rattle.mmtel_charging.specs.declared.rows.Row.{Row}
@@ -48,18 +49,25 @@ use Rattle.mmtel_types.specs.declared.numbers.Account.{Account}
 use Rattle.mmtel_types.specs.declared.numbers.CallNo.{CallNo}
 use Rattle.mmtel_types.specs.declared.numbers.Peer.{Peer}
 use Rattle.mmtel_types.specs.declared.numbers.RoomNo.{RoomNo}
+use Rattle.mmtel_types.specs.declared.numbers.SubNo.{SubNo}
 use Rattle.mmtel_types.specs.declared.sides.Side.{Side}
+use Rattle.mmtel_web.specs.Uploads.{put_in}
+use Rattle.mmtel_mwi.specs.Histories as boxes
+use Rattle.mmtel_mwi.specs.declared.counts.Counts.{Counts}
 use Rattle.mmtel_run.specs.Answers.{Answer, plainly, response_to, tag_for}
 use Rattle.mmtel_run.specs.Calls.{are_full, arrived, asked_by, site_of}
 use Rattle.mmtel_run.specs.Deadlines as deadlines
-use Rattle.mmtel_run.specs.Deadlines.{Alarm, Armed, Chosen, Deadline, OfAlarm, OfCall, OfMessage, OfSeat, choose, chosen, comes_before, first_armed, first_of, is_sooner}
+use Rattle.mmtel_run.specs.Deadlines.{Alarm, Armed, Chosen, Deadline, OfAlarm, OfBox, OfCall, OfMessage, OfSeat, choose, chosen, comes_before, first_armed, first_of, is_sooner}
 use Rattle.mmtel_run.specs.Events.{Digest, Notice, message_in}
 use Rattle.mmtel_run.specs.Events as events
 use Rattle.mmtel_run.specs.Records.{in_force, until_of}
-use Rattle.mmtel_run.specs.Refusals.{Course, Refuse, Enter, EnterRoom, Open, OpenRoom, JoinRoom, Register, course}
-use Rattle.mmtel_run.specs.Rooms.{Holder, InCall, InRoom, OfCalls, OfRooms, Whose, account_of_side, whose_key, whose_branch, is_with, replacement_in, rooms_site, side_replaced, status_by}
+use Rattle.mmtel_run.specs.Refusals.{Course, Refuse, Enter, EnterRoom, Open, OpenRoom, JoinRoom, Register, Subscribe, EnterBox, course}
+use Rattle.mmtel_run.specs.Rooms.{Holder, InBox, InCall, InRoom, OfBoxes, OfCalls, OfRooms, Whose, account_of_side, whose_key, whose_branch, is_with, leg_by, replacement_in, rooms_site, side_replaced, status_by}
 use Rattle.mmtel_run.specs.Run.{clock_at, due_in, fire_one, fired_if, one_more, settled}
-use Rattle.mmtel_run.specs.World.{World, acknowledging_by, adopting, adoption_of, alarmed, answering, begun, bringing, calls_in, came, cancelling, cancelling_call, comes_of, drawing, emit_one, emitted, ended_of, entering_room, finishing, fired, handing, heard_in_rooms, heard_now, hearing, holder_in, housed, joining_of, lending, lodging, met, next_tag, noticed, opening_of, registering, repeating, replaced_by, replaced_with, replacing, replying, responding_to, room_joined, room_opened, rooms_in, rung, seated, signalled, silenced, taken_out, taking, tokens_now, told}
+use Rattle.mmtel_run.specs.Subscriptions.{box_answered, box_due, granting, noting, other_answer, putting, refusing_answer}
+use Rattle.mmtel_run.specs.World.{World, acknowledging_by, adopting, adoption_of, alarmed, answering, arming, begun, bringing, calls_in, came, cancelling, cancelling_call, comes_of, drawing, emit_one, emitted, ended_of, entering_room, finishing, fired, handing, heard_in_rooms, heard_now, hearing, holder_in, housed, joining_of, lending, lodging, met, next_tag, noticed, opening_of, registering, repeating, replaced_by, replaced_with, replacing, replying, responding_to, room_joined, room_opened, rooms_in, rung, seated, serving, signalled, silenced, taken_out, taking, tokens_now, told, boxes_in}
+use Rattle.mmtel_run.proofs.BoxSteps as steps
+use Rattle.mmtel_run.proofs.BoxSteps.{AreAnswers, AreSteps, tells_in}
 use Rattle.mmtel_run_laws.proofs.Awaiting.{IsWaiting}
 use Rattle.mmtel_run_laws.proofs.Keyed.{HasKey, HasNoKey, Keyed, all_other, ended_keyed, dropped_keyed, fresh_keyed, keys, keys_fresh, keys_grow, more_keyed, quiet_keyed, released_keyed, restored_keyed}
 use Rattle.mmtel_run_laws.proofs.Replied.{AllAnswered, HasReply, IsAnswered, IsElsewhere, IsFrom, MayReply, RepliesSo, acts_later, key_from, no_from, replies_elsewhere, replies_more, replies_so}
@@ -483,19 +491,55 @@ module _ (d : Directory) (token : List ℕ) (back : LegsGoBack) (own_law : Rooms
   noticed_still at room seat code w t =
       let deed : rooms.Deed = rooms.Notifies room.0 seat code (tokens_now token w) in housed_still at deed w tt (comes_own (λ k. false) deed w tt (none_own w)) t
 
+  -- ---- mailboxes: whatever holds on as calls and rooms, records and registrations stand, and more calls are made of the transactions, message waiting leaves
+
+  module _ (P : World → Type 0)
+      (more : (w v : World) → v.deeds ≡ w.deeds → v.rooms ≡ w.rooms → v.texts ≡ w.texts → v.registrations ≡ w.registrations → Grows (site_of d) w.deeds w.acts v.acts → P w → P v) where
+    noted_left : (deed : boxes.Deed) (w : World) → P w → P (noting deed w)
+    noted_left deed w = more w (noting deed w) refl refl refl refl (grows_refl w.acts)
+
+    steps_left : (at : ℕ) → AreSteps d token at (λ w v. P w → P v)
+    steps_left at = record {
+      same = λ w p. p;
+      next = λ u v w f g p. g (f p);
+      notes = λ deed w none. noted_left deed w;
+      draws = λ w. more w (drawing 1 w) refl refl refl refl (grows_refl w.acts);
+      arms = λ armed w. more w (arming armed w) refl refl refl refl (grows_refl w.acts);
+      asks = λ sub last peer message w lives is.
+          let v : World = tells_in token sub w in
+          more v (emit_one at (emit.Ask peer message) v) refl refl refl refl (grows (DidAsk peer message at) v.acts (λ r. r) tt);
+    }
+
+  still_more : (w v : World) → v.deeds ≡ w.deeds → v.rooms ≡ w.rooms → v.texts ≡ w.texts → v.registrations ≡ w.registrations → Grows (site_of d) w.deeds w.acts v.acts → StillSo w → StillSo v
+  still_more w v deeds seats texts registrations g t = quiet w v deeds seats texts registrations g t
+
+  adds_more : (w v : World) → v.deeds ≡ w.deeds → v.rooms ≡ w.rooms → v.texts ≡ w.texts → v.registrations ≡ w.registrations → Grows (site_of d) w.deeds w.acts v.acts → AddsSo w → AddsSo v
+  adds_more w v deeds seats texts registrations g t = alone w v deeds seats g t
+
+  box_answered_still : (branch : Option (List ℕ)) (code : ℕ) (w : World) → StillSo w → StillSo (box_answered branch code w)
+  box_answered_still = steps.answered (λ w v. StillSo w → StillSo v) (λ w t. t) (λ deed w none. noted_left StillSo still_more deed w)
+
+  box_due_still : (at : ℕ) (sub : SubNo) (set : ℕ) (w : World) → StillSo w → StillSo (box_due d token at sub set w)
+  box_due_still at = steps.ends d token at (λ w v. StillSo w → StillSo v) (steps_left StillSo still_more at)
+
+  putting_adds : (put : Option (Account × Counts)) (w : World) → AddsSo w → AddsSo (putting d token now put w)
+  putting_adds = steps.puts d token now (λ w v. AddsSo w → AddsSo v) (steps_left AddsSo adds_more now) (λ account counts w. noted_left AddsSo adds_more (boxes.Puts account counts) w)
+
   -- ---- deadlines
 
   silenced_still : (at : ℕ) (branch method : List ℕ) (whose : Whose) (w : World) → at ≤ now → StillSo w → StillSo (silenced d token at branch method whose w)
   silenced_still at branch method OfCalls w le t = signalled_still at (signal.Silent branch method) w le tt t
+  silenced_still at branch method OfBoxes w le t = box_answered_still (behind_cookie branch) 408 w t
   silenced_still at branch method OfRooms w le t = seated_still at (of_room.Silent branch method) w tt t
 
   over_still : (at : ℕ) (key : TKey) (whose : Whose) (w : World) → at ≤ now → StillSo w → StillSo (ended_of d token at key whose w)
   over_still at key OfCalls w le t = signalled_still at (signal.Over key) w le tt t
+  over_still at key OfBoxes w le t = t
   over_still at key OfRooms w le t = seated_still at (of_room.Over key) w tt t
 
   rung_still : (x : Due) (w : World) → DueBy now x → StillSo w → StillSo (rung d token x w)
   rung_still (due.Again peer at text) w le t = quiet w _ refl refl refl refl (grows_refl w.acts) t
-  rung_still (due.Silent key branch method at) w le t = silenced_still at branch method (whose_branch (invite_silent branch method) (calls_in d w).entries) w le t
+  rung_still (due.Silent key branch method at) w le t = silenced_still at branch method (whose_branch (invite_silent branch method) (behind_cookie branch) (calls_in d w).entries (boxes_in w)) w le t
   rung_still (due.Over key at) w le t = over_still at key (whose_key key (calls_in d w).entries) w le t
   rung_still due.Nothing w le t = t
 
@@ -510,6 +554,7 @@ module _ (d : Directory) (token : List ℕ) (back : LegsGoBack) (own_law : Rooms
   alarmed_still : (at : ℕ) (x : Alarm) (w : World) → at ≤ now → StillSo w → StillSo (alarmed d token at x w)
   alarmed_still at (OfCall call what) w le t = signalled_still at (signal.Due call what) w le tt t
   alarmed_still at (OfSeat room seat what) w le t = seated_still at (of_room.Due room seat what) w tt t
+  alarmed_still at (OfBox sub set) w le t = box_due_still at sub set w t
 
   fired_still : (x : Deadline) (w : World) → DeadlineBy now x → StillSo w → StillSo (fired d token now x w)
   fired_still OfMessage w le t =
@@ -533,6 +578,43 @@ module _ (d : Directory) (token : List ℕ) (back : LegsGoBack) (own_law : Rooms
     replying_adds : (key : TKey) (answer : Answer) (w : World) → IsAway w key.0 → AddsSo w → AddsSo (replying d token now key s answer w)
     replying_adds key answer w away t =
         alone w _ refl refl (grows (DidReply key.0 (response_to d.sip (tag_for token w.drawn s.heard.to_tag) s answer) now) w.acts (λ r. r) (inr away)) t
+
+    -- a request for a mailbox: by its transaction no call was opened
+    abbrev AddsAway : TKey → World → Type 0
+    AddsAway key w = AddsSo w × IsAway w key.0
+
+    away_more : (key : TKey) (w v : World) → v.deeds ≡ w.deeds → v.rooms ≡ w.rooms → v.texts ≡ w.texts → v.registrations ≡ w.registrations → Grows (site_of d) w.deeds w.acts v.acts →
+        AddsAway key w → AddsAway key v
+    away_more key w v deeds seats texts registrations g t = (
+      alone w v deeds seats g t.0,
+      subst (IsElsewhere (keys v.acts) key.0) (sym deeds) (record { below = omega (arith, g.le, t.1.below); other = t.1.other }),
+    )
+
+    replied_away : (key : TKey) (answer : Answer) (w : World) → AddsAway key w → AddsAway key (replying d token now key s answer w)
+    replied_away key answer w t =
+        away_more key w _ refl refl refl refl (grows (DidReply key.0 (response_to d.sip (tag_for token w.drawn s.heard.to_tag) s answer) now) w.acts (λ r. r) (inr t.1)) t
+
+    abbrev LeftAway : TKey → World → World → Type 0
+    LeftAway key w v = AddsAway key w → AddsAway key v
+
+    steps_away : (key : TKey) → AreSteps d token now (LeftAway key)
+    steps_away key = steps_left (AddsAway key) (away_more key) now
+
+    abbrev Anyhow : (within : Bool) → Option ℕ → Type 0
+    Anyhow within o = Unit {0}
+
+    answers_away : (key : TKey) → AreAnswers d token now (LeftAway key) key s Anyhow
+    answers_away key = record {
+      reads = λ within. tt;
+      subscribes = λ account until w may. noted_left (AddsAway key) (away_more key) (boxes.Subscribes account (leg_by (next_tag token w) s) until) (drawing 1 w);
+      grants = λ deed seconds w may t.
+          let v : World = noting deed (drawing 1 w) in
+          away_more key v _ refl refl refl refl (grows (DidReply key.0 (response_to d.sip (next_tag token w) s (granting seconds)) now) v.acts (λ r. r) (inr t.1)) t;
+      renews = λ seconds w may. replied_away key (granting seconds) w;
+      refuses = λ within code w may. replied_away key (refusing_answer code) w;
+      denies = λ code w above. replied_away key (plainly code) w;
+      others = λ w no. replied_away key (other_answer d s.heard) w;
+    }
 
     opened_still : (key : TKey) (tag : List ℕ) (b : Bool) (w : World) → IsAway w key.0 → StillSo w → StillSo (room_opened d now key s tag b w)
     opened_still key tag true w away t = emit_still now (emit.Reply key (response_to d.sip tag s (plainly 503))) w (inr away) t
@@ -608,6 +690,8 @@ module _ (d : Directory) (token : List ℕ) (back : LegsGoBack) (own_law : Rooms
       taking_adds (JoinRoom room) = (joined_still (tkey n) room (next_tag token w) (access room.0 (rooms_in d w).live) (drawing 1 w) its_own drawn_still).adds
       taking_adds (Register account seconds) =
           replying_adds (tkey n) (plainly 200) (registering account (until_of now seconds) w) its_own (alone w (registering account (until_of now seconds) w) refl refl (grows_refl w.acts) t.adds)
+      taking_adds Subscribe = (steps.subscribes d token now (LeftAway (tkey n)) (steps_away (tkey n)) (tkey n) s Anyhow (answers_away (tkey n)) w (t.adds, its_own)).0
+      taking_adds (EnterBox sub) = (steps.enters d token now (LeftAway (tkey n)) (steps_away (tkey n)) (tkey n) s Anyhow (answers_away (tkey n)) sub w (t.adds, its_own)).0
 
       cancelling_call_adds : (invite : TKey) (o : Option (CallNo × Side)) → AddsSo (cancelling_call d token now (tkey n) s invite o w)
       cancelling_call_adds invite None = replying_adds (tkey n) (plainly 200) w its_own t.adds
@@ -629,9 +713,11 @@ module _ (d : Directory) (token : List ℕ) (back : LegsGoBack) (own_law : Rooms
     acknowledging_still None w t = t
     acknowledging_still (Some (InCall call side)) w t = signalled_still now (signal.Ack call side s) w (le_refl now) tt t
     acknowledging_still (Some (InRoom room seat)) w t = seated_still now (of_room.Ack room seat s) w tt t
+    acknowledging_still (Some (InBox sub)) w t = t
 
     responding_still : (key : TKey) (whose : Whose) (w : World) → StillSo w → StillSo (responding_to d token now key s whose w)
     responding_still key OfCalls w t = signalled_still now (signal.Answer key s) w (le_refl now) tt t
+    responding_still key OfBoxes w t = box_answered_still (branch_in s.heard.vias) (status_of s.heard.start) w t
     responding_still key OfRooms w t = seated_still now (of_room.Answer key s) w tt t
 
     -- the message was taken for this
@@ -657,7 +743,8 @@ module _ (d : Directory) (token : List ℕ) (back : LegsGoBack) (own_law : Rooms
     said_adds (part.Repeat key) w taken t = (repeating_still _ (heard_as (part.Repeat key) w) (heard_still (part.Repeat key) w taken t)).adds
     said_adds (part.Same key) w taken t = (repeating_still _ (heard_as (part.Same key) w) (heard_still (part.Same key) w taken t)).adds
     said_adds (part.Answer key) w taken t =
-        (responding_still (tkey key) (whose_branch (invite_answered s) (calls_in d (heard_as (part.Answer key) w)).entries) (heard_as (part.Answer key) w) (heard_still (part.Answer key) w taken t)).adds
+        (responding_still (tkey key) (whose_branch (invite_answered s) (branch_in s.heard.vias) (calls_in d (heard_as (part.Answer key) w)).entries (boxes_in w)) (heard_as (part.Answer key) w)
+        (heard_still (part.Answer key) w taken t)).adds
     said_adds (part.Acked key) w taken t = (heard_still (part.Acked key) w taken t).adds
     said_adds part.AckOf2xx w taken t = (acknowledging_still (holder_in d s.heard (heard_as part.AckOf2xx w)) (heard_as part.AckOf2xx w) (heard_still part.AckOf2xx w taken t)).adds
     said_adds part.Stray w taken t = (heard_still part.Stray w taken t).adds
@@ -678,7 +765,8 @@ module _ (d : Directory) (token : List ℕ) (back : LegsGoBack) (own_law : Rooms
   met_adds events.Nothing w t = t.adds
   met_adds (events.Refused peer source reply) w t = alone w _ refl refl (grows_refl w.acts) t.adds
   met_adds (events.Heard said) w t = told_adds said w t
-  met_adds (events.Asked request kept rows) w t = alone w _ refl refl (grows_refl w.acts) t.adds
+  met_adds (events.Asked request kept rows) w t =
+      let v : World = serving d now request kept rows w in putting_adds (put_in d.names request kept) v (alone w v refl refl (grows_refl w.acts) t.adds)
 
   handing_adds : (took : Bool) (rows : List Row) (w : World) → AddsSo w → AddsSo (handing took rows w)
   handing_adds took [] w t = t

@@ -24,9 +24,11 @@ mod Transacted
 mod Courses
 mod ShortSessions
 mod Acknowledging
+mod CleanBoxes
 mod Sending
 mod Concluding
 mod Homes
+mod Mailboxes
 -- What it offers:
 mod Adding
 mod Apart
@@ -35,6 +37,7 @@ mod PeersApart
 -- What nobody may learn from it:
 mod Acts
 mod Adopting
+mod BoxesAlike
 mod Branches
 mod Callers
 mod CourseKinds

@@ -30,16 +30,17 @@ use Rattle.mmtel_sheet_values.specs.declared.values.Sheet.{Sheet}
 use Rattle.mmtel_targets.specs.Targets.{as_requested, first_target, new_target}
 use Rattle.mmtel_trust.specs.Accounts.{account_of}
 use Rattle.mmtel_trust.specs.Asserted.{asserted, or_no_uri, uri_in}
-use Rattle.mmtel_trust.specs.Digest.{account_from, or_other, served_origin}
+use Rattle.mmtel_trust.specs.Digest.{HeardMessage, account_from, or_other, served_origin}
 use Rattle.mmtel_trust.specs.declared.accounts.AccountIdentity.{AccountIdentity}
 use Rattle.mmtel_trust.specs.declared.identities.Identities.{Identities}
 use Rattle.mmtel_types.specs.declared.numbers.Account.{Account}
 use Rattle.mmtel_run.specs.Refusals.{account_in, is_register}
+use Rattle.mmtel_run.specs.Subscriptions.{mailbox_named, sender_of}
 use Rattle.mmtel_run_laws.specs.Alike.{AllLookUp, CallerLooksUp, DigestLooksUp, LooksUp}
-use Rattle.mmtel_run_laws.specs.Belonging.{is_opening}
+use Rattle.mmtel_run_laws.specs.Belonging.{is_opening, may_subscribe}
 use Rattle.mmtel_run_laws.specs.Mask.{Asked, Heard, MaskedDigest, Nothing, Refused, Tests}
 use Rattle.mmtel_run_laws.specs.Secret.{RenamedAreLookedUpAlike}
-use Rattle.mmtel_run_laws.specs.Wider.{NobodyIsRenamed, Renames, callers_by, callers_in, diverted_by, forwarded_by, invited_by, looked_up, looked_up_by, opened_by, redirected_by, referred_by, registered_by, targets_in, uri_by_any}
+use Rattle.mmtel_run_laws.specs.Wider.{NobodyIsRenamed, Renames, callers_by, callers_in, diverted_by, forwarded_by, invited_by, looked_up, looked_up_by, opened_by, redirected_by, referred_by, registered_by, subscribed_by, targets_in, uri_by, uri_by_any}
 
 first_true : (a b : Bool) → (a && b) ≡ true → a ≡ true
 first_true true b e = refl
@@ -162,40 +163,55 @@ module _ (one other : Directory) where
       (where_if one.names.accounts other.names.accounts (is_opening left.heard) (targets_in left.heard ++ callers_in left.heard None) a opens))
   caller_looks left (Some tests) a = tt
 
-  message_looks : (left : Said) (tests : Option Tests) →
-      Names (opened_by left.heard tests ++ (redirected_by one.home left ++ (referred_by left.heard ++ registered_by left.heard))) → LooksUp one other left × CallerLooksUp one other left tests
+  -- with message waiting, who subscribes, and to whose mailbox
+  subscriptions_look : (m : HeardMessage) → Names (subscribed_by one m) → may_subscribe one m ≡ true → (sender_of one m ≡ sender_of other m) × (mailbox_named one m ≡ mailbox_named other m)
+  subscriptions_look m a does =
+      let xs : List AccountIdentity = one.names.accounts in
+      let ys : List AccountIdentity = other.names.accounts in
+      let who : Identities = asserted m.trusted m.lines in
+      let all : Names (callers_by who None ++ uri_by (request_uri m.start)) = where_if xs ys (may_subscribe one m) (callers_by who None ++ uri_by (request_uri m.start)) a does in (
+        in_caller xs ys who None (front xs ys (callers_by who None) (uri_by (request_uri m.start)) all),
+        in_option xs ys (or_no_uri (uri_of (request_uri m.start))) (back xs ys (callers_by who None) (uri_by (request_uri m.start)) all),
+      )
+
+  message_looks : (left : Said) (tests : Option Tests) → Names (looked_up_by one (Heard left tests)) → LooksUp one other left × CallerLooksUp one other left tests
   message_looks left tests a =
       let xs : List AccountIdentity = one.names.accounts in
       let ys : List AccountIdentity = other.names.accounts in
-      let opening : Names (opened_by left.heard tests) = front xs ys (opened_by left.heard tests) (redirected_by one.home left ++ (referred_by left.heard ++ registered_by left.heard)) a in
-      let others = back xs ys (opened_by left.heard tests) (redirected_by one.home left ++ (referred_by left.heard ++ registered_by left.heard)) a in
-      let redirects = front xs ys (redirected_by one.home left) (referred_by left.heard ++ registered_by left.heard) others in
-      let more = back xs ys (redirected_by one.home left) (referred_by left.heard ++ registered_by left.heard) others in
+      let in_boxes : List Uri = registered_by left.heard ++ subscribed_by one left.heard in
+      let opening : Names (opened_by left.heard tests) = front xs ys (opened_by left.heard tests) (redirected_by one.home left ++ (referred_by left.heard ++ in_boxes)) a in
+      let others = back xs ys (opened_by left.heard tests) (redirected_by one.home left ++ (referred_by left.heard ++ in_boxes)) a in
+      let redirects = front xs ys (redirected_by one.home left) (referred_by left.heard ++ in_boxes) others in
+      let more = back xs ys (redirected_by one.home left) (referred_by left.heard ++ in_boxes) others in
+      let last : Names in_boxes = back xs ys (referred_by left.heard) in_boxes more in
+      let subscribes : Names (subscribed_by one left.heard) = back xs ys (registered_by left.heard) (subscribed_by one left.heard) last in
       let targets : is_opening left.heard ≡ true → Names (targets_in left.heard) = λ opens.
       front xs ys (targets_in left.heard) (callers_in left.heard tests) (where_if xs ys (is_opening left.heard) (targets_in left.heard ++ callers_in left.heard tests) opening opens) in (
         record {
           target = λ opens. in_target xs ys left.heard.start (believed_user left.heard).user (targets opens).0 (targets opens).1;
           requested = λ opens. (targets opens).0;
           redirect = λ uri is. in_redirect xs ys one.home (redirect_of left) redirects uri is;
-          refer = λ uri asks to. in_referral xs ys (is_method (codes "REFER") left.heard.start) (referral_in left.heard.refer_to) (front xs ys (referred_by left.heard) (registered_by left.heard) more) uri asks to;
-          registrant = in_register xs ys (left.heard.trusted && is_register left.heard) left.heard.to (back xs ys (referred_by left.heard) (registered_by left.heard) more);
+          refer = λ uri asks to. in_referral xs ys (is_method (codes "REFER") left.heard.start) (referral_in left.heard.refer_to) (front xs ys (referred_by left.heard) in_boxes more) uri asks to;
+          registrant = in_register xs ys (left.heard.trusted && is_register left.heard) left.heard.to (front xs ys (registered_by left.heard) (subscribed_by one left.heard) last);
+          subscriber = λ does. (subscriptions_look left.heard subscribes does).0;
+          mailbox = λ does. (subscriptions_look left.heard subscribes does).1;
         },
         caller_looks left tests opening,
       )
 
-  digest_looks : (x : MaskedDigest) → Names (looked_up_by one.home x) → DigestLooksUp one other x
+  digest_looks : (x : MaskedDigest) → Names (looked_up_by one x) → DigestLooksUp one other x
   digest_looks Nothing a = tt
   digest_looks (Refused peer source reply) a = tt
   digest_looks (Heard left tests) a = message_looks left tests a
-  digest_looks (Asked put) a = tt
+  digest_looks (Asked put waits) a = tt
 
-  all_look_up : (events : List (ℕ × MaskedDigest)) → Names (flat_map (λ (event : ℕ × MaskedDigest). looked_up_by one.home event.1) events) → AllLookUp one other events
+  all_look_up : (events : List (ℕ × MaskedDigest)) → Names (flat_map (λ (event : ℕ × MaskedDigest). looked_up_by one event.1) events) → AllLookUp one other events
   all_look_up [] a = tt
   all_look_up (event ∷ events) a =
       let xs : List AccountIdentity = one.names.accounts in
       let ys : List AccountIdentity = other.names.accounts in
-      let rest : List Uri = flat_map (λ (x : ℕ × MaskedDigest). looked_up_by one.home x.1) events in
-      (digest_looks event.1 (front xs ys (looked_up_by one.home event.1) rest a), all_look_up events (back xs ys (looked_up_by one.home event.1) rest a))
+      let rest : List Uri = flat_map (λ (x : ℕ × MaskedDigest). looked_up_by one x.1) events in
+      (digest_looks event.1 (front xs ys (looked_up_by one event.1) rest a), all_look_up events (back xs ys (looked_up_by one event.1) rest a))
 
 -- ---- the law
 
@@ -217,8 +233,8 @@ module _ (agree : LookUpsAgree) where
       let xs : List AccountIdentity = d.names.accounts in
       let ys : List AccountIdentity = e.names.accounts in
       let of_records : List Uri = flat_map (diverted_by d.home) records in
-      let of_events : List Uri = flat_map (λ (event : ℕ × MaskedDigest). looked_up_by d.home event.1) masked.events in
-      let all : AllAgree xs ys (of_records ++ of_events) = all_agree renamed d e renames (looked_up d.home records masked) neutral.here neutral.there in (
+      let of_events : List Uri = flat_map (λ (event : ℕ × MaskedDigest). looked_up_by d event.1) masked.events in
+      let all : AllAgree xs ys (of_records ++ of_events) = all_agree renamed d e renames (looked_up d records masked) neutral.here neutral.there in (
         record {
           equal = record { sip = renames.sip; home = renames.home; factory = renames.factory; reliable = renames.reliable; timer = renames.timer; mwi = renames.mwi; mixer = renames.mixer; peers = renames.peers };
           configured = record {
@@ -238,5 +254,5 @@ none_in none es (u ∷ us) = ap (λ (b : Bool). b && list_all (names_none [] es)
 pub nobody_is_renamed : NoneAreNamed → NobodyIsRenamed
 nobody_is_renamed none d records masked = (
   record { sip = refl; home = refl; peers = refl; factory = refl; bound = refl; country = refl; reliable = refl; timer = refl; mwi = refl; mixer = refl; others = refl },
-  record { here = none_in none d.names.accounts (looked_up d.home records masked); there = none_in none d.names.accounts (looked_up d.home records masked) },
+  record { here = none_in none d.names.accounts (looked_up d records masked); there = none_in none d.names.accounts (looked_up d records masked) },
 )

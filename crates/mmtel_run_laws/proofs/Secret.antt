@@ -19,6 +19,7 @@ use Rattle.mmtel_message.specs.declared.reading.ReadFault.TheVariants as fault
 use Rattle.mmtel_outside.specs.declared.events.Event.{Event}
 use Rattle.mmtel_outside.specs.declared.events.Event.TheVariants as event
 use Rattle.mmtel_outside.specs.declared.events.Offer.TheVariants as offer
+use Rattle.mmtel_mwi.specs.declared.counts.Counts.{Counts}
 use Rattle.mmtel_sheet_grammar.specs.Texts.{kept_sheet}
 use Rattle.mmtel_sheet_texts.specs.Texts.{put, text_at}
 use Rattle.mmtel_sheet_values.specs.declared.values.Sheet.{Sheet}
@@ -32,19 +33,21 @@ use Rattle.mmtel_types.specs.declared.addrs.Addr.{Addr}
 use Rattle.mmtel_types.specs.declared.numbers.Account.{Account}
 use Rattle.mmtel_types.specs.declared.numbers.Peer.{Peer}
 use Rattle.mmtel_web.specs.Answers.{Kept, web_reply}
-use Rattle.mmtel_web.specs.Uploads.{kept_upload, upload_in}
+use Rattle.mmtel_web.specs.Uploads.{kept_upload, put_in, upload_in}
 use Rattle.mmtel_run.specs.Alike.{trusts}
 use Rattle.mmtel_run.specs.Answers.{completed_reply, tag_for, tags_due, to_tag_in}
 use Rattle.mmtel_run.specs.Events as Events
-use Rattle.mmtel_run.specs.Events.{Digest, Happened, Notice, digest, digest_datagram, digest_from, digest_read, notice_of, notices, refused_by}
+use Rattle.mmtel_run.specs.Events.{Digest, Happened, Notice, digest, digest_datagram, digest_from, digest_read, notices, refused_by}
 use Rattle.mmtel_run.specs.InForce.{upload_at, uploads_of}
 use Rattle.mmtel_run.specs.Run.{after, clock_at, one_more, settled, world_after}
-use Rattle.mmtel_run.specs.World.{World, beginning, begun, came, ended, filing, handing, keeping, met, refusing, serving}
+use Rattle.mmtel_run.specs.World.{World, beginning, begun, came, ended, filing, handing, keeping, met, refusing, served, serving}
+use Rattle.mmtel_run.specs.Subscriptions.{putting}
 use Rattle.mmtel_run_laws.specs.Alike.{AllEarly, AllLookUp, AllTied, AreAmong, DigestIsTied, DigestLooksUp, IsEarly, SiteAlike}
 use Rattle.mmtel_run_laws.specs.Belonging.{role_of}
 use Rattle.mmtel_run_laws.specs.Secret.{KeepsTheSecret, KeepsTheSecretInBoth, RenamedAreLookedUpAlike, RunsAreTied}
 use Rattle.mmtel_run_laws.specs.Mask.{Asked, Heard, Mask, MaskedDigest, Nothing, Refused, Tests, asked_by, coming, mask, mask_all, mask_digest, records_in, tests_beside}
 use Rattle.mmtel_run_laws.specs.Wider.{NobodyIsRenamed}
+use Rattle.mmtel_run_laws.proofs.BoxesAlike.{putting-alike}
 use Rattle.mmtel_run_laws.proofs.Deeds.{begun-alike, settled-alike}
 use Rattle.mmtel_run_laws.proofs.Emitting.{Knows, Pair, drawing-alike, offering-alike, plain-alike}
 use Rattle.mmtel_run_laws.proofs.Growing.{after_before, begun_before, handing_before, met_before}
@@ -57,44 +60,50 @@ abbrev pub left_of : Said → MaskedDigest → Said
 left_of other Nothing = other
 left_of other (Refused peer source reply) = other
 left_of other (Heard left tests) = left
-left_of other (Asked put) = other
+left_of other (Asked put waits) = other
 
 abbrev tests_in : Option Tests → MaskedDigest → Option Tests
 tests_in other Nothing = other
 tests_in other (Refused peer source reply) = other
 tests_in other (Heard left tests) = tests
-tests_in other (Asked put) = other
+tests_in other (Asked put waits) = other
 
 abbrev peer_in : Peer → MaskedDigest → Peer
 peer_in other Nothing = other
 peer_in other (Refused peer source reply) = peer
 peer_in other (Heard left tests) = other
-peer_in other (Asked put) = other
+peer_in other (Asked put waits) = other
 
 abbrev source_in : Addr → MaskedDigest → Addr
 source_in other Nothing = other
 source_in other (Refused peer source reply) = source
 source_in other (Heard left tests) = other
-source_in other (Asked put) = other
+source_in other (Asked put waits) = other
 
 abbrev reply_in : Message Start → MaskedDigest → Message Start
 reply_in other Nothing = other
 reply_in other (Refused peer source reply) = reply
 reply_in other (Heard left tests) = other
-reply_in other (Asked put) = other
+reply_in other (Asked put waits) = other
 
-abbrev put_in : Option (Account × List ℕ) → MaskedDigest → Option (Account × List ℕ)
-put_in other Nothing = other
-put_in other (Refused peer source reply) = other
-put_in other (Heard left tests) = other
-put_in other (Asked put) = put
+abbrev text_in : Option (Account × List ℕ) → MaskedDigest → Option (Account × List ℕ)
+text_in other Nothing = other
+text_in other (Refused peer source reply) = other
+text_in other (Heard left tests) = other
+text_in other (Asked put waits) = put
+
+abbrev waits_in : Option (Account × Counts) → MaskedDigest → Option (Account × Counts)
+waits_in other Nothing = other
+waits_in other (Refused peer source reply) = other
+waits_in other (Heard left tests) = other
+waits_in other (Asked put waits) = waits
 
 -- the kinds are apart
 abbrev kind_of : MaskedDigest → ℕ
 kind_of Nothing = 0
 kind_of (Refused peer source reply) = 1
 kind_of (Heard left tests) = 2
-kind_of (Asked put) = 3
+kind_of (Asked put waits) = 3
 
 abbrev first_of : ℕ × MaskedDigest → List (ℕ × MaskedDigest) → ℕ × MaskedDigest
 first_of other [] = other
@@ -258,6 +267,7 @@ module _ (below : Below) (its : PutIts) (others : PutOthers) (records : List She
       calls = a.alike.calls;
       opened = a.alike.opened;
       rooms = a.alike.rooms;
+      boxes = a.alike.boxes;
       armed = a.alike.armed;
       texts = ap (λ (x : Option (Account × List ℕ)). put_kept x v.texts) same ∙ ap (put_kept t) a.alike.texts;
       registrations = a.alike.registrations;
@@ -273,6 +283,15 @@ module _ (below : Below) (its : PutIts) (others : PutOthers) (records : List She
   serving-alike at r s k l rows more v w same among a =
       offering-alike below.texts records d e keys K before kn (offer.Web at (web_reply d.names v.texts r k rows) ∷ []) (offer.Web at (web_reply e.names w.texts s l more) ∷ []) _ _ (λ p strange. refl)
       (keeping-alike (kept_upload k (upload_in d.names r)) (kept_upload l (upload_in e.names s)) v w same (subst (PutIsAmong records) same among) a)
+
+  -- and behind it what an upload to a mailbox brings
+  served-alike : (at : ℕ) (r s : Request) (k l : Kept) (rows more : List Row) (v w : World) → kept_upload k (upload_in d.names r) ≡ kept_upload l (upload_in e.names s) → put_in d.names r k ≡ put_in e.names s l
+      → PutIsAmong records (kept_upload k (upload_in d.names r)) → Two v w → Two (served d token at r k rows v) (served e token at s l more w)
+  served-alike at r s k l rows more v w same waits among a =
+      let vs : World = serving d at r k rows v in
+      let ws : World = serving e at s l more w in
+      subst (λ (o : Option (Account × Counts)). Two (putting d token at o vs) (served e token at s l more w)) (sym waits)
+      (putting-alike below.texts records d e token keys sites K before kn at (put_in e.names s l) vs ws (serving-alike at r s k l rows more v w same among a))
 
   refused_same : (at : ℕ) (p q : Peer) (x y : Addr) (r s : Message Start) (v w : World) → Refused p x r ≡ Refused q y s → Two v w → Two (refusing token at p x r v) (refusing token at q y s w)
   refused_same at p q x y r s v w same a =
@@ -307,7 +326,7 @@ module _ (below : Below) (its : PutIts) (others : PutOthers) (records : List She
   met-alike at (Events.Asked r k rows) (Events.Refused q y s) v w same trusted too among looks tied tied_too kw km z = let o = apart _ _ same in absurd (omega (arith, o))
   met-alike at (Events.Asked r k rows) (Events.Heard n) v w same trusted too among looks tied tied_too kw km z = let o = apart _ _ same in absurd (omega (arith, o))
   met-alike at (Events.Asked r k rows) (Events.Asked s l more) v w same trusted too among looks tied tied_too kw km z =
-      serving-alike at r s k l rows more v w (ap (put_in (kept_upload k (upload_in d.names r))) same) among z
+      served-alike at r s k l rows more v w (ap (text_in (kept_upload k (upload_in d.names r))) same) (ap (waits_in (put_in d.names r k)) same) among z
 
   -- ---- rows are handed over, or not
 
@@ -321,6 +340,7 @@ module _ (below : Below) (its : PutIts) (others : PutOthers) (records : List She
       calls = a.alike.calls;
       opened = a.alike.opened;
       rooms = a.alike.rooms;
+      boxes = a.alike.boxes;
       armed = a.alike.armed;
       texts = a.alike.texts;
       registrations = a.alike.registrations;
@@ -341,6 +361,7 @@ module _ (below : Below) (its : PutIts) (others : PutOthers) (records : List She
       calls = a.alike.calls;
       opened = a.alike.opened;
       rooms = a.alike.rooms;
+      boxes = a.alike.boxes;
       armed = a.alike.armed;
       texts = a.alike.texts;
       registrations = a.alike.registrations;
@@ -376,6 +397,7 @@ module _ (below : Below) (its : PutIts) (others : PutOthers) (records : List She
       calls = a.alike.calls;
       opened = a.alike.opened;
       rooms = a.alike.rooms;
+      boxes = a.alike.boxes;
       armed = a.alike.armed;
       texts = a.alike.texts;
       registrations = a.alike.registrations;
@@ -438,6 +460,7 @@ module _ (below : Below) (its : PutIts) (others : PutOthers) (records : List She
       calls = tt;
       opened = refl;
       rooms = refl;
+      boxes = refl;
       armed = refl;
       texts = refl;
       registrations = refl;

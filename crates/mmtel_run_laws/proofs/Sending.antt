@@ -3,7 +3,7 @@ use Rattle.std.proofs.Common.{◌≡◌, ℕ, zero, suc, List, [], ◌∷◌, �
 use Rattle.std.specs.Prelude.{option_map, codes}
 use Rattle.std.specs.List.{find}
 use Rattle.std.specs.Option.{option_map as map_some}
-use Rattle.mmtel_answers.specs.Said.{Said}
+use Rattle.mmtel_answers.specs.Said.{Said, status_of}
 use Rattle.mmtel_b2bua.specs.Histories.{Deed, Drops, Finishes, Hears, Releases, Restores, finished_by, hears_after}
 use Rattle.mmtel_b2bua.specs.Lending.{entry_of, leg_out}
 use Rattle.mmtel_b2bua.specs.Names.{party}
@@ -13,7 +13,7 @@ use Rattle.mmtel_b2bua_laws.specs.Acks.{acked_after, acked_by, acked_of}
 use Rattle.mmtel_call_laws.specs.Heads.Acks.{Acked}
 use Rattle.mmtel_message.specs.Faults.{is_method}
 use Rattle.mmtel_b2bua_laws.specs.Clean.{AreCleanRecords, DeedsSendCleanMessages, IsCleanHearing, IsCleanSignal, IsGivenClean, LegsGoOutClean}
-use Rattle.mmtel_desk.specs.Invites.{invite_answered, invite_silent}
+use Rattle.mmtel_desk.specs.Invites.{behind_cookie, branch_in, invite_answered, invite_silent}
 use Rattle.mmtel_call_laws.specs.Heads.Clean.{HasOwnLines, IsClean, IsCleanMessage}
 use Rattle.mmtel_call_laws.specs.Heads.Emits.{Each, IsCleanEmit}
 use Rattle.mmtel_call_laws.specs.Heads.Heard.{IsCleanSheet}
@@ -66,19 +66,25 @@ use Rattle.mmtel_types.specs.declared.numbers.Peer.{Peer}
 use Rattle.mmtel_types.specs.declared.numbers.RoomNo.{RoomNo}
 use Rattle.mmtel_types.specs.declared.sides.Side.{Side}
 use Rattle.mmtel_web.specs.Answers.{Kept}
+use Rattle.mmtel_web.specs.Uploads.{put_in}
+use Rattle.mmtel_mwi.specs.Histories as boxes
 use Rattle.mmtel_run.specs.Answers.{Answer, completed_reply, plainly, response_to, tag_for, tags_due, to_tag_in}
 use Rattle.mmtel_run.specs.Calls.{are_full, arrived, asked_by, site_of}
-use Rattle.mmtel_run.specs.Deadlines.{Alarm, Deadline, OfAlarm, OfCall, OfMessage, OfSeat}
+use Rattle.mmtel_run.specs.Deadlines.{Alarm, Deadline, OfAlarm, OfBox, OfCall, OfMessage, OfSeat}
 use Rattle.mmtel_run.specs.Events.{Digest, Happened, Notice, digest_datagram, digest_event, digest_from, digest_read, message_in, notice_of, notices}
 use Rattle.mmtel_run.specs.Events as events
 use Rattle.mmtel_run.specs.InForce.{CallsAreToldWhatIsInForce}
 use Rattle.mmtel_run.specs.Records.{in_force}
-use Rattle.mmtel_run.specs.Refusals.{Course, Refuse, Enter, EnterRoom, Open, OpenRoom, JoinRoom, Register, course}
-use Rattle.mmtel_run.specs.Rooms.{Holder, InCall, InRoom, OfCalls, OfRooms, Whose, account_of_side, whose_key, whose_branch, is_with, leg_by, replacement_in, rooms_site, side_replaced, status_by}
+use Rattle.mmtel_run.specs.Refusals.{Course, Refuse, Enter, EnterRoom, Open, OpenRoom, JoinRoom, Register, Subscribe, EnterBox, course}
+use Rattle.mmtel_run.specs.Rooms.{Holder, InBox, InCall, InRoom, OfBoxes, OfCalls, OfRooms, Whose, account_of_side, whose_key, whose_branch, is_with, leg_by, replacement_in, rooms_site, side_replaced, status_by}
 use Rattle.mmtel_run.specs.Run.{after, clock_at, due_in, fire_one, fired_if, one_more, settled, world_after}
-use Rattle.mmtel_run.specs.World.{World, acknowledging_by, acting, adopting, adoption_of, alarmed, answering, beginning, begun, bringing, calls_in, came, cancelling, cancelling_call, comes_of, drawing, emit_one, emitted, ended_of, entering_room, finishing, fired, handing, heard_in_rooms, heard_now, hearing, holder_in, housed, joining_of, lending, lodging, met, next_tag, noticed, offering, opening_of, registering, repeating, replaced_by, replaced_with, replacing, replying, replying_plainly, responding_to, room_joined, room_opened, rooms_in, rung, seated, signalled, silenced, taken_out, taking, to_peer, tokens_now, told}
+use Rattle.mmtel_run.specs.Subscriptions.{box_answered, granting, noting, other_answer, refusing_answer}
+use Rattle.mmtel_run.specs.World.{World, acknowledging_by, acting, adopting, adoption_of, alarmed, answering, arming, beginning, begun, bringing, calls_in, came, cancelling, cancelling_call, comes_of, drawing, emit_one, emitted, ended_of, entering_room, finishing, fired, handing, heard_in_rooms, heard_now, hearing, holder_in, housed, joining_of, lending, lodging, met, next_tag, noticed, offering, opening_of, registering, repeating, replaced_by, replaced_with, replacing, replying, replying_plainly, responding_to, room_joined, room_opened, rooms_in, rung, seated, serving, signalled, silenced, taken_out, taking, to_peer, tokens_now, told, boxes_in}
 use Rattle.mmtel_run_laws.specs.Clean.{AllAreClean, Builds, IsHeardIn, IsOwnAck, IsOwnAct, IsOwnOffer, IsOwnReply, IsSentIn, plain_reply}
 use Rattle.mmtel_run_laws.proofs.Acknowledging.{AreHeard, IsAckOfEvent, ack_still, acked_heard, emits_more, is_ack_heard, own_ack}
+use Rattle.mmtel_run.proofs.BoxSteps as steps
+use Rattle.mmtel_run.proofs.BoxSteps.{AreAnswers, AreSteps, tells_in}
+use Rattle.mmtel_run_laws.proofs.CleanBoxes.{IsCleanDeed as IsCleanBoxDeed, granting_clean, none_clean, notice_clean, other_clean, refusing_clean}
 use Rattle.mmtel_run_laws.proofs.Courses.{IsCleanAnswer, IsCleanCourse, IsHeardWell, answer_clean, course_clean, reply_clean, said_well, tag_clean}
 use Rattle.mmtel_run_laws.proofs.Received.{IsCleanRead, reads_clean}
 use Rattle.mmtel_run_laws.proofs.Sheets.{kept_clean}
@@ -101,6 +107,7 @@ module _ (d : Directory) (whole : List Happened) where
     deeds : Each IsGivenClean w.deeds
     acked : AreHeard d whole (acked_after (site_of d) w.deeds)
     rooms : Each heads.IsCleanDeed w.rooms
+    boxes : Each IsCleanBoxDeed w.boxes
     acts : AreGoodActs w.acts
     offers : Each (IsOwnOffer d whole w.acts w.deeds) w.offers
 
@@ -131,16 +138,18 @@ module _ (d : Directory) (whole : List Happened) where
     deeds = g.deeds;
     acked = g.acked;
     rooms = g.rooms;
+    boxes = g.boxes;
     acts = (good, g.acts);
     offers = each_append (IsOwnOffer d whole (c ∷ w.acts) w.deeds) w.offers offers (offers_still c w.acts w.deeds w.offers g.offers) own;
   }
 
   -- the same deeds, calls on transactions and offers
-  alike : (w v : World) → v.deeds ≡ w.deeds → v.rooms ≡ w.rooms → v.acts ≡ w.acts → v.offers ≡ w.offers → Good w → Good v
-  alike w v deeds seats acts offers g = record {
+  alike : (w v : World) → v.deeds ≡ w.deeds → v.rooms ≡ w.rooms → v.boxes ≡ w.boxes → v.acts ≡ w.acts → v.offers ≡ w.offers → Good w → Good v
+  alike w v deeds seats mailboxes acts offers g = record {
     deeds = subst (Each IsGivenClean) (sym deeds) g.deeds;
     acked = subst (λ (h : List Deed). AreHeard d whole (acked_after (site_of d) h)) (sym deeds) g.acked;
     rooms = subst (Each heads.IsCleanDeed) (sym seats) g.rooms;
+    boxes = subst (Each IsCleanBoxDeed) (sym mailboxes) g.boxes;
     acts = subst AreGoodActs (sym acts) g.acts;
     offers =
         subst (λ (h : List Deed). Each (IsOwnOffer d whole v.acts h) v.offers) (sym deeds)
@@ -148,10 +157,10 @@ module _ (d : Directory) (whole : List Happened) where
   }
 
   -- nothing is offered
-  silent_good : (c : Done) (w v : World) → IsGoodAct c w.acts → v.deeds ≡ w.deeds → v.rooms ≡ w.rooms → v.acts ≡ c ∷ w.acts → v.offers ≡ w.offers → Good w → Good v
-  silent_good c w v good deeds seats acts offers g =
-      alike (acting c w) v deeds seats acts offers
-      (record { deeds = g.deeds; acked = g.acked; rooms = g.rooms; acts = (good, g.acts); offers = offers_still c w.acts w.deeds w.offers g.offers })
+  silent_good : (c : Done) (w v : World) → IsGoodAct c w.acts → v.deeds ≡ w.deeds → v.rooms ≡ w.rooms → v.boxes ≡ w.boxes → v.acts ≡ c ∷ w.acts → v.offers ≡ w.offers → Good w → Good v
+  silent_good c w v good deeds seats mailboxes acts offers g =
+      alike (acting c w) v deeds seats mailboxes acts offers
+      (record { deeds = g.deeds; acked = g.acked; rooms = g.rooms; boxes = g.boxes; acts = (good, g.acts); offers = offers_still c w.acts w.deeds w.offers g.offers })
 
   -- a text is offered to a peer by no transaction
   abbrev IsOwnText : List Done → List Deed → List ℕ → Type 0
@@ -162,6 +171,7 @@ module _ (d : Directory) (whole : List Happened) where
     deeds = g.deeds;
     acked = g.acked;
     rooms = g.rooms;
+    boxes = g.boxes;
     acts = g.acts;
     offers = each_append (IsOwnOffer d whole w.acts w.deeds) w.offers (offer.To peer at text ∷ []) g.offers (t, tt);
   }
@@ -187,9 +197,9 @@ module _ (d : Directory) (whole : List Happened) (own_law : (m : Message Start) 
   emit_good at (emit.Ack key message) w c g =
       acting_good d whole (DidAck key.0 message) w (to_peer at (message_text message) (peer_of key.0 (live w.acts))) c
       (peer_own (DidAck key.0 message) w.acts w.deeds message at (peer_of key.0 (live w.acts)) refl) g
-  emit_good at (emit.Settled key own) w c g = silent_good d whole (DidSettle key.0 own) w (emit_one at (emit.Settled key own) w) tt refl refl refl refl g
-  emit_good at (emit.Arm call what when) w c g = record { deeds = g.deeds; acked = g.acked; rooms = g.rooms; acts = g.acts; offers = g.offers }
-  emit_good at (emit.ArmSeat room seat what when) w c g = record { deeds = g.deeds; acked = g.acked; rooms = g.rooms; acts = g.acts; offers = g.offers }
+  emit_good at (emit.Settled key own) w c g = silent_good d whole (DidSettle key.0 own) w (emit_one at (emit.Settled key own) w) tt refl refl refl refl refl g
+  emit_good at (emit.Arm call what when) w c g = record { deeds = g.deeds; acked = g.acked; rooms = g.rooms; boxes = g.boxes; acts = g.acts; offers = g.offers }
+  emit_good at (emit.ArmSeat room seat what when) w c g = record { deeds = g.deeds; acked = g.acked; rooms = g.rooms; boxes = g.boxes; acts = g.acts; offers = g.offers }
 
   same_deeds : (at : ℕ) (x : Emit) (w : World) → (emit_one at x w).deeds ≡ w.deeds
   same_deeds at (emit.Ask peer message) w = refl
@@ -232,6 +242,7 @@ module _ (d : Directory) (whole : List Happened) (own_law : (m : Message Start) 
           deeds = (tt, (c, g.deeds));
           acked = each_append (λ (x : Acked). IsAckOfEvent d whole x.ack) (acks_of deed w) (acked_after (site_of d) w.deeds) acked g.acked;
           rooms = g.rooms;
+          boxes = g.boxes;
           acts = g.acts;
           offers = offers_kept d whole (Drops (length desk.rows)) w.acts (deed ∷ w.deeds) w.offers (offers_kept d whole deed w.acts w.deeds w.offers g.offers);
         })
@@ -256,6 +267,7 @@ module _ (d : Directory) (whole : List Happened) (own_law : (m : Message Start) 
       deeds = (c, g.deeds);
       acked = each_append (λ (x : Acked). IsAckOfEvent d whole x.ack) (acks_of deed w) (acked_after (site_of d) w.deeds) acked g.acked;
       rooms = g.rooms;
+      boxes = g.boxes;
       acts = g.acts;
       offers = offers_kept d whole deed w.acts w.deeds w.offers g.offers;
     }
@@ -265,12 +277,12 @@ module _ (d : Directory) (whole : List Happened) (own_law : (m : Message Start) 
     lodging_good : (at : ℕ) (deed : rooms.Deed) (desk : Desk) (w : World) → Each (IsCleanEmit []) desk.out → heads.IsCleanDeed deed → Good d whole w → Good d whole (lodging at deed desk w)
     lodging_good at deed desk w out c g =
         emitted_good at desk.out (record w { rooms = rooms.Drops (length desk.rows) ∷ deed ∷ w.rooms; waiting = w.waiting ++ desk.rows })
-        (emits_more (acked_after (site_of d) w.deeds) desk.out out) (record { deeds = g.deeds; acked = g.acked; rooms = (tt, (c, g.rooms)); acts = g.acts; offers = g.offers })
+        (emits_more (acked_after (site_of d) w.deeds) desk.out out) (record { deeds = g.deeds; acked = g.acked; rooms = (tt, (c, g.rooms)); boxes = g.boxes; acts = g.acts; offers = g.offers })
 
     housed_good : (at : ℕ) (deed : rooms.Deed) (w : World) → heads.IsCleanDeed deed → Good d whole w → Good d whole (housed d at deed w)
     housed_good at deed w c g =
         let v : World = record w { drawn = (comes_of d deed w).tokens.drawn } in
-        lodging_good at deed (comes_of d deed w) v (seats_send (rooms_site d) w.rooms deed (c, g.rooms)) c (alike d whole w v refl refl refl refl g)
+        lodging_good at deed (comes_of d deed w) v (seats_send (rooms_site d) w.rooms deed (c, g.rooms)) c (alike d whole w v refl refl refl refl refl g)
 
     seated_good : (at : ℕ) (x : RoomSignal) (w : World) → heads.IsCleanSignal x → Good d whole w → Good d whole (seated d token at x w)
     seated_good at x w c g = housed_good at (heard_in_rooms token at x w) w (record { token = clean_token; signal = c }) g
@@ -278,25 +290,50 @@ module _ (d : Directory) (whole : List Happened) (own_law : (m : Message Start) 
     noticed_good : (at : ℕ) (room : RoomNo) (seat code : ℕ) (w : World) → Good d whole w → Good d whole (noticed d token at room seat code w)
     noticed_good at room seat code w g = housed_good at (rooms.Notifies room.0 seat code (tokens_now token w)) w clean_token g
 
+    -- ---- a deed on mailboxes, and a NOTIFY
+
+    noted_good : (deed : boxes.Deed) (w : World) → IsCleanBoxDeed deed → Good d whole w → Good d whole (noting deed w)
+    noted_good deed w c g = record { deeds = g.deeds; acked = g.acked; rooms = g.rooms; boxes = (c, g.boxes); acts = g.acts; offers = g.offers }
+
+    abbrev StaysGood : World → World → Type 0
+    StaysGood w v = Good d whole w → Good d whole v
+
+    steps_good : (at : ℕ) → AreSteps d token at StaysGood
+    steps_good at = record {
+      same = λ w g. g;
+      next = λ u v w f h g. h (f g);
+      notes = λ deed w none. noted_good deed w (none_clean deed none);
+      draws = λ w. alike d whole w (drawing 1 w) refl refl refl refl refl;
+      arms = λ armed w. alike d whole w (arming armed w) refl refl refl refl refl;
+      asks = λ sub last peer message w lives is g.
+          emit_good at (emit.Ask peer message) (tells_in token sub w)
+          (notice_clean d.sip sub last (next_tag token w) at w.boxes message g.boxes.1 (tag_clean token w.drawn None clean_token) is) g;
+    }
+
+    box_answered_good : (branch : Option (List ℕ)) (code : ℕ) (w : World) → Good d whole w → Good d whole (box_answered branch code w)
+    box_answered_good = steps.answered StaysGood (λ w g. g) (λ deed w none. noted_good deed w (none_clean deed none))
+
     -- ---- deadlines
 
     silenced_good : (at : ℕ) (branch method : List ℕ) (whose : Whose) (w : World) → Good d whole w → Good d whole (silenced d token at branch method whose w)
     silenced_good at branch method OfCalls w g = signalled_good at (signal.Silent branch method) w tt tt g
+    silenced_good at branch method OfBoxes w g = box_answered_good (behind_cookie branch) 408 w g
     silenced_good at branch method OfRooms w g = seated_good at (of_room.Silent branch method) w tt g
 
     over_good : (at : ℕ) (key : TKey) (whose : Whose) (w : World) → Good d whole w → Good d whole (ended_of d token at key whose w)
     over_good at key OfCalls w g = signalled_good at (signal.Over key) w tt tt g
+    over_good at key OfBoxes w g = g
     over_good at key OfRooms w g = seated_good at (of_room.Over key) w tt g
 
     rung_good : (x : Due) (w : World) → IsOwnDue (IsSentIn w.acts) x → Good d whole w → Good d whole (rung d token x w)
     rung_good (due.Again peer at text) w t g = plain_good d whole at peer text w (inl t) g
-    rung_good (due.Silent key branch method at) w t g = silenced_good at branch method (whose_branch (invite_silent branch method) (calls_in d w).entries) w g
+    rung_good (due.Silent key branch method at) w t g = silenced_good at branch method (whose_branch (invite_silent branch method) (behind_cookie branch) (calls_in d w).entries (boxes_in w)) w g
     rung_good (due.Over key at) w t g = over_good at key (whose_key key (calls_in d w).entries) w g
     rung_good due.Nothing w t g = g
 
     fires_good : (o : Option Next) (w : World) → Good d whole w → Good d whole (record w { acts = fires w.acts o })
     fires_good None w g = g
-    fires_good (Some next) w g = silent_good d whole (DidFire next.entry.key) w (record w { acts = fires w.acts (Some next) }) tt refl refl refl refl g
+    fires_good (Some next) w g = silent_good d whole (DidFire next.entry.key) w (record w { acts = fires w.acts (Some next) }) tt refl refl refl refl refl g
 
     -- what is sent again then was sent before
     due_still : (o : Option Next) (acts : List Done) (x : Due) → IsOwnDue (IsSentIn acts) x → IsOwnDue (IsSentIn (fires acts o)) x
@@ -307,11 +344,12 @@ module _ (d : Directory) (whole : List Happened) (own_law : (m : Message Start) 
     due_still (Some next) acts due.Nothing t = tt
 
     begun_good : (w : World) → Good d whole w → Good d whole (begun w)
-    begun_good w g = silent_good d whole (DidBegin w.steps) w (begun w) tt refl refl refl refl g
+    begun_good w g = silent_good d whole (DidBegin w.steps) w (begun w) tt refl refl refl refl refl g
 
     alarmed_good : (at : ℕ) (x : Alarm) (w : World) → Good d whole w → Good d whole (alarmed d token at x w)
     alarmed_good at (OfCall call what) w g = signalled_good at (signal.Due call what) w tt tt g
     alarmed_good at (OfSeat room seat what) w g = seated_good at (of_room.Due room seat what) w tt g
+    alarmed_good at (OfBox sub set) w g = steps.ends d token at StaysGood (steps_good at) sub set w g
 
     -- what a deadline of a message says is read of what was done on the transactions before it fires
     fired_good : (now : ℕ) (x : Deadline) (w : World) → Good d whole w → Good d whole (fired d token now x w)
@@ -320,7 +358,7 @@ module _ (d : Directory) (whole : List Happened) (own_law : (m : Message Start) 
         let next : Option Next = next_due now (live (begun w).acts) in
         rung_good (says_due next) (record (begun w) { acts = fires (begun w).acts next }) (due_still next (begun w).acts (says_due next) (due_own (begun w).acts now b.acts)) (fires_good next (begun w) b)
     fired_good now (OfAlarm armed others) w g =
-        alarmed_good armed.at armed.alarm (record (begun w) { armed = others }) (alike d whole (begun w) (record (begun w) { armed = others }) refl refl refl refl (begun_good w g))
+        alarmed_good armed.at armed.alarm (record (begun w) { armed = others }) (alike d whole (begun w) (record (begun w) { armed = others }) refl refl refl refl refl (begun_good w g))
 
     if_fired_good : (now : ℕ) (o : Option Deadline) (w : World) → Good d whole w → Good d whole (fired_if d token now o w)
     if_fired_good now None w g = g
@@ -340,7 +378,7 @@ module _ (d : Directory) (whole : List Happened) (own_law : (m : Message Start) 
       replying_good : (key : TKey) (answer : Answer) (w : World) → IsCleanAnswer answer → Good d whole w → Good d whole (replying d token at key s answer w)
       replying_good key answer w a g =
           tagged_good key (tag_for token w.drawn s.heard.to_tag) answer (drawing (tags_due s.heard.to_tag) w) (tag_clean token w.drawn s.heard.to_tag clean_token) a
-          (alike d whole w (drawing (tags_due s.heard.to_tag) w) refl refl refl refl g)
+          (alike d whole w (drawing (tags_due s.heard.to_tag) w) refl refl refl refl refl g)
 
       -- one that is too many
       too_many_good : (w : World) → Good d whole w → Good d whole (replying_plainly d token at s (plainly 503) w)
@@ -349,7 +387,7 @@ module _ (d : Directory) (whole : List Happened) (own_law : (m : Message Start) 
           let said : Message Start = response_to d.sip tag s (plainly 503) in
           plain_good d whole at s.peer (message_text said) (drawing (tags_due s.heard.to_tag) w)
           (inr (inr (met.own tag said refl (answer_clean d.sip tag s (plainly 503) (tag_clean token w.drawn s.heard.to_tag clean_token) well.lines_in refl))))
-          (alike d whole w (drawing (tags_due s.heard.to_tag) w) refl refl refl refl g)
+          (alike d whole w (drawing (tags_due s.heard.to_tag) w) refl refl refl refl refl g)
 
       -- the leg of whoever sent the INVITE
       leg_clean : (tag : List ℕ) → IsClean tag → IsCleanLeg (released.Caller (leg_by tag s))
@@ -401,7 +439,25 @@ module _ (d : Directory) (whole : List Happened) (own_law : (m : Message Start) 
           (seated d token at (of_room.Request room seat key s) w) (seated_good at (of_room.Request room seat key s) w well.of g)
 
       drawn_good : (w : World) → Good d whole w → Good d whole (drawing 1 w)
-      drawn_good w g = alike d whole w (drawing 1 w) refl refl refl refl g
+      drawn_good w g = alike d whole w (drawing 1 w) refl refl refl refl refl g
+
+      -- a request for a mailbox
+      abbrev Anyhow : (within : Bool) → Option ℕ → Type 0
+      Anyhow within o = Unit {0}
+
+      answers_good : (key : TKey) → AreAnswers d token at StaysGood key s Anyhow
+      answers_good key = record {
+        reads = λ within. tt;
+        subscribes = λ account until w may.
+            noted_good (boxes.Subscribes account (leg_by (next_tag token w) s) until) (drawing 1 w)
+            (opened_clean s.peer s.heard.lines (next_tag token w) well.lines_in (tag_clean token w.drawn None clean_token));
+        grants = λ deed seconds w may.
+            tagged_good key (next_tag token w) (granting seconds) (noting deed (drawing 1 w)) (tag_clean token w.drawn None clean_token) (granting_clean seconds);
+        renews = λ seconds w may. replying_good key (granting seconds) w (granting_clean seconds);
+        refuses = λ within code w may. replying_good key (refusing_answer code) w (refusing_clean code);
+        denies = λ code w above. replying_good key (plainly code) w refl;
+        others = λ w no. replying_good key (other_answer d s.heard) w (other_clean d s.heard);
+      }
 
       taking_good : (key : TKey) (c : Course) (w : World) → IsCleanCourse s.heard.start c → Good d whole w → Good d whole (taking d token at key s c w)
       taking_good key (Refuse answer) w a g = replying_good key answer w a g
@@ -412,7 +468,9 @@ module _ (d : Directory) (whole : List Happened) (own_law : (m : Message Start) 
       taking_good key (JoinRoom room) w a g =
           room_joined_good key room (next_tag token w) (access room.0 (rooms_in d w).live) (drawing 1 w) (tag_clean token w.drawn None clean_token) (drawn_good w g)
       taking_good key (Register account seconds) w a g =
-          let v : World = registering account _ w in replying_good key (plainly 200) v refl (alike d whole w v refl refl refl refl g)
+          let v : World = registering account _ w in replying_good key (plainly 200) v refl (alike d whole w v refl refl refl refl refl g)
+      taking_good key Subscribe w a g = steps.subscribes d token at StaysGood (steps_good at) key s Anyhow (answers_good key) w g
+      taking_good key (EnterBox sub) w a g = steps.enters d token at StaysGood (steps_good at) key s Anyhow (answers_good key) sub w g
 
       cancelling_call_good : (key invite : TKey) (o : Option (CallNo × Side)) (w : World) → Good d whole w → Good d whole (cancelling_call d token at key s invite o w)
       cancelling_call_good key invite None w g = replying_good key (plainly 200) w refl g
@@ -428,9 +486,11 @@ module _ (d : Directory) (whole : List Happened) (own_law : (m : Message Start) 
           signalled_good at (signal.Ack call side s) w well.of
           (acked_heard d whole (site_of d) side s (entry_of call.0 (calls_in d w).entries) (record { heard = met.heard s refl; is_ack = ack })) g
       acknowledging_good (Some (InRoom room seat)) w ack g = seated_good at (of_room.Ack room seat s) w well.of g
+      acknowledging_good (Some (InBox sub)) w ack g = g
 
       responding_good : (key : TKey) (whose : Whose) (w : World) → Good d whole w → Good d whole (responding_to d token at key s whose w)
       responding_good key OfCalls w g = signalled_good at (signal.Answer key s) w well.of tt g
+      responding_good key OfBoxes w g = box_answered_good (branch_in s.heard.vias) (status_of s.heard.start) w g
       responding_good key OfRooms w g = seated_good at (of_room.Answer key s) w well.of g
 
       opened_good : (is_cancel : Bool) (n : ℕ) (invited : Option TKey) (w : World) → Good d whole w → Good d whole (answering d token at s (Some (says_opened is_cancel n invited (message_in s.heard))) w)
@@ -459,7 +519,7 @@ module _ (d : Directory) (whole : List Happened) (own_law : (m : Message Start) 
       Taken p w = p ≡ part_of (head_of (message_in s.heard)) (live w.acts)
 
       heard_good : (p : Part) (w : World) → Taken p w → Good d whole w → Good d whole (heard_as p w)
-      heard_good p w is g = silent_good d whole (DidHear s.peer (message_in s.heard) at p) w (heard_as p w) is refl refl refl refl g
+      heard_good p w is g = silent_good d whole (DidHear s.peer (message_in s.heard) at p) w (heard_as p w) is refl refl refl refl refl g
 
       again_still : (p : Part) (o : Option (Peer × List ℕ)) (w : World) → IfSome o (λ sent. IsSentIn w.acts sent.1) → IfSome o (λ sent. IsSentIn (heard_as p w).acts sent.1)
       again_still p None w t = tt
@@ -473,7 +533,8 @@ module _ (d : Directory) (whole : List Happened) (own_law : (m : Message Start) 
       said_good (part.Repeat key) w is g = repeating_good _ (heard_as (part.Repeat key) w) (again_still (part.Repeat key) _ w (repeat_own w.acts s.peer key g.acts)) (heard_good (part.Repeat key) w is g)
       said_good (part.Same key) w is g = repeating_good _ (heard_as (part.Same key) w) (again_still (part.Same key) _ w (same_again w.acts key g.acts)) (heard_good (part.Same key) w is g)
       said_good (part.Answer key) w is g =
-          responding_good (tkey key) (whose_branch (invite_answered s) (calls_in d (heard_as (part.Answer key) w)).entries) (heard_as (part.Answer key) w) (heard_good (part.Answer key) w is g)
+          responding_good (tkey key) (whose_branch (invite_answered s) (branch_in s.heard.vias) (calls_in d (heard_as (part.Answer key) w)).entries (boxes_in w)) (heard_as (part.Answer key) w)
+          (heard_good (part.Answer key) w is g)
       said_good (part.Acked key) w is g = heard_good (part.Acked key) w is g
       said_good part.AckOf2xx w is g = acknowledging_good (holder_in d s.heard (heard_as part.AckOf2xx w)) (heard_as part.AckOf2xx w)
           (is_ack_heard (message_in s.heard) (live w.acts) is) (heard_good part.AckOf2xx w is g)
@@ -505,26 +566,29 @@ module _ (d : Directory) (whole : List Happened) (own_law : (m : Message Start) 
         let said : Message Start = completed_reply tag source reply in
         plain_good d whole at peer (message_text said) (drawing (tags_due (to_tag_in reply.lines)) w)
         (inr (inr (e.own tag said refl (reply_clean tag source reply (tag_clean token w.drawn (to_tag_in reply.lines) clean_token) c))))
-        (alike d whole w (drawing (tags_due (to_tag_in reply.lines)) w) refl refl refl refl g)
+        (alike d whole w (drawing (tags_due (to_tag_in reply.lines)) w) refl refl refl refl refl g)
     met_good at (events.Heard said) w c e g = told_good at said c e w g
-    met_good at (events.Asked request kept rows) w c e g = record {
-      deeds = g.deeds;
-      acked = g.acked;
-      rooms = g.rooms;
-      acts = g.acts;
-      offers = each_append (IsOwnOffer d whole w.acts w.deeds) w.offers (offer.Web at _ ∷ []) g.offers (tt, tt);
-    }
+    met_good at (events.Asked request kept rows) w c e g =
+        let replied : World = serving d at request kept rows w in
+        steps.puts d token at StaysGood (steps_good at) (λ account counts v. noted_good (boxes.Puts account counts) v tt) (put_in d.names request kept) replied (record {
+          deeds = g.deeds;
+          acked = g.acked;
+          rooms = g.rooms;
+          boxes = g.boxes;
+          acts = g.acts;
+          offers = each_append (IsOwnOffer d whole w.acts w.deeds) w.offers (offer.Web at _ ∷ []) g.offers (tt, tt);
+        })
 
     handing_good : (took : Bool) (rows : List Row) (w : World) → Good d whole w → Good d whole (handing took rows w)
     handing_good took [] w g = g
     handing_good false (row ∷ rows) w g = g
-    handing_good true (row ∷ rows) w g = alike d whole w _ refl refl refl refl g
+    handing_good true (row ∷ rows) w g = alike d whole w _ refl refl refl refl refl g
 
     came_good : (at : ℕ) (x : Digest) (took : Bool) (w : World) → IsGoodDigest x → IsMet x → Good d whole w → Good d whole (came d token at x took w)
     came_good at x took w c e g =
         let begins : World = record (begun w) { clock = at } in
         let left : World = met d token at x begins in
-        handing_good took left.waiting left (met_good at x begins c e (alike d whole (begun w) begins refl refl refl refl (begun_good w g)))
+        handing_good took left.waiting left (met_good at x begins c e (alike d whole (begun w) begins refl refl refl refl refl (begun_good w g)))
 
     abbrev AreGoodNotices : List Notice → Type 0
     AreGoodNotices xs = Each (λ x. IsGoodDigest x.digest × IsMet x.digest) xs
@@ -584,5 +648,7 @@ module _ (d : Directory) (whole : List Happened) (own_law : (m : Message Start) 
 
     pub all_own : (loaded : Texts) (fuel : ℕ) → AllAreClean d whole (after_all loaded fuel)
     all_own loaded fuel =
-        let good : Good d whole (after_all loaded fuel) = after_good fuel (notices d whole) (beginning loaded) (notices_good [] whole refl) (record { deeds = tt; acked = tt; rooms = tt; acts = tt; offers = tt }) in
+        let good : Good d whole (after_all loaded fuel) =
+        after_good fuel (notices d whole) (beginning loaded) (notices_good [] whole refl)
+        (record { deeds = tt; acked = tt; rooms = tt; boxes = tt; acts = tt; offers = tt }) in
         record { built = own_acts (after_all loaded fuel).acts good.acts; offered = good.offers }

@@ -1,7 +1,8 @@
 -- Through a run each INVITE of a call, and what is in flight, was sent to its peer, and each has a number of its own, as long as fewer than 2^60 numbers are drawn; and numbers are drawn on.
-use Rattle.std.proofs.Common.{codes, ◌≡◌, ◌<◌, ◌≤◌, ◌^◌, ◌+◌, ℕ, zero, suc, Bool, true, false, List, [], ◌∷◌, ◌++◌, take, drop, length, Option, Some, None, Result, Ok, Err, refl, sym, cond, subst, arith, append-nil}
+use Rattle.std.proofs.Common.{codes, ◌≡◌, ◌<◌, ◌≤◌, ◌^◌, ◌+◌, ℕ, zero, suc, Bool, true, false, List, [], ◌∷◌, ◌++◌, take, drop, length, Option, Some, None, Result, Ok, Err, refl, sym, cond, subst, inl, arith, append-nil}
 use Rattle.std.specs.Prelude.{position, remove, slice_get, slice_set}
-use Rattle.mmtel_answers.specs.Said.{Said}
+use Rattle.std.specs.Option.{option_map}
+use Rattle.mmtel_answers.specs.Said.{Said, status_of}
 use Rattle.mmtel_b2bua.specs.Entries.{busy_beside, heard_by, is_numbered, kept, sent_it}
 use Rattle.mmtel_b2bua.specs.Histories as histories
 use Rattle.mmtel_b2bua.specs.Histories.{Deed, Drops, Finishes, Hears, Releases, Restores, finished_by, hears_after, table_after}
@@ -12,7 +13,7 @@ use Rattle.mmtel_b2bua.specs.declared.entries.Entry.{Entry}
 use Rattle.mmtel_b2bua.specs.declared.entries.InviteKey.{InviteKey}
 use Rattle.mmtel_b2bua.specs.declared.signals.Signal.{Signal}
 use Rattle.mmtel_b2bua.specs.declared.signals.Signal.TheVariants as signal
-use Rattle.mmtel_desk.specs.Invites.{invite_answered, invite_silent}
+use Rattle.mmtel_desk.specs.Invites.{behind_cookie, branch_in, invite_answered, invite_silent}
 use Rattle.mmtel_call_decisions.specs.Site.{Site}
 use Rattle.mmtel_call_decisions.specs.declared.openings.Arrival.{Arrival}
 use Rattle.mmtel_call.specs.Closing.{Step}
@@ -20,7 +21,7 @@ use Rattle.mmtel_call.specs.Settled.{is_settled}
 use Rattle.mmtel_call.specs.declared.signals.Signal as calls
 use Rattle.mmtel_call.specs.declared.signals.Signal.TheVariants as of_call
 use Rattle.mmtel_call_laws.specs.Branches.Laws.{EndsSendOnce, LentCallsWereSent, OpeningsSendOnce, ReturnedCallsWereSent, SendsOnce, StepsSendOnce}
-use Rattle.mmtel_call_laws.specs.Branches.Sent.{AreNumbered, CallWasSent, Each, WasAsked, WasSent, asks_in}
+use Rattle.mmtel_call_laws.specs.Branches.Sent.{AreNumbered, CallWasSent, Each, IsNotAwaited, WasAsked, WasSent, asks_in}
 use Rattle.mmtel_call_laws.proofs.Branches.Sending.{call_more, sent_before}
 use Rattle.mmtel_charging.specs.declared.rows.Row.{Row}
 use Rattle.mmtel_desk.specs.Desks.{fresh}
@@ -35,9 +36,16 @@ use Rattle.mmtel_focus.specs.declared.referrals.Replaces.{Replaces}
 use Rattle.mmtel_focus.specs.declared.signals.RoomSignal.{RoomSignal}
 use Rattle.mmtel_focus.specs.declared.signals.RoomSignal.TheVariants as of_room
 use Rattle.mmtel_in_force.specs.Texts.{Texts}
+use Rattle.mmtel_leg.specs.declared.dialogues.Dialogue.{Dialogue}
 use Rattle.mmtel_leg.specs.declared.legs.Released.{Released}
 use Rattle.mmtel_message.specs.Message.{Message}
 use Rattle.mmtel_message.specs.declared.messages.Start.{Start}
+use Rattle.mmtel_mwi.specs.Boxes as mailboxes
+use Rattle.mmtel_mwi.specs.Boxes.{counts_in, held, notice_of}
+use Rattle.mmtel_mwi.specs.Histories as boxes
+use Rattle.mmtel_mwi.specs.Notices.{notice_in, seconds_left}
+use Rattle.mmtel_mwi.specs.declared.counts.Counts.{Counts}
+use Rattle.mmtel_mwi.specs.declared.subscriptions.Subscription.{Subscription}
 use Rattle.mmtel_scan.specs.Numbers.{next_number}
 use Rattle.mmtel_sheet_values.specs.View.{InForce}
 use Rattle.mmtel_transaction.specs.Answers.{Next, fires, hear_says, is_merged, next_due, says_due}
@@ -58,19 +66,24 @@ use Rattle.mmtel_types.specs.declared.numbers.CallNo.{CallNo}
 use Rattle.mmtel_types.specs.declared.numbers.Peer.{Peer}
 use Rattle.mmtel_types.specs.declared.numbers.RoomNo.{RoomNo}
 use Rattle.mmtel_types.specs.declared.sides.Side.{Side}
-use Rattle.mmtel_run.specs.Answers.{Answer, plainly, tags_due, to_tag_in}
+use Rattle.mmtel_web.specs.Uploads.{put_in}
+use Rattle.mmtel_run.specs.Answers.{Answer, plainly, response_to, tags_due, to_tag_in}
 use Rattle.mmtel_run.specs.Calls.{are_full, arrived, asked_by, site_of}
-use Rattle.mmtel_run.specs.Deadlines.{Alarm, Deadline, OfAlarm, OfCall, OfMessage, OfSeat}
+use Rattle.mmtel_run.specs.Deadlines.{Alarm, Deadline, OfAlarm, OfBox, OfCall, OfMessage, OfSeat}
 use Rattle.mmtel_run.specs.Events.{Asked, Digest, Heard, Notice, Nothing, Refused, message_in}
 use Rattle.mmtel_run.specs.Records.{until_of}
-use Rattle.mmtel_run.specs.Refusals.{Course, Enter, EnterRoom, JoinRoom, Open, OpenRoom, Refuse, Register, course}
-use Rattle.mmtel_run.specs.Rooms.{Holder, InCall, InRoom, OfCalls, OfRooms, Whose, account_of_side, whose_key, whose_branch, is_with, leg_by, replacement_in, rooms_site, side_replaced, status_by}
+use Rattle.mmtel_run.specs.Refusals.{Course, Enter, EnterBox, EnterRoom, JoinRoom, Open, OpenRoom, Refuse, Register, Subscribe, course}
+use Rattle.mmtel_run.specs.Rooms.{Holder, InBox, InCall, InRoom, OfBoxes, OfCalls, OfRooms, Whose, account_of_side, whose_key, whose_branch, is_with, leg_by, replacement_in, rooms_site, side_replaced, status_by}
 use Rattle.mmtel_run.specs.Run.{after, clock_at, due_in, fire_one, fired_if, one_more, settled}
 use Rattle.mmtel_run.specs.Short.{tokens_of}
-use Rattle.mmtel_run.specs.World.{World, acknowledging_by, adopting, adoption_of, alarmed, answering, begun, beginning, bringing, calls_in, cancelling, cancelling_call, comes_of, drawing, emit_one, emitted, ended_of, entering_room, fired, finishing, handing, heard_in_rooms, heard_now, hearing, holder_in, housed, joining_of, joining_room, lending, lodging, met, next_tag, noticed, opening_room, registering, repeating, replaced, replaced_by, replaced_with, replacing, replying, responding_to, room_joined, room_opened, rooms_in, rung, seated, signalled, silenced, taken_out, taking, told, tokens_now, turned_away}
+use Rattle.mmtel_run.specs.Subscriptions.{box_answered, granting, notice_emits, noting, other_answer, putting, refusing_answer}
+use Rattle.mmtel_run.specs.World.{World, acknowledging_by, adopting, adoption_of, alarmed, answering, arming, beginning, begun, boxes_in, bringing, calls_in, cancelling, cancelling_call, comes_of, drawing, emit_one, emitted, ended_of, entering_room, finishing, fired, handing, heard_in_rooms, heard_now, hearing, holder_in, housed, joining_of, joining_room, lending, lodging, met, next_tag, noticed, opening_room, registering, repeating, replaced, replaced_by, replaced_with, replacing, replying, responding_to, room_joined, room_opened, rooms_in, rung, seated, served, serving, signalled, silenced, taken_out, taking, tokens_now, told, turned_away}
+use Rattle.mmtel_run.proofs.BoxSteps as mailing
+use Rattle.mmtel_run.proofs.BoxSteps.{AreAnswers, AreSteps, tells_in}
 use Rattle.mmtel_run_laws.specs.Alike.{AllEarly, IsEarly}
 use Rattle.mmtel_run_laws.specs.Invited.{DeedSendsOnce, RoomWasSent, RoomsSendOnce, TableWasSent}
 use Rattle.mmtel_run_laws.specs.Mask.{coming as coming_in}
+use Rattle.mmtel_run_laws.proofs.Growing.{Anyhow}
 use Rattle.mmtel_run_laws.proofs.Inviting.{table_more}
 use Rattle.mmtel_run_laws.proofs.Acts.{Falls, asks_after, asks_of, each_append, each_same, falls_after, falls_more, numbers_on, sent_after, sent_parted}
 
@@ -485,21 +498,91 @@ module _ (d : Directory) (token : List ℕ) where
     handing_goes false (row ∷ rows) w = same w
     handing_goes true (row ∷ rows) w = record { early = λ had less. less; holds = λ had. record { calls_sent = had.calls_sent; rooms_sent = had.rooms_sent; numbered = had.numbered } }
 
+    -- ---- mailboxes: the answer of a NOTIFY is not waited for as that of an INVITE is
+
+    notes_goes : (deed : boxes.Deed) (w : World) → Goes w (noting deed w)
+    notes_goes deed w = drew_more w (noting deed w) 0 refl (omega arith) refl refl
+
+    -- what goes out without a number
+    unnumbered_goes : (at : ℕ) (out : List Emit) (w : World) → AreNumbered d.sip token w.drawn w.drawn out → Goes w (emitted at out w)
+    unnumbered_goes at out w are =
+        let known : Asks = asks_of w.acts in
+        let v : World = emitted at out w in
+        record {
+          early = λ had less. subst (λ (n : ℕ). n < 2 ^ 60) (emitted_drawn at out w) less;
+          holds = λ had. same_sent (asks_after out known) (asks_of v.acts) w.drawn v.drawn w.deeds v.deeds w.rooms v.rooms
+              (sym (emitted_asks at out w)) (sym (emitted_drawn at out w)) (sym (emitted_deeds at out w)) (sym (emitted_rooms at out w)) (record {
+                calls_sent = each_same (EntryWasSent d.sip known) (EntryWasSent d.sip (asks_after out known))
+                    (λ e is. call_more (WasAsked d.sip known) (WasAsked d.sip (asks_after out known)) (λ method branch peer was. sent_after d.sip method branch peer out known (inl was)) e.call is)
+                    (table_after (site_of d) w.deeds).entries had.calls_sent;
+                rooms_sent = table_more (WasSent d.sip known) (WasSent d.sip (asks_after out known))
+                    (λ branch peer was. sent_after d.sip (codes "INVITE") branch peer out known (inl was)) (rooms.table_after (rooms_site d) w.rooms) had.rooms_sent;
+                numbered = λ less. falls_after d.sip token w.drawn w.drawn out known are (had.numbered less);
+              });
+        }
+
+    unawaited : (sip : Addr) (c : Dialogue) (branch : List ℕ) (last : Bool) (seconds : ℕ) (counts : Counts) → IsNotAwaited (notice_in sip c branch last seconds counts)
+    unawaited sip c branch last seconds counts None = refl
+    unawaited sip c branch last seconds counts (Some five) = refl
+
+    notice_numbered : (low : ℕ) (peer : Peer) (last : Bool) (branch : List ℕ) (at : ℕ) (table : mailboxes.Table) (o : Option Subscription) →
+        AreNumbered d.sip token low low (notice_emits peer (option_map (notice_of d.sip last branch at table) o))
+    notice_numbered low peer last branch at table None = omega arith
+    notice_numbered low peer last branch at table (Some s) = (low, inl (refl, unawaited d.sip s.leg.dialogue branch last (seconds_left s.until at) (counts_in s.account table)), omega arith)
+
+    -- the steps of message waiting, and what a request brings
+    box_steps : (at : ℕ) → AreSteps d token at Goes
+    box_steps at = record {
+      same = same;
+      next = then_goes;
+      notes = λ deed w none. notes_goes deed w;
+      draws = λ w. drew_more w (drawing 1 w) 1 refl refl refl refl;
+      arms = λ armed w. drew_more w (arming armed w) 0 refl (omega arith) refl refl;
+      asks = λ sub last peer message w lives is.
+          unnumbered_goes at (emit.Ask peer message ∷ []) (tells_in token sub w)
+          (subst (λ (o : Option (Message Start)). AreNumbered d.sip token (w.drawn + 1) (w.drawn + 1) (notice_emits peer o)) is
+          (notice_numbered (w.drawn + 1) peer last (next_tag token w) at (boxes_in w) (held sub (boxes_in w))));
+    }
+
+    box_answers : (at : ℕ) (key : TKey) (s : Said) → AreAnswers d token at Goes key s Anyhow
+    box_answers at key s = record {
+      reads = λ within. tt;
+      subscribes = λ account until w may. notes_goes (boxes.Subscribes account (leg_by (next_tag token w) s) until) (drawing 1 w);
+      grants = λ deed seconds w may.
+          let noted : World = noting deed (drawing 1 w) in
+          drew_more noted (emitted at (emit.Reply key (response_to d.sip (next_tag token w) s (granting seconds)) ∷ []) noted) 0 refl (omega arith) refl refl;
+      renews = λ seconds w may. replying_goes at key s (granting seconds) w;
+      refuses = λ within code w may. replying_goes at key s (refusing_answer code) w;
+      denies = λ code w is. replying_goes at key s (plainly code) w;
+      others = λ w is. replying_goes at key s (other_answer d s.heard) w;
+    }
+
+    putting_goes : (at : ℕ) (o : Option (Account × Counts)) (w : World) → Goes w (putting d token at o w)
+    putting_goes at o w = mailing.puts d token at Goes (box_steps at) (λ account counts v. notes_goes (boxes.Puts account counts) v) o w
+
+    box_answered_goes : (branch : Option (List ℕ)) (code : ℕ) (w : World) → Goes w (box_answered branch code w)
+    box_answered_goes branch code w = mailing.answered Goes same (λ deed v none. notes_goes deed v) branch code w
+
+    -- ---- deadlines
+
     silenced_goes : (at : ℕ) (branch method : List ℕ) (whose : Whose) (w : World) → Goes w (silenced d token at branch method whose w)
     silenced_goes at branch method OfCalls w = signalled_goes at (signal.Silent branch method) w
+    silenced_goes at branch method OfBoxes w = box_answered_goes (behind_cookie branch) 408 w
     silenced_goes at branch method OfRooms w = seated_goes at (of_room.Silent branch method) w
 
     ended_of_goes : (at : ℕ) (key : TKey) (whose : Whose) (w : World) → Goes w (ended_of d token at key whose w)
     ended_of_goes at key OfCalls w = signalled_goes at (signal.Over key) w
+    ended_of_goes at key OfBoxes w = same w
     ended_of_goes at key OfRooms w = seated_goes at (of_room.Over key) w
 
     alarmed_goes : (at : ℕ) (x : Alarm) (w : World) → Goes w (alarmed d token at x w)
     alarmed_goes at (OfCall call what) w = signalled_goes at (signal.Due call what) w
     alarmed_goes at (OfSeat room seat what) w = seated_goes at (of_room.Due room seat what) w
+    alarmed_goes at (OfBox sub set) w = mailing.ends d token at Goes (box_steps at) sub set w
 
     rung_goes : (x : Due) (w : World) → Goes w (rung d token x w)
     rung_goes (due.Again peer at text) w = drew_more w _ 0 refl (omega arith) refl refl
-    rung_goes (due.Silent key branch method at) w = silenced_goes at branch method (whose_branch (invite_silent branch method) (calls_in d w).entries) w
+    rung_goes (due.Silent key branch method at) w = silenced_goes at branch method (whose_branch (invite_silent branch method) (behind_cookie branch) (calls_in d w).entries (boxes_in w)) w
     rung_goes (due.Over key at) w = ended_of_goes at key (whose_key key (calls_in d w).entries) w
     rung_goes due.Nothing w = same w
 
@@ -599,6 +682,8 @@ module _ (d : Directory) (token : List ℕ) where
       taking_goes key (Register account seconds) w =
           let v : World = registering account (until_of at seconds) w in
           then_goes w v (replying d token at key s (plainly 200) v) (drew_more w v 0 refl (omega arith) refl refl) (replying_goes at key s (plainly 200) v)
+      taking_goes key Subscribe w = mailing.subscribes d token at Goes (box_steps at) key s Anyhow (box_answers at key s) w
+      taking_goes key (EnterBox sub) w = mailing.enters d token at Goes (box_steps at) key s Anyhow (box_answers at key s) sub w
 
       repeating_goes : (o : Option (Peer × List ℕ)) (w : World) → Goes w (repeating at o w)
       repeating_goes None w = same w
@@ -616,15 +701,17 @@ module _ (d : Directory) (token : List ℕ) where
       acknowledging_goes None w = same w
       acknowledging_goes (Some (InCall call side)) w = signalled_goes at (signal.Ack call side s) w
       acknowledging_goes (Some (InRoom room seat)) w = seated_goes at (of_room.Ack room seat s) w
+      acknowledging_goes (Some (InBox sub)) w = same w
 
       responding_goes : (key : TKey) (whose : Whose) (w : World) → Goes w (responding_to d token at key s whose w)
       responding_goes key OfCalls w = signalled_goes at (signal.Answer key s) w
+      responding_goes key OfBoxes w = box_answered_goes (branch_in s.heard.vias) (status_of s.heard.start) w
       responding_goes key OfRooms w = seated_goes at (of_room.Answer key s) w
 
       answering_goes : (o : Option transaction.Heard) (w : World) → Goes w (answering d token at s o w)
       answering_goes None w = drew_more w _ (tags_due s.heard.to_tag) refl refl refl refl
       answering_goes (Some (heard.Fresh key message)) w = taking_goes key (course d (is_merged key.0 (live w.acts)) (are_full (calls_in d w).entries) (holder_in d s.heard w) s.heard) w
-      answering_goes (Some (heard.Answer key message)) w = responding_goes key (whose_branch (invite_answered s) (calls_in d w).entries) w
+      answering_goes (Some (heard.Answer key message)) w = responding_goes key (whose_branch (invite_answered s) (branch_in s.heard.vias) (calls_in d w).entries (boxes_in w)) w
       answering_goes (Some (heard.Repeat sent)) w = repeating_goes sent w
       answering_goes (Some (heard.Acked key)) w = same w
       answering_goes (Some (heard.Cancel key invite message)) w = cancelling_goes key invite w
@@ -644,7 +731,9 @@ module _ (d : Directory) (token : List ℕ) where
     met_goes at Nothing w = same w
     met_goes at (Refused peer source reply) w = drew_more w _ (tags_due (to_tag_in reply.lines)) refl refl refl refl
     met_goes at (Heard said) w = told_goes at said w
-    met_goes at (Asked request kept rows) w = drew_more w _ 0 refl (omega arith) refl refl
+    met_goes at (Asked request kept rows) w =
+        let v : World = serving d at request kept rows w in
+        then_goes w v (served d token at request kept rows w) (drew_more w v 0 refl (omega arith) refl refl) (putting_goes at (put_in d.names request kept) v)
 
     pub coming_goes : (fuel : ℕ) (x : Notice) (w : World) → Goes w (coming_in d token fuel x w)
     coming_goes fuel x w =

@@ -22,9 +22,11 @@ use Rattle.mmtel_b2bua.specs.declared.entries.Entry.{Entry}
 use Rattle.mmtel_focus.specs.Rooms.{Room}
 use Rattle.mmtel_run.specs.Answers.{Answer, allowing, plainly, too_small, unsupported, without_extension}
 use Rattle.mmtel_run.specs.Calls.{are_full}
-use Rattle.mmtel_run.specs.Refusals.{Course, Enter, EnterRoom, JoinRoom, Open, OpenRoom, Refuse, Register, by_method, course, course_by, course_in, first_that_applies, invited, invited_at, is_factory, is_foreign, is_known_method, is_last_hop, is_register, is_room, is_short_session, is_timed, is_unreadable_session, opening, registration, registration_of, room_number, to_account, with_audio}
-use Rattle.mmtel_run.specs.Rooms.{Holder, InCall, InRoom, holder_of}
-use Rattle.mmtel_run.specs.World.{World, calls_in, replying, rooms_in, taking, taking_fresh}
+use Rattle.mmtel_run.specs.Refusals.{Course, Enter, EnterBox, EnterRoom, JoinRoom, Open, OpenRoom, Refuse, Register, Subscribe, by_method, course, course_by, course_in, entering, first_that_applies, in_dialog, invited}
+use Rattle.mmtel_run.specs.Refusals.{invited_at, is_elsewhere, is_factory, is_foreign, is_known_method, is_last_hop, is_register, is_room, is_short_session, is_subscribe, is_timed, is_unreadable_session, opening}
+use Rattle.mmtel_run.specs.Refusals.{registration, registration_of, room_number, to_account, with_audio}
+use Rattle.mmtel_run.specs.Rooms.{Holder, InBox, InCall, InRoom, holder_of}
+use Rattle.mmtel_run.specs.World.{World, boxes_in, calls_in, replying, rooms_in, taking, taking_fresh}
 use Rattle.mmtel_run_laws.specs.Sessions.{AsksTooLittle, IsElseTaken, IsElseTakenIn, ShortSessionsAreRefused}
 
 -- ---- such a request is refused
@@ -54,6 +56,8 @@ IsOther Open = Unit {0}
 IsOther OpenRoom = Unit {0}
 IsOther (JoinRoom room) = Unit {0}
 IsOther (Register account seconds) = Unit {0}
+IsOther Subscribe = Unit {0}
+IsOther (EnterBox sub) = Unit {0}
 
 other_if : (b : Bool) (one two : Course) → IsOther one → IsOther two → IsOther (if b then one else two)
 other_if true one two f g = f
@@ -87,12 +91,20 @@ method_other directory full message =
     other_if (is_method (codes "OPTIONS") message.start) (Refuse (allowing directory 200)) _ (λ e. omega (arith, e))
     (other_if (is_method (codes "REFER") message.start) (Refuse (plainly 403)) _ (λ e. omega (arith, e))
     (other_if (is_method (codes "INVITE") message.start) (invited directory full message) _ (invited_other directory full message (uri_of (request_uri message.start)))
-    (other_if (is_register message) (registration directory.names.accounts message) (Refuse (plainly 481)) (registration_other directory message) (λ e. omega (arith, e)))))
+    (other_if (is_register message) (registration directory.names.accounts message) _ (registration_other directory message)
+    (other_if (is_subscribe message) Subscribe (Refuse (plainly 481)) tt (λ e. omega (arith, e))))))
+
+dialog_other : (holder : Holder) → IsOther (in_dialog holder)
+dialog_other (InCall call side) = tt
+dialog_other (InRoom room seat) = tt
+dialog_other (InBox sub) = tt
+
+entering_other : (holder : Holder) (message : HeardMessage) → IsOther (entering holder message)
+entering_other holder message = other_if (is_subscribe message && is_elsewhere holder) (Refuse (plainly 481)) (in_dialog holder) (λ e. omega (arith, e)) (dialog_other holder)
 
 in_other : (directory : Directory) (full : Bool) (named : Option Holder) (message : HeardMessage) → IsOther (course_in directory full named message)
 in_other directory full None message = method_other directory full message
-in_other directory full (Some (InCall call side)) message = tt
-in_other directory full (Some (InRoom room seat)) message = tt
+in_other directory full (Some holder) message = entering_other holder message
 
 -- what it is, it is no 422
 not_so : (one : Course) (answer : Answer) → IsOther one → one ≡ Refuse answer → answer.code ≡ 422 → ⊥
@@ -103,6 +115,8 @@ not_so Open answer f is code = cc
 not_so OpenRoom answer f is code = cc
 not_so (JoinRoom room) answer f is code = cc
 not_so (Register account seconds) answer f is code = cc
+not_so Subscribe answer f is code = cc
+not_so (EnterBox sub) answer f is code = cc
 
 -- one of these conditions holds, and its answer is no 422
 refused_other : (A : Type 0) (code : ℕ) (answer given : Answer) → Refuse given ≡ Refuse answer → answer.code ≡ 422 → given.code ≡ code → (code ≡ 422 → ⊥) → A
@@ -201,12 +215,12 @@ answered directory token at key said world asks taken =
     let entries : List Entry = (calls_in directory world).entries in
     let live_rooms : List Room = (rooms_in directory world).live in
     ap (λ c. taking directory token at key said c world)
-    (refused directory (is_merged key.0 (live world.acts)) (are_full entries) (holder_of said.heard entries live_rooms) said.heard asks taken)
+    (refused directory (is_merged key.0 (live world.acts)) (are_full entries) (holder_of said.heard entries live_rooms (boxes_in world)) said.heard asks taken)
 
 pub short_sessions_are_refused : ShortSessionsAreRefused
 short_sessions_are_refused = record {
   refused = refused;
   alone = alone;
   answered = answered;
-  leaves = λ directory token at key said answer world. record { calls = refl; rooms = refl; armed = refl; texts = refl; registrations = refl; waiting = refl; filed = refl };
+  leaves = λ directory token at key said answer world. record { calls = refl; rooms = refl; boxes = refl; armed = refl; texts = refl; registrations = refl; waiting = refl; filed = refl };
 }

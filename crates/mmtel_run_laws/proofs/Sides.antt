@@ -1,13 +1,13 @@
 -- In each of two runs a message hides no more than the call knows that hears it.
-use Rattle.std.proofs.Common.{◌≡◌, ℕ, Bool, true, false, List, refl, ap, sym, ◌∙◌, Option, Some, None, subst}
-use Rattle.std.specs.Prelude.{if◌then◌else◌, is_some, position, slice_get}
+use Rattle.std.proofs.Common.{◌≡◌, ℕ, Bool, true, false, ◌&&◌, List, refl, ap, sym, ◌∙◌, Option, Some, None, subst}
+use Rattle.std.specs.Prelude.{if◌then◌else◌, is_none, is_some, position, slice_get}
 use Rattle.std.specs.Option.{option_map, unwrap_or}
 use Rattle.mmtel_answers.specs.Said.{Said}
 use Rattle.mmtel_b2bua.specs.Entries.{is_numbered, sent_it}
 use Rattle.mmtel_b2bua.specs.Lending.{entry_at, entry_of}
 use Rattle.mmtel_b2bua.specs.declared.entries.Entry.{Entry}
 use Rattle.mmtel_b2bua_laws.specs.Signals.{CallHears}
-use Rattle.mmtel_desk.specs.Invites.{invite_answered}
+use Rattle.mmtel_desk.specs.Invites.{branch_in, invite_answered}
 use Rattle.mmtel_call.specs.declared.calls.Call.{Call}
 use Rattle.mmtel_call.specs.declared.calls.Phase.{Phase}
 use Rattle.mmtel_call.specs.declared.calls.Phase.TheVariants.{Lent, Offered, Over, Stood}
@@ -16,7 +16,7 @@ use Rattle.mmtel_call.specs.Answered.{leg_of}
 use Rattle.mmtel_call.specs.declared.signals.Signal.TheVariants as of_call
 use Rattle.mmtel_call_laws.specs.Secret.Common.{MessagesAreWhole}
 use Rattle.mmtel_call_laws.specs.Secret.Premises.{IsAnswer, IsAsked, goes_across}
-use Rattle.mmtel_call_laws.specs.Secret.Roles.{Role, hides, opening_role}
+use Rattle.mmtel_call_laws.specs.Secret.Roles.{Plain, Role, hides, opening_role}
 use Rattle.mmtel_call_laws.specs.Secret.Seen.{Trust, trust_of}
 use Rattle.mmtel_call_laws.specs.Secret.Table.{FitsIn, SentIn}
 use Rattle.mmtel_desk.specs.Loose.{is_of}
@@ -44,11 +44,12 @@ use Rattle.mmtel_types.specs.declared.sides.Side.{Side}
 use Rattle.mmtel_run.specs.Alike.{trusts}
 use Rattle.mmtel_run.specs.Calls.{named_by, site_of}
 use Rattle.mmtel_run.specs.Events.{message_in}
-use Rattle.mmtel_run.specs.Rooms.{OfCalls, OfRooms, Whose, calls_or_rooms, is_of_calls, whose_branch}
-use Rattle.mmtel_run.specs.World.{World, calls_in, rooms_in}
+use Rattle.mmtel_run.specs.Refusals.{is_subscribe}
+use Rattle.mmtel_run.specs.Rooms.{OfBoxes, OfCalls, OfRooms, Whose, is_of_boxes, is_of_calls, whose_branch, whose_of}
+use Rattle.mmtel_run.specs.World.{World, boxes_in, calls_in, rooms_in}
 use Rattle.mmtel_run_laws.specs.Alike.{InviteIsTied, IsOfOne, MessageIsTied, SeatAnswerIsTied}
-use Rattle.mmtel_run_laws.specs.Belonging.{answer_role, answer_role_by, answered_role, asked_at, asked_in, comes_from, dialog_role, hides_caller, is_opening, loose_at, named_role, of_invite, of_loose, of_seat, request_role_of, response_role_of, role_as, role_in_answer, role_in_seat_answer, role_of, seat_answer_role, seat_asked, unshown_request}
-use Rattle.mmtel_run_laws.proofs.CourseKinds.{ack_taken, answer_response, named_tagged, no_ack_across}
+use Rattle.mmtel_run_laws.specs.Belonging.{answer_role, answer_role_by, answered_role, asked_at, asked_in, comes_from, dialog_role, hides_caller, is_opening, is_subscribing, loose_at, may_subscribe, named_role, of_invite, of_loose, of_seat, request_role_of, response_role_of, role_as, role_in_answer, role_in_seat_answer, role_of, seat_answer_role, seat_asked, unshown_request}
+use Rattle.mmtel_run_laws.proofs.CourseKinds.{ack_taken, answer_response, named_tagged, no_ack_across, subscribe_opens_nothing, subscribes_elsewhere}
 use Rattle.mmtel_run_laws.proofs.Emitting.{Knows}
 use Rattle.mmtel_run_laws.proofs.Fits.{answer_by, both_own, entry_found, is_answer, request_fits, true_false}
 
@@ -78,8 +79,9 @@ module _ (wholes : MessagesAreWhole) (d : Directory) (keys : TKey → Bool) (x :
   dialog_is : (c : CallNo × Side) → named_by m.heard entries ≡ Some c → dialog_role x u m ≡ request_role_of x.reliable c.1 m (entry_of c.0.0 entries)
   dialog_is c named = ap (λ (o : Option (CallNo × Side)). named_role x.reliable m entries o) named
 
-  abbrev fresh_by : (opens cancels : Bool) → Role
-  fresh_by opens cancels = if opens then opening_role (hides_caller x u m.heard) else if cancels then unshown_request else dialog_role x u m
+  abbrev fresh_by : (opens cancels subscribes : Bool) → Role
+  fresh_by opens cancels subscribes =
+      if opens then opening_role (hides_caller x u m.heard) else if cancels then unshown_request else if subscribes then Plain else dialog_role x u m
 
   -- a request that is fresh, and no CANCEL
   fresh_is : (c : CallNo × Side) → part_of (head_of (message_in m.heard)) (live u.acts) ≡ part.Fresh → is_cancel (head_of (message_in m.heard)) ≡ false →
@@ -87,8 +89,18 @@ module _ (wholes : MessagesAreWhole) (d : Directory) (keys : TKey → Bool) (x :
       → role_of x u m ≡ request_role_of x.reliable c.1 m (entry_of c.0.0 entries)
   fresh_is c p other named =
       role_is part.Fresh p
-      ∙ (ap (λ (b : Bool). fresh_by b (is_cancel (head_of (message_in m.heard)))) (named_tagged m.heard entries c named)
-      ∙ (ap (fresh_by false) other ∙ dialog_is c named))
+      ∙ (ap (λ (b : Bool). fresh_by b (is_cancel (head_of (message_in m.heard))) (is_subscribing x u m.heard)) (named_tagged m.heard entries c named)
+      ∙ (ap (λ (b : Bool). fresh_by false b (is_subscribing x u m.heard)) other ∙ (ap (fresh_by false false) (subscribes_elsewhere x u m.heard c named) ∙ dialog_is c named)))
+
+  -- a SUBSCRIBE that names none hides but private entries
+  pub subscriber_is : part_of (head_of (message_in m.heard)) (live u.acts) ≡ part.Fresh → is_cancel (head_of (message_in m.heard)) ≡ false → may_subscribe x m.heard ≡ true →
+      named_by m.heard entries ≡ None → role_of x u m ≡ Plain
+  subscriber_is p other may named =
+      let is : is_subscribe m.heard ≡ true = (and_true (is_subscribe m.heard) x.names.mwi may).0 in
+      let subscribes : is_subscribing x u m.heard ≡ true = ap (λ (b : Bool). b && is_none (named_by m.heard entries)) may ∙ ap (λ (o : Option (CallNo × Side)). is_none o) named in
+      role_is part.Fresh p
+      ∙ (ap (λ (b : Bool). fresh_by b (is_cancel (head_of (message_in m.heard))) (is_subscribing x u m.heard)) (subscribe_opens_nothing m.heard is)
+      ∙ (ap (λ (b : Bool). fresh_by false b (is_subscribing x u m.heard)) other ∙ ap (fresh_by false false) subscribes))
 
   pub request_hears : (c : CallNo × Side) (key : TKey) → part_of (head_of (message_in m.heard)) (live u.acts) ≡ part.Fresh → is_cancel (head_of (message_in m.heard)) ≡ false →
       named_by m.heard entries ≡ Some c → (x.reliable ≡ false → goes_across c.1 m ≡ false) → IsAsked S key m
@@ -99,7 +111,7 @@ module _ (wholes : MessagesAreWhole) (d : Directory) (keys : TKey → Bool) (x :
   pub opening_is : part_of (head_of (message_in m.heard)) (live u.acts) ≡ part.Fresh → is_opening m.heard ≡ true → role_of x u m ≡ opening_role (hides_caller x u m.heard)
   opening_is p opens =
       role_is part.Fresh p
-      ∙ ap (λ (b : Bool). fresh_by b (is_cancel (head_of (message_in m.heard)))) opens
+      ∙ ap (λ (b : Bool). fresh_by b (is_cancel (head_of (message_in m.heard))) (is_subscribing x u m.heard)) opens
 
   pub ack_hears : (c : CallNo × Side) → part_of (head_of (message_in m.heard)) (live u.acts) ≡ part.AckOf2xx → named_by m.heard entries ≡ Some c →
       CallHears S (is_numbered c.0.0) (of_call.Ack c.1 m) (role_of x u m) entries
@@ -153,11 +165,12 @@ module _ (wholes : MessagesAreWhole) (d : Directory) (keys : TKey → Bool) (x :
   -- what is of the rooms is of no call
   abbrev calls_have : Whose → Bool
   calls_have OfCalls = true
+  calls_have OfBoxes = false
   calls_have OfRooms = false
 
-  of_no_call : (b : Bool) → calls_or_rooms b ≡ OfRooms → b ≡ false
-  of_no_call true e = ap calls_have e
-  of_no_call false e = refl
+  of_no_call : (b c : Bool) → whose_of b c ≡ OfRooms → b ≡ false
+  of_no_call true c e = ap calls_have e
+  of_no_call false c e = refl
 
   none_of : (o : Option ℕ) → is_some o ≡ false → o ≡ None
   none_of None e = refl
@@ -221,11 +234,12 @@ module _ (wholes : MessagesAreWhole) (d : Directory) (keys : TKey → Bool) (x :
         let t = tie.seat at place room seat found got asked_there got_too in
         record { invite = invite_by seat.invite (λ hidden. (its hidden).1) t.invite; leg = answer_of (dialogue_of seat).peer (λ hidden. (its hidden).0) t.leg }
 
-  pub seat_hears : (key : ℕ) → part_of (head_of (message_in m.heard)) (live u.acts) ≡ part.Answer key → whose_branch (invite_answered m) entries ≡ OfRooms → Answers S (tkey key) (record { said = m; role = role_of x u m }) table
+  pub seat_hears : (key : ℕ) → part_of (head_of (message_in m.heard)) (live u.acts) ≡ part.Answer key →
+      whose_branch (invite_answered m) (branch_in m.heard.vias) entries (boxes_in u) ≡ OfRooms → Answers S (tkey key) (record { said = m; role = role_of x u m }) table
   seat_hears key p rooms = by (invite_answered m) refl
     where
       none : is_of_calls (invite_answered m) entries ≡ false
-      none = of_no_call (is_of_calls (invite_answered m) entries) rooms
+      none = of_no_call (is_of_calls (invite_answered m) entries) (is_of_boxes (branch_in m.heard.vias) (boxes_in u)) rooms
 
       by : (o : Option (List ℕ)) → invite_answered m ≡ o → IsAnswerBy S (tkey key) (record { said = m; role = role_of x u m }) o table
       by None is = tt

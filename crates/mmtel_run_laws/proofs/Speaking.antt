@@ -1,18 +1,19 @@
 -- Of two messages that are the same without private places the same is read and decided, and the answers to them differ in texts to trusted peers alone.
-use Rattle.std.proofs.Common.{◌≡◌, ℕ, Bool, true, false, List, [], ap, sym, ◌∙◌, Option, None, codes, refl}
+use Rattle.std.proofs.Common.{◌≡◌, ℕ, Bool, true, false, List, [], ap, sym, ◌∙◌, Option, None, codes, refl, subst}
 use Rattle.mmtel_answers.specs.Answers.{own_reply}
 use Rattle.mmtel_answers.specs.Said.{Said}
 use Rattle.mmtel_b2bua.specs.declared.entries.Entry.{Entry}
 use Rattle.mmtel_call_laws.proofs.Secret.Numbers.{number_same}
 use Rattle.mmtel_call_laws.specs.Secret.Parts.{public_dialog_by, public_leg}
-use Rattle.mmtel_call_laws.specs.Secret.Roles.{Role, hidden_by, private_places, without_private}
+use Rattle.mmtel_call_laws.specs.Secret.Roles.{Plain, Role, hidden_by, private_places, without_private}
 use Rattle.mmtel_directory.specs.declared.directories.Directory.{Directory}
 use Rattle.mmtel_focus.specs.Rooms.{Room}
-use Rattle.mmtel_leg.specs.Dialogues.{met, opened as opened_dialog}
+use Rattle.mmtel_leg.specs.Dialogues.{met, number_in, opened as opened_dialog, taken}
 use Rattle.mmtel_leg.specs.Remotes.{field, remote_of}
 use Rattle.mmtel_leg.specs.declared.dialogues.Dialogue.{Dialogue}
-use Rattle.mmtel_masks.proofs.DialogLaws.{dialogs, routes, tags}
+use Rattle.mmtel_masks.proofs.DialogLaws.{dialogs, numbers, remotes, routes, tags, target}
 use Rattle.mmtel_masks.proofs.ResponseLaws.{request_to}
+use Rattle.mmtel_masks.specs.Dialogs.{aiming_at}
 use Rattle.mmtel_masks.specs.Heads.{HeardAlikeHaveOneHead}
 use Rattle.mmtel_masks.specs.Responses.{AlikeResponsesHaveOneHead}
 use Rattle.mmtel_message.specs.Addresses.{contact_text}
@@ -24,22 +25,27 @@ use Rattle.mmtel_parties.specs.Parties.{believed_user, parties_by, parties_of, r
 use Rattle.mmtel_parties.specs.declared.parties.Parties.{Parties}
 use Rattle.mmtel_transaction.specs.Heads.{head_of, reliable_number}
 use Rattle.mmtel_trust.proofs.Masked.{hidden_once}
-use Rattle.mmtel_trust.specs.Digest.{HeardMessage, caller_account}
-use Rattle.mmtel_trust.specs.Mask.{Places, hide_if, masked_lines, places_in}
-use Rattle.mmtel_trust.specs.MaskedMessages.{public_part}
+use Rattle.mmtel_trust.specs.Digest.{HeardMessage, account_from, caller_account}
+use Rattle.mmtel_trust.specs.Mask.{Entries, Places, hide_if, masked_lines, only, places_in}
+use Rattle.mmtel_trust.specs.MaskedMessages.{private_entries, public_part}
+use Rattle.mmtel_trust.specs.declared.identities.Identities.{Identities}
 use Rattle.mmtel_types.specs.declared.addrs.Addr.{Addr}
 use Rattle.mmtel_types.specs.declared.numbers.Account.{Account}
 use Rattle.mmtel_types.specs.declared.numbers.Peer.{Peer}
 use Rattle.mmtel_types.specs.declared.sides.Side.TheVariants.{Caller}
+use Rattle.mmtel_mwi.specs.Boxes as mailboxes
 use Rattle.mmtel_run.specs.Alike.{EqualButForAccounts, Kin, MasksMakeKin, trusts}
 use Rattle.mmtel_run.specs.Answers.{Answer, response_to}
 use Rattle.mmtel_run.specs.Calls.{named_by}
 use Rattle.mmtel_run.specs.Events.{message_in}
 use Rattle.mmtel_run.specs.Mask.{mask_said}
 use Rattle.mmtel_run.specs.Refusals.{course, registrant}
-use Rattle.mmtel_run.specs.Rooms.{Holder, leg_by, seat_by}
+use Rattle.mmtel_run.specs.Rooms.{Holder, leg_by, seat_by, box_by}
+use Rattle.mmtel_run.specs.Subscriptions.{mailbox_named, sender_of}
 use Rattle.mmtel_run_laws.specs.Belonging.{is_opening}
+use Rattle.mmtel_run_laws.proofs.BoxesAlike.{AskAlike, SubscribeAlike}
 use Rattle.mmtel_run_laws.proofs.Fits.{true_false}
+use Rattle.mmtel_run_laws.proofs.Testing.{lines_by, plain_identities, unplaced}
 
 -- ---- the dialog of an INVITE: what is private of it is what a dialog leaves out
 
@@ -55,6 +61,31 @@ opened_hidden p peer ls tag e =
 opened_by : (b : Bool) (p : Places) (peer : Peer) (h : HeardMessage) (tag : List ℕ) → is_request h.start ≡ true → public_dialog_by b (opened_dialog peer (hidden_by b p h).lines tag) ≡ public_dialog_by b (opened_dialog peer h.lines tag)
 opened_by true p peer h tag asked = opened_hidden (places_in h.start p) peer h.lines tag (request_to p h.start asked)
 opened_by false p peer h tag asked = refl
+
+-- ---- and of a request that hides but private entries of History-Info nothing that a dialog has is private
+
+remote_plain : (es : Entries) (ls : List Line) → remote_of Caller (masked_lines (only es) ls) ≡ remote_of Caller ls
+remote_plain es ls = remotes (only es) Caller ls ∙ ap (λ (t : List ℕ). aiming_at t (remote_of Caller ls)) (target (only es) ls refl)
+
+opened_plainly : (b : Bool) (es : Entries) (peer : Peer) (ls : List Line) (tag : List ℕ) → opened_dialog peer (lines_by b (only es) ls) tag ≡ opened_dialog peer ls tag
+opened_plainly true es peer ls tag =
+    ap (λ (x : Dialogue). met x (remote_of Caller (masked_lines (only es) ls))) (dialogs (only es) peer ls tag refl)
+    ∙ ap (met (taken peer ls tag)) (remote_plain es ls)
+opened_plainly false es peer ls tag = refl
+
+leg_plain : (tag : List ℕ) (m : Said) → leg_by tag (without_private Plain m) ≡ leg_by tag m
+leg_plain tag m =
+    ap (λ (x : Dialogue). record { dialogue = x; meter = None })
+    (ap (λ (p : Places). opened_dialog m.peer (lines_by m.heard.trusted p m.heard.lines) tag) (unplaced m.heard.start (private_entries m.heard))
+    ∙ opened_plainly m.heard.trusted (private_entries m.heard) m.peer m.heard.lines tag)
+
+sender_plain : (x : Directory) (m : Said) → sender_of x (without_private Plain m).heard ≡ sender_of x m.heard
+sender_plain x m = ap (λ (i : Identities). account_from x.names.accounts i None) (plain_identities m)
+
+-- the number is never private
+number_by : (b : Bool) (p : Places) (h : HeardMessage) → number_in (hidden_by b p h).lines ≡ number_in h.lines
+number_by true p h = numbers (places_in h.start p) h.lines
+number_by false p h = refl
 
 module _ (heads : HeardAlikeHaveOneHead) (responses : AlikeResponsesHaveOneHead) where
   head_by : (b c : Bool) (p q : Places) (x y : HeardMessage) → b ≡ c → hidden_by b p x ≡ hidden_by c q y → head_of (message_in x) ≡ head_of (message_in y)
@@ -119,6 +150,9 @@ module _ (heads : HeardAlikeHaveOneHead) (responses : AlikeResponsesHaveOneHead)
     pub seated_same : (live : List Room) → seat_by m.heard live ≡ seat_by n.heard live
     seated_same live = ap (λ (h : HeardMessage). seat_by h live) public_same
 
+    pub boxed_same : (table : mailboxes.Table) → box_by m.heard table ≡ box_by n.heard table
+    boxed_same table = ap (λ (h : HeardMessage). box_by h table) public_same
+
     pub start_same : m.heard.start ≡ n.heard.start
     start_same = ap (λ (x : Said). x.heard.start) same
 
@@ -137,6 +171,46 @@ module _ (heads : HeardAlikeHaveOneHead) (responses : AlikeResponsesHaveOneHead)
         ∙ (ap (λ (x : Said). public_dialog_by x.heard.trusted (opened_dialog x.peer x.heard.lines tag)) same
         ∙ (opened_by n.heard.trusted (private_places s n.heard) n.peer n.heard tag request_too
         ∙ ap (λ (b : Bool). public_dialog_by b (opened_dialog n.peer n.heard.lines tag)) told_too))))
+
+    -- ---- what is asked of a mailbox
+
+    pub asked_same : AskAlike m n
+    asked_same = record {
+      start = start_same;
+      expires = ap (λ (x : Said). x.heard.expires) same;
+      number =
+          sym (number_by m.heard.trusted (private_places r m.heard) m.heard)
+          ∙ (ap (λ (x : Said). number_in x.heard.lines) same ∙ number_by n.heard.trusted (private_places s n.heard) n.heard);
+    }
+
+    -- of two SUBSCRIBEs, which hide but private entries of History-Info
+    module _ (one : r ≡ Plain) (other : s ≡ Plain) (looks : sender_of d (without_private s n).heard ≡ sender_of e (without_private s n).heard)
+        (looks_too : mailbox_named d n.heard ≡ mailbox_named e n.heard) where
+      plain_same : without_private Plain m ≡ without_private Plain n
+      plain_same = ap (λ (x : Role). without_private x m) (sym one) ∙ (same ∙ ap (λ (x : Role). without_private x n) other)
+
+      sender_same : sender_of d m.heard ≡ sender_of e n.heard
+      sender_same =
+          let plainly : sender_of d (without_private Plain n).heard ≡ sender_of e (without_private Plain n).heard =
+          subst (λ (x : Role). sender_of d (without_private x n).heard ≡ sender_of e (without_private x n).heard) other looks in
+          sym (sender_plain d m) ∙ (ap (λ (x : Said). sender_of d x.heard) plain_same ∙ (plainly ∙ sender_plain e n))
+
+      mailbox_same : mailbox_named d m.heard ≡ mailbox_named e n.heard
+      mailbox_same = ap (λ (h : HeardMessage). mailbox_named d h) public_same ∙ looks_too
+
+      pub subscribed_same : SubscribeAlike d e m n
+      subscribed_same = record {
+        asking = λ within i. record {
+          trusted = trusted_same i;
+          within = within;
+          sender = sender_same i;
+          mailbox = mailbox_same i;
+          event = (public_same i).event;
+          has_contact = (public_same i).one_contact;
+        };
+        mailbox = mailbox_same;
+        leg = λ tag. sym (leg_plain tag m) ∙ (ap (leg_by tag) plain_same ∙ leg_plain tag n);
+      }
 
     -- ---- the answers
 

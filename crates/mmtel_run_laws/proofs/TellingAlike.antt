@@ -60,6 +60,7 @@ use Rattle.mmtel_types.specs.declared.numbers.Account.{Account}
 use Rattle.mmtel_types.specs.declared.numbers.CallNo.{CallNo}
 use Rattle.mmtel_types.specs.declared.numbers.Peer.{Peer}
 use Rattle.mmtel_types.specs.declared.numbers.RoomNo.{RoomNo}
+use Rattle.mmtel_types.specs.declared.numbers.SubNo.{SubNo}
 use Rattle.mmtel_types.specs.declared.sides.Side.{Side}
 use Rattle.mmtel_run.specs.Alike.{MasksMakeKin, trusts}
 use Rattle.mmtel_run.specs.Answers.{Answer, plainly, response_to, tag_for, tags_due}
@@ -67,22 +68,24 @@ use Rattle.mmtel_run.specs.Calls.{DialogName, are_full, arrived, asked_by, calle
 use Rattle.mmtel_run.specs.Events.{message_in}
 use Rattle.mmtel_run.specs.InForce.{CallsAreToldWhatIsInForce}
 use Rattle.mmtel_run.specs.Records.{until_of}
-use Rattle.mmtel_run.specs.Refusals.{Course, Enter, EnterRoom, JoinRoom, Open, OpenRoom, Refuse, Register, course, registrant}
-use Rattle.mmtel_run.specs.Rooms.{Holder, InCall, InRoom, OfCalls, OfRooms, Whose, accepts, find_seat, in_call_or, in_room, is_accepted, whose_branch, leg_by, replacement_in, replaces_by, seat_by, status_by}
+use Rattle.mmtel_run.specs.Refusals.{Course, Enter, EnterBox, EnterRoom, JoinRoom, Open, OpenRoom, Refuse, Register, Subscribe, course, is_subscribe, registrant}
+use Rattle.mmtel_run.specs.Rooms.{Holder, InBox, InCall, InRoom, OfBoxes, OfCalls, OfRooms, Whose, accepts, box_by, find_seat, in_box, in_call_or, in_room_or, is_accepted, whose_branch, leg_by, replacement_in, replaces_by, seat_by, status_by}
+use Rattle.mmtel_run.specs.Subscriptions.{box_answered}
 use Rattle.mmtel_run.specs.View.{view}
-use Rattle.mmtel_run.specs.World.{World, acknowledging, acknowledging_by, answering, calls_in, cancelling, cancelling_call, comes_of, drawing, emit_one, entering_room, heard_in_rooms, hearing, holder_in, housed, joining_room, lodging, next_tag, offering, opening_room, registering, repeating, replacing, replying, replying_plainly, responding, responding_to, room_joined, room_opened, rooms_in, seated, taking, taking_fresh, told, tokens_now, turned_away}
+use Rattle.mmtel_run.specs.World.{World, acknowledging, acknowledging_by, answering, calls_in, cancelling, cancelling_call, comes_of, drawing, emit_one, entering_room, heard_in_rooms, hearing, holder_in, housed, joining_room, lodging, next_tag, offering, opening_room, registering, repeating, replacing, replying, replying_plainly, responding, responding_to, room_joined, room_opened, rooms_in, seated, taking, taking_fresh, told, tokens_now, turned_away, boxes_in}
 use Rattle.mmtel_run_laws.specs.Alike.{CallerLooksUp, LooksUp, MessageIsTied, SiteAlike}
-use Rattle.mmtel_run_laws.specs.Belonging.{is_opening, role_of}
+use Rattle.mmtel_run_laws.specs.Belonging.{is_opening, may_subscribe, role_of}
 use Rattle.mmtel_run_laws.specs.Mask.{Tests, asked_by as asked_in, tests_beside, tests_of}
 use Rattle.mmtel_run_laws.proofs.Adopting.{access_same, find_same, replacing-alike}
+use Rattle.mmtel_run_laws.proofs.BoxesAlike.{AskAlike, SubscribeAlike, box_answered-alike, entering_box-alike, subscribing-alike}
 use Rattle.mmtel_run_laws.proofs.Callers.{decide-alike}
-use Rattle.mmtel_run_laws.proofs.CourseKinds.{enters_named, fresh_request, known_across, of_call, opens, opens_opening}
+use Rattle.mmtel_run_laws.proofs.CourseKinds.{enters_named, fresh_request, known_across, of_box, of_call, of_nobody, opens, opens_opening, refuses, subscribe_waits, subscribes_alone}
 use Rattle.mmtel_run_laws.proofs.Deeds.{Laws, Says, bare, branches_alike, housed-alike, lodging-alike, seated-alike, seen-alike, signalled-alike, tables_alike, tokens_same}
 use Rattle.mmtel_run_laws.proofs.Emitting.{Knows, Pair, acting-alike, drawing-alike, offering-alike, one_offer, plain-alike, reply-alike}
 use Rattle.mmtel_run_laws.proofs.Fits.{true_false}
 use Rattle.mmtel_run_laws.proofs.Growing.{answering_before, replacing_before}
-use Rattle.mmtel_run_laws.proofs.Sides.{ack_hears, answer_hears, opening_is, request_hears, seat_hears}
-use Rattle.mmtel_run_laws.proofs.Speaking.{decided_same, head_same, leg_same, named_same, parties_same, peer_same, refer_same, registered_same, reply_head, reply_number, reply_whole, seated_same, start_same, tag_same}
+use Rattle.mmtel_run_laws.proofs.Sides.{ack_hears, answer_hears, opening_is, request_hears, seat_hears, subscriber_is}
+use Rattle.mmtel_run_laws.proofs.Speaking.{asked_same, boxed_same, decided_same, head_same, leg_same, named_same, parties_same, peer_same, refer_same, registered_same, reply_head, reply_number, reply_whole, seated_same, start_same, subscribed_same, tag_same}
 use Rattle.mmtel_run_laws.proofs.Testing.{tests_same}
 
 -- what is proved below
@@ -164,6 +167,7 @@ module _ (below : Below) (records : List Sheet) (d e : Directory) (token : List 
       calls = a.alike.calls;
       opened = a.alike.opened;
       rooms = a.alike.rooms;
+      boxes = a.alike.boxes;
       armed = a.alike.armed;
       texts = a.alike.texts;
       registrations = ap (λ (l : List (Account × ℕ)). (account, until) ∷ l) a.alike.registrations;
@@ -276,10 +280,14 @@ module _ (below : Below) (records : List Sheet) (d e : Directory) (token : List 
     seats_same : seat_by m.heard (rooms_in d v).live ≡ seat_by n.heard (rooms_in e w).live
     seats_same = seat_same (dialog_name m.heard) ∙ seated_same below.heads below.responses below.kin d e sites.equal m n r s same (rooms_in e w).live
 
+    boxes_same : box_by m.heard (boxes_in v) ≡ box_by n.heard (boxes_in w)
+    boxes_same = ap (box_by m.heard) a.alike.boxes ∙ boxed_same below.heads below.responses below.kin d e sites.equal m n r s same (boxes_in w)
+
     holders_same : holder_in d m.heard v ≡ holder_in e n.heard w
     holders_same =
-        ap (in_call_or (in_room (seat_by m.heard (rooms_in d v).live))) names_same
-        ∙ ap (λ (o : Option (RoomNo × ℕ)). in_call_or (in_room o) (named_by n.heard (calls_in e w).entries)) seats_same
+        ap (in_call_or (in_room_or (in_box (box_by m.heard (boxes_in v))) (seat_by m.heard (rooms_in d v).live))) names_same
+        ∙ (ap (λ (o : Option (RoomNo × ℕ)). in_call_or (in_room_or (in_box (box_by m.heard (boxes_in v))) o) (named_by n.heard (calls_in e w).entries)) seats_same
+        ∙ ap (λ (o : Option SubNo). in_call_or (in_room_or (in_box o) (seat_by n.heard (rooms_in e w).live)) (named_by n.heard (calls_in e w).entries)) boxes_same)
 
     -- ---- signals of a request
 
@@ -374,6 +382,10 @@ module _ (below : Below) (records : List Sheet) (d e : Directory) (token : List 
     abbrev pair : both.Pair
     pair = record { one = record { said = m; role = r }; other = record { said = n; role = s } }
 
+    -- what a mailbox is asked
+    asked_alike : AskAlike m n
+    asked_alike = asked_same below.heads below.responses below.kin d e sites.equal m n r s same
+
     -- what follows of a request that was accepted
     start_is : m.heard.start ≡ n.heard.start
     start_is = start_same below.heads below.responses below.kin d e sites.equal m n r s same
@@ -406,13 +418,18 @@ module _ (below : Below) (records : List Sheet) (d e : Directory) (token : List 
       tag_next : (u z : World) → u.drawn ≡ z.drawn → next_tag token u ≡ next_tag token z
       tag_next u z i = ap (λ (k : ℕ). token_text token (k + 1)) i
 
+      -- an answer with this tag
+      tagged-alike : (tag : List ℕ) (answer : Answer) (u z : World) → ((q : Peer) → peer_of key.0 (live z.acts) ≡ Some q → q ≡ n.peer) → Two u z →
+          Two (emit_one at (emit.Reply key (response_to d.sip tag m answer)) u) (emit_one at (emit.Reply key (response_to e.sip tag n answer)) z)
+      tagged-alike tag answer u z its c =
+          reply-alike below.texts records d e keys K older knows at key (response_to d.sip tag m answer) (response_to e.sip tag n answer) u z
+          (reply_head below.heads below.responses below.kin d e sites.equal m n r s same tag answer request)
+          (reply_number below.heads below.responses below.kin d e sites.equal m n r s same tag answer)
+          (λ q is strange. ap message_text (reply_whole below.heads below.responses below.kin d e sites.equal m n r s same tag answer (strange_one q (its q is) strange))) c
+
       turned_away-alike : (tag : List ℕ) (code : ℕ) (u z : World) → ((q : Peer) → peer_of key.0 (live z.acts) ≡ Some q → q ≡ n.peer) → Two u z →
           Two (turned_away d at key m tag code u) (turned_away e at key n tag code z)
-      turned_away-alike tag code u z its c =
-          reply-alike below.texts records d e keys K older knows at key (response_to d.sip tag m (plainly code)) (response_to e.sip tag n (plainly code)) u z
-          (reply_head below.heads below.responses below.kin d e sites.equal m n r s same tag (plainly code) request)
-          (reply_number below.heads below.responses below.kin d e sites.equal m n r s same tag (plainly code))
-          (λ q is strange. ap message_text (reply_whole below.heads below.responses below.kin d e sites.equal m n r s same tag (plainly code) (strange_one q (its q is) strange))) c
+      turned_away-alike tag code u z its c = tagged-alike tag (plainly code) u z its c
 
       abbrev comings : (tag : List ℕ) → Option Account → Drawn → both.Comings
       comings tag account tokens = record {
@@ -504,6 +521,19 @@ module _ (below : Below) (records : List Sheet) (d e : Directory) (token : List 
       abbrev hold_two : Option Holder
       hold_two = holder_in e n.heard w
 
+      -- a SUBSCRIBE that is not refused, and that names no dialog of a call
+      subscribed : (merged other full some : Bool) → is_cancel (head_of M) ≡ false → is_cancel (head_of N) ≡ false → refuses (course d merged full hold_one m.heard) ≡ false
+          → refuses (course e other some hold_two n.heard) ≡ false → named_by m.heard (calls_in d v).entries ≡ None → named_by n.heard (calls_in e w).entries ≡ None → is_subscribe n.heard ≡ true
+          → SubscribeAlike d e m n
+      subscribed merged other full some i j f g none none_too is =
+          let is_too : is_subscribe m.heard ≡ true = ap (λ (x : Start). is_method (codes "SUBSCRIBE") x) start_is ∙ is in
+          let may : may_subscribe d m.heard ≡ true = subscribe_waits d merged full hold_one m.heard f is_too in
+          let may_too : may_subscribe e n.heard ≡ true = subscribe_waits e other some hold_two n.heard g is in
+          let here : may_subscribe d n.heard ≡ true = sym (ap (λ (x : Start). is_method (codes "SUBSCRIBE") x && d.names.mwi) start_is) ∙ may in
+          subscribed_same below.heads below.responses below.kin d e sites.equal m n r s same
+          (subscriber_is below.wholes d keys d (λ peer. refl) v knows_one m told_one tied p i may none) (subscriber_is below.wholes d keys e trusts_same w (knows w.acts kw) n told_two tied_too q j may_too none_too)
+          (looks.subscriber here) (looks.mailbox here)
+
       taking-alike : (c : Course) (merged other full some : Bool) → is_cancel (head_of M) ≡ false → is_cancel (head_of N) ≡ false
           → course d merged full hold_one m.heard ≡ c → course e other some hold_two n.heard ≡ c
           → K (taking e token at key n c w1).acts → Two (taking d token at key m c v1) (taking e token at key n c w1)
@@ -511,8 +541,8 @@ module _ (below : Below) (records : List Sheet) (d e : Directory) (token : List 
       taking-alike (Enter call side) merged other full some i j f g k =
           signalled-alike below.texts below.tables below.told below.laws records d e token keys sites K older knows at (signal.Request call side key m) (signal.Request call side key n) r s v1 w1 b
           (request_says (call, side) key x y asked asked_too p q i j
-          (of_call (seat_by m.heard (rooms_in d v).live) (named_by m.heard (calls_in d v).entries) (call, side) (enters_named d merged full hold_one m.heard (InCall call side) f))
-          (of_call (seat_by n.heard (rooms_in e w).live) (named_by n.heard (calls_in e w).entries) (call, side) (enters_named e other some hold_two n.heard (InCall call side) g))
+          (of_call (box_by m.heard (boxes_in v)) (seat_by m.heard (rooms_in d v).live) (named_by m.heard (calls_in d v).entries) (call, side) (enters_named d merged full hold_one m.heard (InCall call side) f))
+          (of_call (box_by n.heard (boxes_in w)) (seat_by n.heard (rooms_in e w).live) (named_by n.heard (calls_in e w).entries) (call, side) (enters_named e other some hold_two n.heard (InCall call side) g))
           (known_across d merged full hold_one side m (InCall call side) f) (known_across e other some hold_two side n (InCall call side) g)) k
       taking-alike (EnterRoom room seat) merged other full some i j f g k = entering_room-alike room seat k
       taking-alike Open merged other full some i j f g k =
@@ -524,6 +554,18 @@ module _ (below : Below) (records : List Sheet) (d e : Directory) (token : List 
           joining_room-alike room (opens_opening d merged full hold_one m.heard (ap opens f)) (opens_opening e other some hold_two n.heard (ap opens g)) k
       taking-alike (Register account seconds) merged other full some i j f g k =
           replying-alike key (plainly 200) (registering account (until_of at seconds) v1) (registering account (until_of at seconds) w1) request of_peer (registering-alike account (until_of at seconds) v1 w1 b)
+      taking-alike Subscribe merged other full some i j f g k =
+          let one = subscribes_alone d merged full hold_one m.heard f in
+          let two = subscribes_alone e other some hold_two n.heard g in
+          subscribing-alike below.texts records d e token keys sites K older knows at key m n asked_alike (λ answer u z its c. replying-alike key answer u z request its c) tagged-alike
+          (subscribed merged other full some i j (ap refuses f) (ap refuses g)
+          (of_nobody (box_by m.heard (boxes_in v)) (seat_by m.heard (rooms_in d v).live) (named_by m.heard (calls_in d v).entries) one.0)
+          (of_nobody (box_by n.heard (boxes_in w)) (seat_by n.heard (rooms_in e w).live) (named_by n.heard (calls_in e w).entries) two.0) two.1) v1 w1 of_peer b
+      taking-alike (EnterBox sub) merged other full some i j f g k =
+          entering_box-alike below.texts records d e token keys sites K older knows at key m n asked_alike (λ answer u z its c. replying-alike key answer u z request its c) tagged-alike
+          (subscribed merged other full some i j (ap refuses f) (ap refuses g)
+          (of_box (box_by m.heard (boxes_in v)) (seat_by m.heard (rooms_in d v).live) (named_by m.heard (calls_in d v).entries) sub (enters_named d merged full hold_one m.heard (InBox sub) f))
+          (of_box (box_by n.heard (boxes_in w)) (seat_by n.heard (rooms_in e w).live) (named_by n.heard (calls_in e w).entries) sub (enters_named e other some hold_two n.heard (InBox sub) g))) sub v1 w1 of_peer b
 
       course_alike : course d (is_merged key.0 (live x.acts)) (are_full (calls_in d v).entries) hold_one m.heard
           ≡ course e (is_merged key.0 (live y.acts)) (are_full (calls_in e w).entries) hold_two n.heard
@@ -561,9 +603,12 @@ module _ (below : Below) (records : List Sheet) (d e : Directory) (token : List 
     acknowledging_by-alike None x y b p q one two k = b
     acknowledging_by-alike (Some (InCall call side)) x y b p q one two k =
         signalled-alike below.texts below.tables below.told below.laws records d e token keys sites K older knows at (signal.Ack call side m) (signal.Ack call side n) r s (record v { acts = x.acts }) (record w { acts = y.acts }) b
-        (ack_says (call, side) x y p q (of_call (seat_by m.heard (rooms_in d v).live) (named_by m.heard (calls_in d v).entries) (call, side) one) (of_call (seat_by n.heard (rooms_in e w).live) (named_by n.heard (calls_in e w).entries) (call, side) two)) k
+        (ack_says (call, side) x y p q
+        (of_call (box_by m.heard (boxes_in v)) (seat_by m.heard (rooms_in d v).live) (named_by m.heard (calls_in d v).entries) (call, side) one)
+        (of_call (box_by n.heard (boxes_in w)) (seat_by n.heard (rooms_in e w).live) (named_by n.heard (calls_in e w).entries) (call, side) two)) k
     acknowledging_by-alike (Some (InRoom room seat)) x y b p q one two k =
         seated-alike below.texts below.tables below.told below.laws records d e token keys sites K older knows at (both.Ack room seat pair) (record v { acts = x.acts }) (record w { acts = y.acts }) b same tt k
+    acknowledging_by-alike (Some (InBox sub)) x y b p q one two k = b
 
     acknowledging-alike : (x y : World) → Two (record v { acts = x.acts }) (record w { acts = y.acts }) → part_of (head_of M) (live v.acts) ≡ part.AckOf2xx → part_of (head_of N) (live w.acts) ≡ part.AckOf2xx
         → K (acknowledging e token at n (record w { acts = y.acts })).acts → Two (acknowledging d token at m (record v { acts = x.acts })) (acknowledging e token at n (record w { acts = y.acts }))
@@ -571,17 +616,33 @@ module _ (below : Below) (records : List Sheet) (d e : Directory) (token : List 
         subst (λ (o : Option Holder). Two (acknowledging_by d token at m o (record v { acts = x.acts })) (acknowledging e token at n (record w { acts = y.acts }))) (sym holders_same)
         (acknowledging_by-alike (holder_in e n.heard w) x y b p q holders_same refl k)
 
-    -- ---- a response: of the calls where one of their INVITEs has its branch, and else of the rooms
+    -- ---- a response: of the calls where one of their INVITEs has its branch, of the mailboxes where one of their NOTIFYs has it, and else of the rooms
 
     branch_same : invite_answered m ≡ invite_answered n
     unfolding invite_answered
     branch_same = ap (λ (x : Said). if answers_awaited x.heard.cseq then branch_in x.heard.vias else None) same
 
+    vias_same : branch_in m.heard.vias ≡ branch_in n.heard.vias
+    vias_same = ap (λ (x : Said). branch_in x.heard.vias) same
+
+    code_same : status_of m.heard.start ≡ status_of n.heard.start
+    code_same = ap (λ (x : Said). status_of x.heard.start) same
+
+    responded : (x y : World) → Two (record v { acts = x.acts }) (record w { acts = y.acts }) →
+        Two (box_answered (branch_in m.heard.vias) (status_of m.heard.start) (record v { acts = x.acts })) (box_answered (branch_in n.heard.vias) (status_of n.heard.start) (record w { acts = y.acts }))
+    responded x y b =
+        subst (λ (o : Option (List ℕ)). Two (box_answered o (status_of m.heard.start) (record v { acts = x.acts })) (box_answered (branch_in n.heard.vias) (status_of n.heard.start) (record w { acts = y.acts })))
+        (sym vias_same)
+        (subst (λ (code : ℕ). Two (box_answered (branch_in n.heard.vias) code (record v { acts = x.acts })) (box_answered (branch_in n.heard.vias) (status_of n.heard.start) (record w { acts = y.acts }))) (sym code_same)
+        (box_answered-alike below.texts records d e token keys sites K older knows (branch_in n.heard.vias) (status_of n.heard.start) (record v { acts = x.acts }) (record w { acts = y.acts }) b))
+
     responding_to-alike : (key : ℕ) (whose : Whose) (x y : World) → Two (record v { acts = x.acts }) (record w { acts = y.acts }) → part_of (head_of M) (live v.acts) ≡ part.Answer key → part_of (head_of N) (live w.acts) ≡ part.Answer key
-        → whose_branch (invite_answered m) (calls_in d v).entries ≡ whose → whose_branch (invite_answered n) (calls_in e w).entries ≡ whose → K (responding_to e token at (tkey key) n whose (record w { acts = y.acts })).acts
+        → whose_branch (invite_answered m) (branch_in m.heard.vias) (calls_in d v).entries (boxes_in v) ≡ whose
+        → whose_branch (invite_answered n) (branch_in n.heard.vias) (calls_in e w).entries (boxes_in w) ≡ whose → K (responding_to e token at (tkey key) n whose (record w { acts = y.acts })).acts
         → Two (responding_to d token at (tkey key) m whose (record v { acts = x.acts })) (responding_to e token at (tkey key) n whose (record w { acts = y.acts }))
     responding_to-alike key OfCalls x y b p q one two k =
         signalled-alike below.texts below.tables below.told below.laws records d e token keys sites K older knows at (signal.Answer (tkey key) m) (signal.Answer (tkey key) n) r s (record v { acts = x.acts }) (record w { acts = y.acts }) b (answer_says key x y p q) k
+    responding_to-alike key OfBoxes x y b p q one two k = responded x y b
     responding_to-alike key OfRooms x y b p q one two k =
         seated-alike below.texts below.tables below.told below.laws records d e token keys sites K older knows at (both.Answer (tkey key) pair) (record v { acts = x.acts }) (record w { acts = y.acts }) b
         (same, seat_hears below.wholes d keys d (λ peer. refl) v knows_one m told_one tied key p one, seat_hears below.wholes d keys e trusts_same w (knows w.acts kw) n told_two tied_too key q two) tt k
@@ -589,9 +650,10 @@ module _ (below : Below) (records : List Sheet) (d e : Directory) (token : List 
     responding-alike : (key : ℕ) (x y : World) → Two (record v { acts = x.acts }) (record w { acts = y.acts }) → part_of (head_of M) (live v.acts) ≡ part.Answer key → part_of (head_of N) (live w.acts) ≡ part.Answer key
         → K (responding e token at (tkey key) n (record w { acts = y.acts })).acts → Two (responding d token at (tkey key) m (record v { acts = x.acts })) (responding e token at (tkey key) n (record w { acts = y.acts }))
     responding-alike key x y b p q k =
-        let of_two : Whose = whose_branch (invite_answered n) (calls_in e w).entries in
-        let whose_same : whose_branch (invite_answered m) (calls_in d v).entries ≡ of_two =
-        branches_alike below.texts below.tables below.told below.laws records d e token keys sites K older knows (invite_answered m) v w a ∙ ap (λ (o : Option (List ℕ)). whose_branch o (calls_in e w).entries) branch_same in
+        let of_two : Whose = whose_branch (invite_answered n) (branch_in n.heard.vias) (calls_in e w).entries (boxes_in w) in
+        let whose_same : whose_branch (invite_answered m) (branch_in m.heard.vias) (calls_in d v).entries (boxes_in v) ≡ of_two =
+        branches_alike below.texts below.tables below.told below.laws records d e token keys sites K older knows (invite_answered m) (branch_in m.heard.vias) v w a
+        ∙ (λ i. whose_branch (branch_same i) (vias_same i) (calls_in e w).entries (boxes_in w)) in
         subst (λ (whose : Whose). Two (responding_to d token at (tkey key) m whose (record v { acts = x.acts })) (responding e token at (tkey key) n (record w { acts = y.acts }))) (sym whose_same)
         (responding_to-alike key of_two x y b p q whose_same refl k)
 

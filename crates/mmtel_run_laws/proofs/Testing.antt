@@ -31,10 +31,10 @@ no_places es true false = refl
 no_places es false true = refl
 no_places es false false = refl
 
-unplaced : (start : Start) (es : Entries) → places_in start (only es) ≡ only es
+pub unplaced : (start : Start) (es : Entries) → places_in start (only es) ≡ only es
 unplaced start es = no_places es (is_request start) (redirects start)
 
-abbrev lines_by : (trusted : Bool) → Places → List Line → List Line
+abbrev pub lines_by : (trusted : Bool) → Places → List Line → List Line
 lines_by trusted p ls = if trusted then masked_lines p ls else ls
 
 identities_by : (trusted b : Bool) (es : Entries) (ls : List Line) → asserted b (lines_by trusted (only es) ls) ≡ asserted b ls
@@ -45,7 +45,7 @@ account_by : (accounts : List AccountIdentity) (trusted b : Bool) (es : Entries)
 account_by accounts true b es ls = origin-entries es accounts b ls
 account_by accounts false b es ls = refl
 
-plain_identities : (m : Said) → asserted m.heard.trusted (without_private Plain m).heard.lines ≡ asserted m.heard.trusted m.heard.lines
+pub plain_identities : (m : Said) → asserted m.heard.trusted (without_private Plain m).heard.lines ≡ asserted m.heard.trusted m.heard.lines
 plain_identities m =
     ap (λ (p : Places). asserted m.heard.trusted (lines_by m.heard.trusted p m.heard.lines)) (unplaced m.heard.start (private_entries m.heard))
     ∙ identities_by m.heard.trusted m.heard.trusted (private_entries m.heard) m.heard.lines

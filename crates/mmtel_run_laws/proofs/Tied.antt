@@ -1,4 +1,4 @@
--- Each response of a run is of the peer to whom the INVITE that it answers went, and each INVITE whose 2xx is acknowledged went to the peer of the other leg.
+-- Each response of a run is of the peer to whom the INVITE, PRACK or UPDATE that it answers went, and each INVITE whose 2xx is acknowledged went to the peer of the other leg.
 use Rattle.std.proofs.Common.{◌≡◌, ℕ, suc, Bool, true, false, List, [], ◌∷◌, Option, Some, None, Ok, Err, refl, sym, ap, ◌∙◌, subst, inl, inr, arith, codes}
 use Rattle.std.specs.Prelude.{position, slice_get}
 use Rattle.std.specs.Option.{option_map}
@@ -10,17 +10,22 @@ use Rattle.mmtel_b2bua.specs.Lending.{entry_at, place_of}
 use Rattle.mmtel_b2bua.specs.declared.entries.Entry.{Entry}
 use Rattle.mmtel_call_decisions.specs.Requests.{is_same_number, is_same_side, number_of}
 use Rattle.mmtel_call.specs.Answered.{leg_of}
+use Rattle.mmtel_call.specs.Flights.{is_in_flight}
 use Rattle.mmtel_call.specs.Leaving.{is_taken}
 use Rattle.mmtel_call.specs.Table.{current, current_at, is_branch}
 use Rattle.mmtel_call.specs.declared.calls.Call.{Call}
+use Rattle.mmtel_call.specs.declared.calls.Flight.{Flight}
+use Rattle.mmtel_call.specs.declared.calls.FlightKind.{FlightKind}
+use Rattle.mmtel_call.specs.declared.calls.FlightKind.TheVariants.{Prack, Update}
 use Rattle.mmtel_call.specs.declared.calls.Pair.{Pair}
 use Rattle.mmtel_call.specs.declared.calls.Phase.{Phase}
 use Rattle.mmtel_call.specs.declared.calls.Phase.TheVariants.{Lent, Offered, Over, Stood}
 use Rattle.mmtel_call.specs.declared.calls.Stage.{Stage}
 use Rattle.mmtel_call.specs.declared.calls.Stage.TheVariants.{Answered, Asking, Parting, Talking}
-use Rattle.mmtel_call_laws.specs.Branches.Sent.{CallWasSent, Each, InvitationWasSent, LooseWasSent, PhaseWasSent, StageWasSent, TakenWasSent, WasAsked, WasSent}
+use Rattle.mmtel_call_laws.specs.Branches.Sent.{CallWasSent, Each, FlightWasSent, InvitationWasSent, LooseWasSent, PhaseWasSent, StageWasSent, TakenWasSent, WasAsked, WasSent, method_of}
 use Rattle.mmtel_call_laws.specs.Secret.Seen.{trust_of}
 use Rattle.mmtel_call_laws.specs.Secret.Table.{SentIn}
+use Rattle.mmtel_desk.specs.Invites.{is_awaited_method}
 use Rattle.mmtel_desk.specs.Loose.{is_of}
 use Rattle.mmtel_desk.specs.declared.invitations.Invitation.{Invitation}
 use Rattle.mmtel_directory.specs.declared.directories.Directory.{Directory}
@@ -63,7 +68,7 @@ use Rattle.mmtel_run_laws.specs.Alike.{AckIsTied, AllTied, DigestIsTied, InviteI
 use Rattle.mmtel_run_laws.specs.Secret.{BranchesAreRead, RunsAreTied}
 use Rattle.mmtel_run_laws.specs.Invited.{InviteWasSent, RoomWasSent, SeatWasSent}
 use Rattle.mmtel_run_laws.specs.Mask.{coming}
-use Rattle.mmtel_run_laws.proofs.Acts.{AwaitedWasSent, answer_sent, asks_of, invite_awaited, sent_once}
+use Rattle.mmtel_run_laws.proofs.Acts.{AwaitedWasSent, answer_sent, asked_awaited, asks_of, invite_awaited, sent_once}
 use Rattle.mmtel_run_laws.proofs.Branches.{WasRead, answers, text_same}
 use Rattle.mmtel_run_laws.proofs.CourseKinds.{answer_response, head_request}
 use Rattle.mmtel_run_laws.proofs.Fits.{true_false}
@@ -108,6 +113,11 @@ module _ (sent : List ℕ → Peer → Type 0) where
   with_branch : (one other : List ℕ) (peer : Peer) → bytes_eq one other ≡ true → sent one peer → sent other peer
   with_branch one other peer same is = subst (λ (b : List ℕ). sent b peer) (text_same one other same) is
 
+-- what is in flight is waited for
+waits : (kind : FlightKind) → is_awaited_method (method_of kind) ≡ true
+waits Prack = refl
+waits Update = refl
+
 side_is : (waiting side : Side) → is_same_side waiting side ≡ true → waiting ≡ side
 side_is Caller Caller e = refl
 side_is Caller Callee e = absurd (true_false (sym e))
@@ -132,8 +142,11 @@ module _ (differ : TokensDiffer) (owners : OwnersAreLive)
     went : (branch : List ℕ) (peer : Peer) → Was branch peer → Went branch peer
     went branch peer was = invite_awaited d.sip token (asks_of w.acts) branch peer was
 
-    one_peer : (branch : List ℕ) (one other : Peer) → Went branch one → Was branch other → one ≡ other
-    one_peer branch one other is too = sent_once d.sip token differ (suc w.drawn) (asks_of w.acts) branch one other (omega (arith, early)) (had.numbered early) is (went branch other too)
+    flight_went : (flight : Flight) (branch : List ℕ) (peer : Peer) → WasAsked d.sip (asks_of w.acts) (method_of flight.kind) branch peer → Went branch peer
+    flight_went flight branch peer was = asked_awaited d.sip token (method_of flight.kind) (waits flight.kind) (asks_of w.acts) branch peer was
+
+    one_peer : (branch : List ℕ) (one other : Peer) → Went branch one → Went branch other → one ≡ other
+    one_peer branch one other is too = sent_once d.sip token differ (suc w.drawn) (asks_of w.acts) branch one other (omega (arith, early)) (had.numbered early) is too
 
     entry_sent : (at : ℕ) (e : Entry) → slice_get (calls_in d w).entries at ≡ Some e → CallWasSent (WasAsked d.sip (asks_of w.acts)) e.call
     entry_sent at e got = each_at (EntryWasSent d.sip (asks_of w.acts)) (calls_in d w).entries at e had.calls_sent got
@@ -152,16 +165,24 @@ module _ (differ : TokensDiffer) (owners : OwnersAreLive)
           let was = answer_sent d.sip token read.source read.port read.text owners (suc w.drawn) w.acts n branch key (omega (arith, early)) (had.numbered early) of_n (head_request n ∙ response) says.0 says.1 in
           let c : Call = e.call in
           let sent : CallWasSent (WasAsked d.sip (asks_of w.acts)) c = entry_sent at e got in
+          let tied : (peer : Peer) → Went branch peer → IsOfOne d w (record { 0 = key }) peer = λ peer too. tie key was.0 was.1 branch was.2 peer too in
+          let invited : (peer : Peer) → Was branch peer → IsOfOne d w (record { 0 = key }) peer = λ peer too. tied peer (went branch peer too) in
           record {
-            awaited = λ i now cur. tie key was.0 was.1 branch was.2 i.dialogue.peer
+            awaited = λ i now cur. invited i.dialogue.peer
                 (with_branch Was i.branch branch i.dialogue.peer (sym (ap (is_branch branch) cur) ∙ now) (current_sent Was c.phase i sent.phase_in cur));
-            loose = λ place l there at_it. tie key was.0 was.1 branch was.2 l.invitation.dialogue.peer
+            loose = λ place l there at_it. invited l.invitation.dialogue.peer
                 (with_branch Was l.invitation.branch branch l.invitation.dialogue.peer (passes (is_of branch) c.loose place l there at_it) (each_at (LooseWasSent Was) c.loose place l sent.others_in.loose_in at_it));
-            taken = λ place t there at_it. tie key was.0 was.1 branch was.2 t.invitation.dialogue.peer
+            taken = λ place t there at_it. invited t.invitation.dialogue.peer
                 (with_branch Was t.invitation.branch branch t.invitation.dialogue.peer (passes (is_taken branch) c.taken place t there at_it) (each_at (TakenWasSent Was) c.taken place t sent.others_in.taken_in at_it));
+            flights = λ place flight there at_it.
+                let asked : List ℕ → Peer → Type 0 = WasAsked d.sip (asks_of w.acts) (method_of flight.kind) in
+                let i : Invitation = flight.asked.invitation in
+                tied i.dialogue.peer (flight_went flight branch i.dialogue.peer
+                (with_branch asked i.branch branch i.dialogue.peer (passes (is_in_flight branch) c.flights place flight there at_it)
+                (each_at (FlightWasSent (WasAsked d.sip (asks_of w.acts))) c.flights place flight sent.others_in.flights_in at_it)));
           }
         where
-          tie : (key : ℕ) (q : Peer) → peer_of key (live w.acts) ≡ Some q → (branch : List ℕ) → Went branch q → (peer : Peer) → Was branch peer → IsOfOne d w (record { 0 = key }) peer
+          tie : (key : ℕ) (q : Peer) → peer_of key (live w.acts) ≡ Some q → (branch : List ℕ) → Went branch q → (peer : Peer) → Went branch peer → IsOfOne d w (record { 0 = key }) peer
           tie key q of_q branch was peer too = ap (option_map (trusts d)) of_q ∙ ap (λ (p : Peer). Some (trusts d p)) (one_peer branch q peer was too)
 
     -- a response of a seat
@@ -174,7 +195,7 @@ module _ (differ : TokensDiffer) (owners : OwnersAreLive)
           let says = answers fives vias cseqs m branch is answered response in
           let was = answer_sent d.sip token read.source read.port read.text owners (suc w.drawn) w.acts n branch key (omega (arith, early)) (had.numbered early) of_n (head_request n ∙ response) says.0 says.1 in
           let table : Table = rooms_in d w in
-          let tied : (peer : Peer) → Was branch peer → IsOfOne d w (record { 0 = key }) peer = λ peer too. tie key was.0 was.1 branch was.2 peer too in
+          let tied : (peer : Peer) → Was branch peer → IsOfOne d w (record { 0 = key }) peer = λ peer too. tie key was.0 was.1 branch was.2 peer (went branch peer too) in
           record {
             loose = λ place l there at_it. tied l.invitation.dialogue.peer
                 (with_branch Was l.invitation.branch branch l.invitation.dialogue.peer (passes (is_of branch) table.loose place l there at_it) (each_at (LooseWasSent Was) table.loose place l had.rooms_sent.loose_in at_it));
@@ -184,7 +205,7 @@ module _ (differ : TokensDiffer) (owners : OwnersAreLive)
                 record { invite = both.0; leg = both.1 };
           }
         where
-          tie : (key : ℕ) (q : Peer) → peer_of key (live w.acts) ≡ Some q → (branch : List ℕ) → Went branch q → (peer : Peer) → Was branch peer → IsOfOne d w (record { 0 = key }) peer
+          tie : (key : ℕ) (q : Peer) → peer_of key (live w.acts) ≡ Some q → (branch : List ℕ) → Went branch q → (peer : Peer) → Went branch peer → IsOfOne d w (record { 0 = key }) peer
           tie key q of_q branch was peer too = ap (option_map (trusts d)) of_q ∙ ap (λ (p : Peer). Some (trusts d p)) (one_peer branch q peer was too)
 
           tied_by : (key : ℕ) (branch : List ℕ) (peer : Peer) (o : Option Invite) → ((q : Peer) → Was branch q → IsOfOne d w (record { 0 = key }) q) → is_sent branch o ≡ true → InviteWasSent Was peer o →
@@ -201,7 +222,8 @@ module _ (differ : TokensDiffer) (owners : OwnersAreLive)
         let across : Was success.branch (leg_of (other_of side) x).dialogue.peer = subst (λ (s : Side). Was success.branch (leg_of (other_of s) x).dialogue.peer) same is in
         let its : Was success.branch taken.invitation.dialogue.peer =
         with_branch Was taken.invitation.branch success.branch taken.invitation.dialogue.peer of (member (TakenWasSent Was) c.taken taken among e) in
-        ap (trusts d) (one_peer success.branch taken.invitation.dialogue.peer (leg_of (other_of side) x).dialogue.peer (went success.branch taken.invitation.dialogue.peer its) across)
+        ap (trusts d) (one_peer success.branch taken.invitation.dialogue.peer (leg_of (other_of side) x).dialogue.peer (went success.branch taken.invitation.dialogue.peer its)
+        (went success.branch (leg_of (other_of side) x).dialogue.peer across))
     ack_in (Stood x (Parting waiting success)) c side m is e = tt
     ack_in (Stood x Talking) c side m is e = tt
     ack_in (Stood x (Asking asking q)) c side m is e = tt

@@ -2,14 +2,14 @@
 use Rattle.std.proofs.Common.{◌≡◌, ℕ, List, [], ◌∷◌, refl, sym, ap, ◌∙◌, subst, Bool, true, false, Option, Some, None, Result, Ok, Err}
 use Rattle.std.specs.Prelude.{if◌then◌else◌, is_some}
 use Rattle.std.proofs.lemmas.Option.{none-some}
-use Rattle.mmtel_answers.specs.Said.{Said}
+use Rattle.mmtel_answers.specs.Said.{Said, status_of}
 use Rattle.mmtel_b2bua.specs.Histories.{Deed, Finishes, Hears, Releases, Restores, finished_by, hears_after}
 use Rattle.mmtel_b2bua.specs.Lending.{leg_out}
 use Rattle.mmtel_b2bua.specs.Names.{party}
 use Rattle.mmtel_b2bua.specs.declared.signals.Signal.{Signal}
 use Rattle.mmtel_b2bua.specs.declared.signals.Signal.TheVariants as signal
 use Rattle.mmtel_b2bua_laws.specs.Deeds.{out_by}
-use Rattle.mmtel_desk.specs.Invites.{invite_answered, invite_silent}
+use Rattle.mmtel_desk.specs.Invites.{behind_cookie, branch_in, invite_answered, invite_silent}
 use Rattle.mmtel_charging.specs.declared.rows.Row.{Row}
 use Rattle.mmtel_desk.specs.declared.desks.Desk.{Desk}
 use Rattle.mmtel_directory.specs.declared.directories.Directory.{Directory}
@@ -24,6 +24,7 @@ use Rattle.mmtel_leg.specs.declared.legs.Released.{Released}
 use Rattle.mmtel_message.specs.Message.{Message}
 use Rattle.mmtel_message.specs.Texts.{message_text}
 use Rattle.mmtel_message.specs.declared.messages.Start.{Start}
+use Rattle.mmtel_mwi.specs.Histories as boxes
 use Rattle.mmtel_outside.specs.declared.events.Offer.{Offer}
 use Rattle.mmtel_outside.specs.declared.events.Offer.TheVariants as offer
 use Rattle.mmtel_transaction.specs.Answers.{Next, fires, hear_says, is_merged, next_due, part_of, says_due, text_again, tkey}
@@ -46,16 +47,20 @@ use Rattle.mmtel_types.specs.declared.numbers.Peer.{Peer}
 use Rattle.mmtel_types.specs.declared.numbers.RoomNo.{RoomNo}
 use Rattle.mmtel_types.specs.declared.sides.Side.{Side}
 use Rattle.mmtel_web.specs.Answers.{Kept, web_reply}
-use Rattle.mmtel_web.specs.Uploads.{kept_upload, upload_in}
+use Rattle.mmtel_web.specs.Uploads.{kept_upload, put_in, upload_in}
 use Rattle.mmtel_run.specs.Answers.{Answer, completed_reply, plainly, response_to, tag_for, tags_due, to_tag_in}
 use Rattle.mmtel_run.specs.Calls.{are_full, arrived, asked_by, site_of}
-use Rattle.mmtel_run.specs.Deadlines.{Alarm, Armed, Chosen, Deadline, OfAlarm, OfCall, OfMessage, OfSeat, first_armed, first_of}
+use Rattle.mmtel_run.specs.Deadlines.{Alarm, Armed, Chosen, Deadline, OfAlarm, OfBox, OfCall, OfMessage, OfSeat, first_armed, first_of}
 use Rattle.mmtel_run.specs.Events.{Digest, Nothing, Refused, Heard, Asked, message_in}
 use Rattle.mmtel_run.specs.Records.{until_of}
-use Rattle.mmtel_run.specs.Refusals.{Course, Refuse, Enter, EnterRoom, Open, OpenRoom, JoinRoom, Register, course}
-use Rattle.mmtel_run.specs.Rooms.{Holder, InCall, InRoom, OfCalls, OfRooms, Whose, account_of_side, whose_key, whose_branch, is_with, replacement_in, side_replaced, status_by}
+use Rattle.mmtel_run.specs.Refusals.{Course, Refuse, Enter, EnterRoom, Open, OpenRoom, JoinRoom, Register, Subscribe, EnterBox, course}
+use Rattle.mmtel_run.specs.Rooms.{Holder, InBox, InCall, InRoom, OfBoxes, OfCalls, OfRooms, Whose, account_of_side, whose_key, whose_branch, is_with, replacement_in, side_replaced, leg_by, status_by}
 use Rattle.mmtel_run.specs.Run.{due_in, fire_one, fired_if}
-use Rattle.mmtel_run.specs.World.{World, acknowledging_by, adopting, adoption_of, alarmed, answering, begun, bringing, calls_in, came, cancelling, cancelling_call, comes_of, drawing, emit_one, emitted, ended_of, entering_room, finishing, fired, handing, heard_in_rooms, heard_now, hearing, holder_in, housed, keeping, joining_of, lending, lodging, met, next_tag, noticed, offering, opening_of, refusing, registering, repeating, replaced, replaced_by, replaced_with, replacing, replying, replying_plainly, responding_to, room_joined, room_opened, rooms_in, rung, seated, serving, signalled, silenced, taken_out, taking, told, tokens_now, turned_away}
+use Rattle.mmtel_run.specs.Subscriptions.{granting, noting, other_answer, refusing_answer}
+use Rattle.mmtel_run.proofs.BoxSteps as mailing
+use Rattle.mmtel_run.proofs.BoxSteps.{AreAnswers, AreSteps, tells_in}
+use Rattle.mmtel_run.specs.World.{World, boxes_in, served, acknowledging_by, adopting, adoption_of, alarmed, answering, arming, begun, bringing, calls_in, came, cancelling, cancelling_call, comes_of, drawing, emit_one, emitted, ended_of, entering_room, finishing, fired, handing, heard_in_rooms, heard_now, hearing, holder_in, housed, keeping, joining_of, lending, lodging, met, next_tag, noticed, offering, opening_of, refusing, registering, repeating, replaced, replaced_by, replaced_with, replacing, replying, replying_plainly, responding_to, room_joined, room_opened, rooms_in, rung, seated, serving, signalled, silenced, taken_out, taking, told, tokens_now, turned_away}
+use Rattle.mmtel_run_laws.proofs.Growing.{Anyhow}
 use Rattle.mmtel_run_laws.specs.Timed.{IsCallDeedAt, IsOfferAt, IsRoomDeedAt, moment_due, moment_if}
 
 -- a call on the transactions by which nothing is sent
@@ -140,14 +145,42 @@ module _ (d : Directory) (token : List ℕ) (R : ℕ → World → World → Typ
   refusing_at at peer source reply w =
       drawn_at at (tags_due (to_tag_in reply.lines)) (emit.Plain peer (message_text (completed_reply (tag_for token w.drawn (to_tag_in reply.lines)) source reply)) ∷ []) w
 
+  -- ---- mailboxes
+
+  noting_at : (at : ℕ) (deed : boxes.Deed) → Walks at (noting deed)
+  noting_at at deed w = same at w (noting deed w) refl refl refl refl
+
+  box_steps : (at : ℕ) → AreSteps d token at (R at)
+  box_steps at = record {
+    same = still at;
+    next = k.next at;
+    notes = λ deed w none. noting_at at deed w;
+    draws = λ w. same at w (drawing 1 w) refl refl refl refl;
+    arms = λ armed w. same at w (arming armed w) refl refl refl refl;
+    asks = λ sub last peer message w lives is. emitted_at at (emit.Ask peer message ∷ []) (tells_in token sub w);
+  }
+
+  box_answers : (at : ℕ) (key : TKey) (s : Said) → AreAnswers d token at (R at) key s Anyhow
+  box_answers at key s = record {
+    reads = λ within. tt;
+    subscribes = λ account until w may. noting_at at (boxes.Subscribes account (leg_by (next_tag token w) s) until) (drawing 1 w);
+    grants = λ deed seconds w may. emitted_at at (emit.Reply key (response_to d.sip (next_tag token w) s (granting seconds)) ∷ []) (noting deed (drawing 1 w));
+    renews = λ seconds w may. replying_at at key s (granting seconds) w;
+    refuses = λ within code w may. replying_at at key s (refusing_answer code) w;
+    denies = λ code w is. replying_at at key s (plainly code) w;
+    others = λ w is. replying_at at key s (other_answer d s.heard) w;
+  }
+
   -- ---- deadlines
 
   silenced_at : (at : ℕ) (branch method : List ℕ) (whose : Whose) → Walks at (silenced d token at branch method whose)
   silenced_at at branch method OfCalls w = signalled_at at (signal.Silent branch method) w
+  silenced_at at branch method OfBoxes w = mailing.answered (R at) (still at) (λ deed v none. noting_at at deed v) (behind_cookie branch) 408 w
   silenced_at at branch method OfRooms w = seated_at at (of_room.Silent branch method) w
 
   ended_of_at : (at : ℕ) (key : TKey) (whose : Whose) → Walks at (ended_of d token at key whose)
   ended_of_at at key OfCalls w = signalled_at at (signal.Over key) w
+  ended_of_at at key OfBoxes w = still at w
   ended_of_at at key OfRooms w = seated_at at (of_room.Over key) w
 
   -- what one of a message says is of its moment
@@ -169,8 +202,8 @@ module _ (d : Directory) (token : List ℕ) (R : ℕ → World → World → Typ
   rung_at : (at : ℕ) (x : Due) → IsDueAt at x → Walks at (rung d token x)
   rung_at at (due.Again peer moment text) is w = k.offers at (offer.To peer moment text) w is
   rung_at at (due.Silent key branch method moment) is w =
-      subst (λ at. R at w (silenced d token moment branch method (whose_branch (invite_silent branch method) (calls_in d w).entries) w)) is
-      (silenced_at moment branch method (whose_branch (invite_silent branch method) (calls_in d w).entries) w)
+      subst (λ at. R at w (silenced d token moment branch method (whose_branch (invite_silent branch method) (behind_cookie branch) (calls_in d w).entries (boxes_in w)) w)) is
+      (silenced_at moment branch method (whose_branch (invite_silent branch method) (behind_cookie branch) (calls_in d w).entries (boxes_in w)) w)
   rung_at at (due.Over key moment) is w =
       subst (λ at. R at w (ended_of d token moment key (whose_key key (calls_in d w).entries) w)) is
       (ended_of_at moment key (whose_key key (calls_in d w).entries) w)
@@ -179,6 +212,7 @@ module _ (d : Directory) (token : List ℕ) (R : ℕ → World → World → Typ
   alarmed_at : (at : ℕ) (x : Alarm) → Walks at (alarmed d token at x)
   alarmed_at at (OfCall call what) w = signalled_at at (signal.Due call what) w
   alarmed_at at (OfSeat room seat what) w = seated_at at (of_room.Due room seat what) w
+  alarmed_at at (OfBox sub set) w = mailing.ends d token at (R at) (box_steps at) sub set w
 
   -- one of a message is the one that was due before its step began
   fired_at : (at : ℕ) (o : Option Next) (w : World) → R at w (record w { acts = fires w.acts o })
@@ -288,6 +322,8 @@ module _ (d : Directory) (token : List ℕ) (R : ℕ → World → World → Typ
     taking_at key (Register account seconds) w =
         let v : World = registering account (until_of at seconds) w in
         k.next at w v (replying d token at key s (plainly 200) v) (same at w v refl refl refl refl) (replying_at at key s (plainly 200) v)
+    taking_at key Subscribe w = mailing.subscribes d token at (R at) (box_steps at) key s Anyhow (box_answers at key s) w
+    taking_at key (EnterBox sub) w = mailing.enters d token at (R at) (box_steps at) key s Anyhow (box_answers at key s) sub w
 
     repeating_at : (o : Option (Peer × List ℕ)) → Walks at (repeating at o)
     repeating_at None w = still at w
@@ -305,16 +341,18 @@ module _ (d : Directory) (token : List ℕ) (R : ℕ → World → World → Typ
     acknowledging_at None w = still at w
     acknowledging_at (Some (InCall call side)) w = signalled_at at (signal.Ack call side s) w
     acknowledging_at (Some (InRoom room seat)) w = seated_at at (of_room.Ack room seat s) w
+    acknowledging_at (Some (InBox sub)) w = still at w
 
     responding_at : (key : TKey) (whose : Whose) → Walks at (responding_to d token at key s whose)
     responding_at key OfCalls w = signalled_at at (signal.Answer key s) w
+    responding_at key OfBoxes w = mailing.answered (R at) (still at) (λ deed v none. noting_at at deed v) (branch_in s.heard.vias) (status_of s.heard.start) w
     responding_at key OfRooms w = seated_at at (of_room.Answer key s) w
 
     answering_at : (o : Option transaction.Heard) → Walks at (answering d token at s o)
     answering_at None w = replying_plainly_at at s (plainly 503) w
     answering_at (Some (heard.Fresh key message)) w =
         taking_at key (course d (is_merged key.0 (live w.acts)) (are_full (calls_in d w).entries) (holder_in d s.heard w) s.heard) w
-    answering_at (Some (heard.Answer key message)) w = responding_at key (whose_branch (invite_answered s) (calls_in d w).entries) w
+    answering_at (Some (heard.Answer key message)) w = responding_at key (whose_branch (invite_answered s) (branch_in s.heard.vias) (calls_in d w).entries (boxes_in w)) w
     answering_at (Some (heard.Repeat sent)) w = repeating_at sent w
     answering_at (Some (heard.Acked key)) w = still at w
     answering_at (Some (heard.Cancel key invite message)) w = cancelling_at key invite w
@@ -337,11 +375,17 @@ module _ (d : Directory) (token : List ℕ) (R : ℕ → World → World → Typ
       let v : World = keeping (kept_upload kept (upload_in d.names request)) w in
       k.next at w v (serving d at request kept rows w) (same at w v refl refl refl refl) (k.offers at (offer.Web at (web_reply d.names w.texts request kept rows)) v refl)
 
+  served_at : (at : ℕ) (request : Request) (kept : Kept) (rows : List Row) → Walks at (served d token at request kept rows)
+  served_at at request kept rows w =
+      let v : World = serving d at request kept rows w in
+      k.next at w v (served d token at request kept rows w) (serving_at at request kept rows w)
+      (mailing.puts d token at (R at) (box_steps at) (λ account counts u. noting_at at (boxes.Puts account counts) u) (put_in d.names request kept) v)
+
   met_at : (at : ℕ) (x : Digest) → Walks at (met d token at x)
   met_at at Nothing w = still at w
   met_at at (Refused peer source reply) w = refusing_at at peer source reply w
   met_at at (Heard said) w = told_at at said w
-  met_at at (Asked request kept rows) w = serving_at at request kept rows w
+  met_at at (Asked request kept rows) w = served_at at request kept rows w
 
   handing_at : (at : ℕ) (took : Bool) (rows : List Row) → Walks at (handing took rows)
   handing_at at took [] w = still at w

@@ -73,7 +73,8 @@ use Rattle.mmtel_run.specs.Events.{message_in}
 use Rattle.mmtel_run.specs.Calls.{named_by}
 use Rattle.mmtel_run.specs.Records.{in_force}
 use Rattle.mmtel_run.specs.World.{World, beginning, calls_in, rooms_in}
-use Rattle.mmtel_run_laws.specs.Belonging.{answer_role_by, answered_role, awaited_role, comes_from, dialog_role, flight_at, hides_caller, is_opening, loose_at, named_role, other_role, request_role_in, request_role_of, role_as, role_in_seat_answer, role_of, said_by, side_role, taken_at, unshown_request}
+use Rattle.mmtel_run_laws.specs.Belonging.{answer_role_by, answered_role, awaited_role, comes_from, dialog_role, flight_at, hides_caller, is_opening, is_subscribing, loose_at, named_role, other_role, request_role_in, request_role_of, role_as, role_in_seat_answer, role_of, said_by, side_role, taken_at, unshown_request}
+use Rattle.mmtel_run_laws.proofs.CourseKinds.{subscribes_elsewhere}
 use Rattle.mmtel_run_laws.specs.Mask.{Heard, MaskedDigest, Tests, tests_beside, tests_of}
 use Rattle.mmtel_run_laws.proofs.Secret.{left_of as left_in}
 use Rattle.mmtel_run_laws.specs.Worked.{Erin, Frank, IsAwaited, IsOfStanding, IsTaken, IsTargets, LooksApart, Person, PublicLookApart, RestrictedLookAlike, Saying, TheyCome, UnshownLookAlike, ack, bye, cancel, moved_to, name_of, ok_named, ok_of_target, ok_to_bye, ok_to_cancel, ok_to_invite, ok_to_notify, phone, plain_later, plain_opening, private_later, private_opening, server_bye, tells_marked, tells_unmarked, user_of}
@@ -220,19 +221,21 @@ role_is : (d : Directory) (w : World) (m : Said) (t : Part) → part_of (head_of
 unfolding role_of
 role_is d w m t p = ap (role_as d w m) p
 
-abbrev fresh_by : Directory → World → Said → (opens cancels : Bool) → Role
-fresh_by d w m opens cancels = if opens then opening_role (hides_caller d w m.heard) else if cancels then unshown_request else dialog_role d w m
+abbrev fresh_by : Directory → World → Said → (opens cancels subscribes : Bool) → Role
+fresh_by d w m opens cancels subscribes =
+    if opens then opening_role (hides_caller d w m.heard) else if cancels then unshown_request else if subscribes then Plain else dialog_role d w m
 
-fresh_is : (d : Directory) (w : World) (m : Said) (opens stops : Bool) → part_of (head_of (message_in m.heard)) (live w.acts) ≡ part.Fresh → is_opening m.heard ≡ opens →
-    is_cancel (head_of (message_in m.heard)) ≡ stops → role_of d w m ≡ fresh_by d w m opens stops
-fresh_is d w m opens stops p o c =
+fresh_is : (d : Directory) (w : World) (m : Said) (opens stops asks : Bool) → part_of (head_of (message_in m.heard)) (live w.acts) ≡ part.Fresh → is_opening m.heard ≡ opens →
+    is_cancel (head_of (message_in m.heard)) ≡ stops → is_subscribing d w m.heard ≡ asks → role_of d w m ≡ fresh_by d w m opens stops asks
+fresh_is d w m opens stops asks p o c s =
     role_is d w m part.Fresh p
-    ∙ (ap (λ (b : Bool). fresh_by d w m b (is_cancel (head_of (message_in m.heard)))) o ∙ ap (fresh_by d w m opens) c)
+    ∙ (ap (λ (b : Bool). fresh_by d w m b (is_cancel (head_of (message_in m.heard))) (is_subscribing d w m.heard)) o
+    ∙ (ap (λ (b : Bool). fresh_by d w m opens b (is_subscribing d w m.heard)) c ∙ ap (fresh_by d w m opens stops) s))
 
 -- who opens a call
 opens_as : (d : Directory) (w : World) (m : Said) (restricted : Bool) → part_of (head_of (message_in m.heard)) (live w.acts) ≡ part.Fresh → is_opening m.heard ≡ true →
     hides_caller d w m.heard ≡ restricted → role_of d w m ≡ opening_role restricted
-opens_as d w m restricted p o hides = fresh_is d w m true (is_cancel (head_of (message_in m.heard))) p o refl ∙ ap opening_role hides
+opens_as d w m restricted p o hides = fresh_is d w m true (is_cancel (head_of (message_in m.heard))) (is_subscribing d w m.heard) p o refl refl ∙ ap opening_role hides
 
 -- it hides, where it comes from the phone and that is its own peer
 says_own : (restricted : Bool) (own : Peer) (side : Side) (m : Said) → restricted ≡ true → own ≡ phone → comes_from phone m ≡ true → said_by restricted own side m ≡ Says side
@@ -250,7 +253,7 @@ module _ (d : Directory) (w : World) where
       named_by m.heard entries ≡ Some (record { 0 = call }, side) → entry_of call entries ≡ Some e → e.call.phase ≡ Stood x stage →
       role_of d w m ≡ side_role e.call.opening x.service (leg_of side x).dialogue.peer side m
   stands_as m side e x stage call p o c named entry stood =
-      fresh_is d w m false false p o c
+      fresh_is d w m false false false p o c (subscribes_elsewhere d w m.heard (record { 0 = call }, side) named)
       ∙ (ap (named_role d.reliable m entries) named
       ∙ (ap (request_role_of d.reliable side m) entry
       ∙ ap (λ (phase : Phase). request_role_in d.reliable phase e.call.opening side m) stood))
@@ -319,13 +322,13 @@ module _ (d : Directory) (asked : List Who) (w : World) where
     repeated = λ key taken tests.
         looks plain_opening Opens (λ p. role_is d w (plain_opening p) (part.Repeat key) (taken p)) repeated_left (tested plain_opening opens_a_call tests);
     cancels = λ taken.
-        looks cancel Opens (λ p. fresh_is d w (cancel p) false true (taken p) refl (stops (cancel p) (codes "CANCEL") (codes "sip:bob@far.example") refl)) cancel_left refl;
+        looks cancel Opens (λ p. fresh_is d w (cancel p) false true false (taken p) refl (stops (cancel p) (codes "CANCEL") (codes "sip:bob@far.example") refl) refl) cancel_left refl;
     acknowledges = λ key taken. looks ack Opens (λ p. role_is d w (ack p) (part.Acked key) (taken p)) ack_left refl;
     late = λ taken named. looks ack Opens (λ p. role_is d w (ack p) part.AckOf2xx (taken p) ∙ ap (named_role d.reliable (ack p) (calls_in d w).entries) (named p)) ack_left refl;
     no_place = λ taken. looks bye Opens (λ p. role_is d w (bye p) part.Full (taken p)) unnamed_left refl;
     unnamed = λ taken named.
         looks bye Opens
-        (λ p. fresh_is d w (bye p) false false (taken p) refl (stops (bye p) (codes "BYE") (codes "sip:bob@far.example") refl)
+        (λ p. fresh_is d w (bye p) false false false (taken p) refl (stops (bye p) (codes "BYE") (codes "sip:bob@far.example") refl) refl
         ∙ ap (named_role d.reliable (bye p) (calls_in d w).entries) (named p))
         unnamed_left refl;
   }

@@ -6,9 +6,11 @@ use Rattle.mmtel_b2bua.specs.declared.entries.Entry.{Entry}
 use Rattle.mmtel_b2bua_laws.specs.Alike.{AlikeEntries}
 use Rattle.mmtel_b2bua_laws.specs.AlikeDeeds.{Configured}
 use Rattle.mmtel_desk.specs.Invites.{invite_answered}
+use Rattle.mmtel_call.specs.Flights.{is_in_flight}
 use Rattle.mmtel_call.specs.Leaving.{is_taken}
 use Rattle.mmtel_call.specs.Table.{current, is_current}
 use Rattle.mmtel_call.specs.declared.calls.Call.{Call}
+use Rattle.mmtel_call.specs.declared.calls.Flight.{Flight}
 use Rattle.mmtel_call.specs.declared.calls.Taken.{Taken}
 use Rattle.mmtel_call_laws.specs.Secret.Directories.{LooksUpAlike, RedirectsAlike, requested}
 use Rattle.mmtel_call_laws.specs.Secret.Premises.{IsAmong}
@@ -50,9 +52,10 @@ use Rattle.mmtel_run.specs.Events.{Digest, Notice, message_in}
 use Rattle.mmtel_run.specs.Rooms.{rooms_site}
 use Rattle.mmtel_run.specs.Run.{one_more}
 use Rattle.mmtel_run.specs.View.{view}
-use Rattle.mmtel_run.specs.World.{World, calls_in, rooms_in}
+use Rattle.mmtel_run.specs.World.{World, boxes_in, calls_in, rooms_in}
 use Rattle.mmtel_run.specs.Refusals.{registrant}
-use Rattle.mmtel_run_laws.specs.Belonging.{is_opening}
+use Rattle.mmtel_run.specs.Subscriptions.{mailbox_named, sender_of}
+use Rattle.mmtel_run_laws.specs.Belonging.{is_opening, may_subscribe}
 use Rattle.mmtel_run_laws.specs.Mask.{Asked, Heard, MaskedDigest, Nothing, Refused, Tests, coming}
 
 -- ---- two configurations
@@ -63,7 +66,7 @@ pub record SiteAlike (records : List Sheet) (one other : Directory) : Type 0 whe
   pub configured : Configured records (site_of one) (site_of other)
 
 -- a message, without what is private of it, names the same accounts in both: the target of an INVITE without To tag, where a response redirects to, whom a REFER asks a room to
--- invite, and for whom a trusted peer registers
+-- invite, for whom a trusted peer registers, and who subscribes to whose mailbox
 pub record LooksUp (one other : Directory) (left : Said) : Type 0 where
   pub target : is_opening left.heard ≡ true →
       target_from one.names.accounts left.heard.start (believed_user left.heard).user ≡ target_from other.names.accounts left.heard.start (believed_user left.heard).user
@@ -71,6 +74,8 @@ pub record LooksUp (one other : Directory) (left : Said) : Type 0 where
   pub redirect : RedirectsAlike (site_of one) (site_of other) left
   pub refer : RefersAlike (rooms_site one) (rooms_site other) left
   pub registrant : registrant one.names.accounts left.heard ≡ registrant other.names.accounts left.heard
+  pub subscriber : may_subscribe one left.heard ≡ true → sender_of one left.heard ≡ sender_of other left.heard
+  pub mailbox : may_subscribe one left.heard ≡ true → mailbox_named one left.heard ≡ mailbox_named other left.heard
 
 -- and so does the caller of such an INVITE, where no tests stand beside it
 abbrev pub CallerLooksUp : (one other : Directory) → Said → Option Tests → Type 0
@@ -81,7 +86,7 @@ abbrev pub DigestLooksUp : (one other : Directory) → MaskedDigest → Type 0
 DigestLooksUp one other Nothing = Unit {0}
 DigestLooksUp one other (Refused peer source reply) = Unit {0}
 DigestLooksUp one other (Heard left tests) = LooksUp one other left × CallerLooksUp one other left tests
-DigestLooksUp one other (Asked put) = Unit {0}
+DigestLooksUp one other (Asked put waits) = Unit {0}
 
 abbrev pub AllLookUp : (one other : Directory) → List (ℕ × MaskedDigest) → Type 0
 AllLookUp one other [] = Unit {0}
@@ -103,6 +108,8 @@ pub record AlikeWorlds (records : List Sheet) (directory far : Directory) (one o
   pub calls : AlikeEntries records (trusts directory) (calls_in directory one).entries (calls_in far other).entries
   pub opened : (calls_in directory one).opened ≡ (calls_in far other).opened
   pub rooms : AlikeRooms (trusts directory) (rooms_in directory one) (rooms_in far other)
+  -- the mailboxes as they stand: a request that was heard may have had something private, which no mailbox keeps
+  pub boxes : boxes_in one ≡ boxes_in other
   pub armed : one.armed ≡ other.armed
   pub texts : one.texts ≡ other.texts
   pub registrations : one.registrations ≡ other.registrations
@@ -114,11 +121,13 @@ pub record AlikeWorlds (records : List Sheet) (directory far : Directory) (one o
 abbrev pub IsOfOne : Directory → World → TKey → Peer → Type 0
 IsOfOne directory world key peer = option_map (trusts directory) (peer_of key.0 (live world.acts)) ≡ Some (trusts directory peer)
 
--- a client transaction that hears a response is of the peer that was asked: that of the INVITE of this branch
+-- a client transaction that hears a response is of the peer that was asked: that of the INVITE of this branch, or of the PRACK or UPDATE that is in flight with it
 pub record AnswerIsTied (directory : Directory) (world : World) (key : TKey) (branch : List ℕ) (c : Call) : Type 0 where
   pub awaited : (i : Invitation) → is_current branch c ≡ true → current c.phase ≡ Some i → IsOfOne directory world key i.dialogue.peer
   pub loose : (at : ℕ) (l : Loose) → position (is_of branch) c.loose ≡ Some at → slice_get c.loose at ≡ Some l → IsOfOne directory world key l.invitation.dialogue.peer
   pub taken : (at : ℕ) (x : Taken) → position (is_taken branch) c.taken ≡ Some at → slice_get c.taken at ≡ Some x → IsOfOne directory world key x.invitation.dialogue.peer
+  pub flights : (at : ℕ) (flight : Flight) → position (is_in_flight branch) c.flights ≡ Some at → slice_get c.flights at ≡ Some flight →
+      IsOfOne directory world key flight.asked.invitation.dialogue.peer
 
 abbrev pub ResponseIsTied : Directory → World → Said → Type 0
 ResponseIsTied directory world m = (key : ℕ) (branch : List ℕ) (at : ℕ) (e : Entry) → part_of (head_of (message_in m.heard)) (live world.acts) ≡ part.Answer key →

@@ -53,6 +53,7 @@ use Rattle.mmtel_types.specs.declared.sides.Side.TheVariants.{Callee, Caller}
 use Rattle.mmtel_run.specs.Calls.{named_by}
 use Rattle.mmtel_run.specs.Events.{message_in}
 use Rattle.mmtel_run.specs.Records.{in_force}
+use Rattle.mmtel_run.specs.Refusals.{is_subscribe}
 use Rattle.mmtel_run.specs.World.{World, calls_in, rooms_in}
 
 -- ---- what goes no further
@@ -220,11 +221,20 @@ hides_caller directory world message =
     is_caller_restricted message.wants
     (origin_sheet (standing world.clock (in_force world.texts world.registrations) []) (served_accounts (parties_of directory.names.accounts message)))
 
+-- with message waiting, a SUBSCRIBE
+abbrev pub may_subscribe : Directory → HeardMessage → Bool
+may_subscribe directory message = is_subscribe message && directory.names.mwi
+
+-- and one that names no dialog of a call: who asks for whose mailbox decides what is answered (RFC 6665 §4.2.1)
+abbrev pub is_subscribing : Directory → World → HeardMessage → Bool
+is_subscribing directory world message = may_subscribe directory message && is_none (named_by message (calls_in directory world).entries)
+
 -- of a request that no transaction knows. Nothing of a CANCEL is passed on (§9.2)
 abbrev pub fresh_role : Directory → World → Said → Role
 fresh_role directory world m =
     if is_opening m.heard then opening_role (hides_caller directory world m.heard)
     else if is_cancel (head_of (message_in m.heard)) then unshown_request
+    else if is_subscribing directory world m.heard then Plain
     else dialog_role directory world m
 
 -- by what the transactions take it for: of what they hear again, have no place for, or know nothing of, and of the ACK of a refusal, nothing is passed on (§17.1.3, §17.2.1)

@@ -6,6 +6,8 @@ pub mod Awaited
 pub mod Sent
 -- Which requests ask for too short a session:
 pub mod Sessions
+-- Whom the server tells of a mailbox, and what:
+pub mod Mailboxes
 -- The charging rows:
 pub mod Rows
 pub mod Timed

@@ -9,6 +9,7 @@ use Rattle.mmtel_directory.specs.declared.directories.Directory.{Directory}
 use Rattle.mmtel_in_force.specs.Texts.{Texts}
 use Rattle.mmtel_message.specs.Message.{Message}
 use Rattle.mmtel_message.specs.declared.messages.Start.{Start}
+use Rattle.mmtel_mwi.specs.declared.counts.Counts.{Counts}
 use Rattle.mmtel_precedence.specs.Laws.{diversion_rules}
 use Rattle.mmtel_rules.specs.Alike.{identity_parts}
 use Rattle.mmtel_rules.specs.Identities.{has_identity, identity_holds}
@@ -21,7 +22,7 @@ use Rattle.mmtel_trust.specs.declared.accounts.AccountIdentity.{AccountIdentity}
 use Rattle.mmtel_types.specs.declared.addrs.Addr.{Addr}
 use Rattle.mmtel_types.specs.declared.numbers.Account.{Account}
 use Rattle.mmtel_types.specs.declared.numbers.Peer.{Peer}
-use Rattle.mmtel_web.specs.Uploads.{kept_upload, upload_in}
+use Rattle.mmtel_web.specs.Uploads.{kept_upload, put_in, upload_in}
 use Rattle.mmtel_run.specs.Calls.{caller_of}
 use Rattle.mmtel_run.specs.Events as Events
 use Rattle.mmtel_run.specs.Events.{Digest, Happened, Notice, notices}
@@ -75,8 +76,9 @@ pub data MaskedDigest : Type 0 where
   Refused : (peer : Peer) → (source : Addr) → (reply : Message Start) → MaskedDigest
   -- a message without what is private of it, and the tests beside it
   Heard : (left : Said) → (tests : Option Tests) → MaskedDigest
-  -- what a web request put in force: what else is asked and replied on the web shows to no peer
-  Asked : (put : Option (Account × List ℕ)) → MaskedDigest
+  -- what a web request put in force, and of which mailbox it said how many messages wait, where that was accepted: each NOTIFY that tells so draws a number, which strangers see in
+  -- what is drawn later. What else is asked and replied on the web shows to no peer
+  Asked : (put : Option (Account × List ℕ)) → (waits : Option (Account × Counts)) → MaskedDigest
 
 -- by the world in which it comes, where this is asked of callers
 abbrev pub mask_digest : Directory → (asked : List Who) → World → Digest → MaskedDigest
@@ -84,7 +86,7 @@ mask_digest directory asked world Events.Nothing = Nothing
 mask_digest directory asked world (Events.Refused peer source reply) = Refused peer source reply
 mask_digest directory asked world (Events.Heard said) =
     Heard (without_private (role_of directory world said) said) (tests_beside directory.names.accounts asked (role_of directory world said) said.heard)
-mask_digest directory asked world (Events.Asked request kept rows) = Asked (kept_upload kept (upload_in directory.names request))
+mask_digest directory asked world (Events.Asked request kept rows) = Asked (kept_upload kept (upload_in directory.names request)) (put_in directory.names request kept)
 
 -- the world in which an event comes: after the deadlines that are due by then, in a step of its own
 abbrev pub coming : Directory → (token : List ℕ) → (fuel : ℕ) → Notice → World → World

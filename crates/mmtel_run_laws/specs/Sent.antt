@@ -1,5 +1,5 @@
 -- What goes out of a call goes out of the server: what it asks and acknowledges comes to the peer, and what it answers comes to the server transaction, and by that to its peer
--- (RFC 3261 §17, §18).
+-- (RFC 3261 §17, §18); and so does that a reliable answer is sent no more (RFC 3262 §3).
 use Rattle.std.specs.Prelude.{◌≡◌, ℕ, ◌==◌, true, false, List, ◌∷◌, ◌++◌, Some}
 use Rattle.mmtel_call_laws.specs.Story.{Start}
 use Rattle.mmtel_message.specs.Message.{Message}
@@ -7,7 +7,7 @@ use Rattle.mmtel_message.specs.Texts.{message_text}
 use Rattle.mmtel_message.specs.declared.messages.Start.{Start as StartLine}
 use Rattle.mmtel_outside.specs.declared.events.Offer.TheVariants as offer
 use Rattle.mmtel_transaction.specs.Answers.{peer_of}
-use Rattle.mmtel_transaction.specs.Calls.{Done, DidAck, DidReply, live}
+use Rattle.mmtel_transaction.specs.Calls.{Done, DidAck, DidReply, DidSettle, live}
 use Rattle.mmtel_transaction.specs.Heads.{head_of, is_provisional}
 use Rattle.mmtel_transaction.specs.declared.words.Emit.{Emit}
 use Rattle.mmtel_transaction.specs.declared.words.Emit.TheVariants as emit
@@ -33,7 +33,7 @@ GoesOut world (emit.Ask peer message) = IsOfferedTo world peer (message_text mes
 GoesOut world (emit.Reply key message) = (at : ℕ) × IsHanded world key.0 message (DidReply key.0 message at)
 GoesOut world (emit.Plain peer text) = IsOfferedTo world peer text
 GoesOut world (emit.Ack key message) = IsHanded world key.0 message (DidAck key.0 message)
-GoesOut world (emit.Settled key own) = Unit {0}
+GoesOut world (emit.Settled key own) = IsIn (DidSettle key.0 own) world.acts
 GoesOut world (emit.Arm call what at) = Unit {0}
 GoesOut world (emit.ArmSeat room seat what at) = Unit {0}
 

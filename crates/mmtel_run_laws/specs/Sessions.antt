@@ -13,7 +13,7 @@ use Rattle.mmtel_trust.specs.Digest.{HeardMessage}
 use Rattle.mmtel_run.specs.Answers.{Answer, too_small, unsupported}
 use Rattle.mmtel_run.specs.Refusals.{Refuse, course, is_foreign, is_known_method, is_last_hop}
 use Rattle.mmtel_run.specs.Rooms.{Holder, holder_of}
-use Rattle.mmtel_run.specs.World.{World, calls_in, replying, rooms_in, taking_fresh}
+use Rattle.mmtel_run.specs.World.{World, boxes_in, calls_in, replying, rooms_in, taking_fresh}
 
 -- where sessions have timers, it is an INVITE or UPDATE, and asks for a session of so few seconds
 pub record AsksTooLittle (directory : Directory) (message : HeardMessage) : Type 0 where
@@ -32,10 +32,12 @@ pub record IsElseTaken (directory : Directory) (merged named : Bool) (message : 
   pub once : (is_none message.to_tag && merged) ≡ false
   pub options : unsupported directory message ≡ []
 
--- all but what is offered, asked and drawn is as it was: the calls and the rooms, so the last numbers of their dialogs too, the deadlines, records, registrations and rows
+-- all but what is offered, asked and drawn is as it was: the calls, the rooms and the mailboxes, so the last numbers of their dialogs too, the deadlines, records,
+-- registrations and rows
 pub record LeavesAll (before after : World) : Type 0 where
   pub calls : after.deeds ≡ before.deeds
   pub rooms : after.rooms ≡ before.rooms
+  pub boxes : after.boxes ≡ before.boxes
   pub armed : after.armed ≡ before.armed
   pub texts : after.texts ≡ before.texts
   pub registrations : after.registrations ≡ before.registrations
@@ -45,7 +47,8 @@ pub record LeavesAll (before after : World) : Type 0 where
 -- in this world a request that opened this transaction is taken so, but for the session that it asks for
 abbrev pub IsElseTakenIn : Directory → World → TKey → Said → Type 0
 IsElseTakenIn directory world key said =
-    IsElseTaken directory (is_merged key.0 (live world.acts)) (is_some (holder_of said.heard (calls_in directory world).entries (rooms_in directory world).live)) said.heard
+    IsElseTaken directory (is_merged key.0 (live world.acts))
+    (is_some (holder_of said.heard (calls_in directory world).entries (rooms_in directory world).live (boxes_in world))) said.heard
 
 pub record ShortSessionsAreRefused : Type 0 where
   -- such a request has a 422, with the least interval that is taken,

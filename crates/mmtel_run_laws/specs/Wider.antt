@@ -1,7 +1,7 @@
 -- Another run may have another configuration, in which some accounts have other identities: by which name the operator serves somebody who is hidden is then as little seen as
 -- what is private. All that is asked is that no URI by which an account is looked up is one of these identities, of the one configuration or of the other. Which URIs these are
 -- is told by the records, and by the masked run: what is private of a message is looked up by nobody, or told by a test
--- (RFC 3261 §10.3, §21.3; RFC 3325 §9.1; RFC 3515 §2.1; RFC 5502 §6; TS 24.604 §4.5.2.6).
+-- (RFC 3261 §10.3, §21.3; RFC 3325 §9.1; RFC 3515 §2.1; RFC 5502 §6; RFC 6665 §4.2.1; TS 24.604 §4.5.2.6).
 use Rattle.std.specs.Prelude.{◌≡◌, ◌&&◌, ℕ, true, if◌then◌else◌, Option, Some, None, List, [], ◌∷◌, ◌++◌, map, codes, option_to_list}
 use Rattle.std.specs.List.{flat_map, list_all}
 use Rattle.std.specs.Option.{unwrap_or}
@@ -31,7 +31,7 @@ use Rattle.mmtel_trust.specs.Digest.{HeardMessage, served_origin}
 use Rattle.mmtel_trust.specs.declared.identities.Identities.{Identities}
 use Rattle.mmtel_types.specs.declared.numbers.Account.{Account}
 use Rattle.mmtel_run.specs.Refusals.{is_register}
-use Rattle.mmtel_run_laws.specs.Belonging.{is_opening}
+use Rattle.mmtel_run_laws.specs.Belonging.{is_opening, may_subscribe}
 use Rattle.mmtel_run_laws.specs.Mask.{Asked, Heard, Mask, MaskedDigest, Nothing, Refused, Tests}
 
 -- ---- another configuration
@@ -97,11 +97,17 @@ referred_by m = if is_method (codes "REFER") m.start then invited_by (referral_i
 abbrev pub registered_by : HeardMessage → List Uri
 registered_by m = if m.trusted && is_register m then option_to_list (m.to >>= uri_in) else []
 
-abbrev pub looked_up_by : (home : List ℕ) → MaskedDigest → List Uri
-looked_up_by home Nothing = []
-looked_up_by home (Refused peer source reply) = []
-looked_up_by home (Heard left tests) = opened_by left.heard tests ++ (redirected_by home left ++ (referred_by left.heard ++ registered_by left.heard))
-looked_up_by home (Asked put) = []
+-- with message waiting, who subscribes to a mailbox, by the identities that a peer asserts, and to whose
+abbrev pub subscribed_by : Directory → HeardMessage → List Uri
+subscribed_by directory m = if may_subscribe directory m then callers_by (asserted m.trusted m.lines) None ++ uri_by (request_uri m.start) else []
+
+-- under this configuration, but for its accounts
+abbrev pub looked_up_by : Directory → MaskedDigest → List Uri
+looked_up_by directory Nothing = []
+looked_up_by directory (Refused peer source reply) = []
+looked_up_by directory (Heard left tests) =
+    opened_by left.heard tests ++ (redirected_by directory.home left ++ (referred_by left.heard ++ (registered_by left.heard ++ subscribed_by directory left.heard)))
+looked_up_by directory (Asked put waits) = []
 
 -- ---- and those by which a record does: where its rules divert calls to
 
@@ -114,13 +120,13 @@ diverted_by home sheet = flat_map (λ (rule : Rule). forwarded_by home (forward_
 
 -- ---- all of a run
 
-abbrev pub looked_up : (home : List ℕ) → (records : List Sheet) → Mask → List Uri
-looked_up home records masked = flat_map (diverted_by home) records ++ flat_map (λ (event : ℕ × MaskedDigest). looked_up_by home event.1) masked.events
+abbrev pub looked_up : Directory → (records : List Sheet) → Mask → List Uri
+looked_up directory records masked = flat_map (diverted_by directory.home) records ++ flat_map (λ (event : ℕ × MaskedDigest). looked_up_by directory event.1) masked.events
 
 -- none of these names one of the renamed accounts, by the identities of either configuration
 pub record Neutral (renamed : List Account) (one other : Directory) (records : List Sheet) (masked : Mask) : Type 0 where
-  pub here : list_all (names_none renamed one.names.accounts) (looked_up one.home records masked) ≡ true
-  pub there : list_all (names_none renamed other.names.accounts) (looked_up one.home records masked) ≡ true
+  pub here : list_all (names_none renamed one.names.accounts) (looked_up one records masked) ≡ true
+  pub there : list_all (names_none renamed other.names.accounts) (looked_up one records masked) ≡ true
 
 -- ---- the case of one configuration, which renames nobody
 

@@ -1,5 +1,6 @@
 //! What a run comes to. These are laws, and no code.
 ghost use Rattle.mmtel_run_laws.specs.Clean.{HomesAreClean, RunsSendCleanMessages};
+ghost use Rattle.mmtel_run_laws.specs.Mailboxes.{MailboxesAreToldToTheirSubscribers};
 ghost use Rattle.mmtel_run_laws.specs.Outcome.{CallsOfRunsComeToOutcome};
 ghost use Rattle.mmtel_run_laws.specs.Rows.{SeatsOfRunsAreChargedOnce};
 ghost use Rattle.mmtel_run_laws.specs.Sessions.{ShortSessionsAreRefused};
@@ -16,6 +17,7 @@ use mmtel_focus_laws::{
     participants_are_charged_once, rooms_reply_in_their_own, rooms_send_clean_messages,
     seats_have_their_meters,
 };
+use mmtel_mwi::the_last_upload_counts;
 use mmtel_precedence::laws::{diversions_have_forwards, diversions_stay_within_the_bound};
 use mmtel_run::{records_are_those_kept, rows_are_filed};
 use mmtel_transaction::laws::deadlines_come_to_an_end_between_offers;
@@ -88,3 +90,13 @@ pub fn homes_of_configurations_are_clean()
 pub fn short_sessions_are_refused()
     ensures law { ShortSessionsAreRefused }
 {}
+
+/// What was said of mailboxes in a run is what its accepted uploads said, in their order. Whoever subscribes is trusted, and each request of the server's own is of a call, of a
+/// conference room, or a NOTIFY to the peer of a subscription that lives: in its dialog, with the summary of what was said last of the mailbox before it went out first (RFC
+/// 3842 §3.6, §5.2; RFC 6665 §4.2.2). A SUBSCRIBE of a peer that is not trusted has a refusal, and no more is done with it but that in the dialog of a subscription its number
+/// is the last that was heard.
+pub fn mailboxes_are_told_to_their_subscribers()
+    ensures law { MailboxesAreToldToTheirSubscribers }
+{
+    the_last_upload_counts();
+}

@@ -8,7 +8,8 @@ mod secrecy;
 
 pub use laws::{
     calls_of_runs_come_to_their_outcome, homes_of_configurations_are_clean,
-    runs_send_clean_messages, seats_of_runs_are_charged_once, short_sessions_are_refused,
+    mailboxes_are_told_to_their_subscribers, runs_send_clean_messages,
+    seats_of_runs_are_charged_once, short_sessions_are_refused,
 };
 pub use offered::{bytes_are_seen, offers_are_added};
 pub use secrecy::{

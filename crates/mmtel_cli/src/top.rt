@@ -14,6 +14,7 @@ ghost use Rattle.mmtel_cli.specs.Runs.{CalledFor, CountsAtFive, CountsAtFour, Ra
 ghost use Rattle.mmtel_cli.specs.Serving.{IsUnbound};
 ghost use Rattle.mmtel_outside.specs.Shelf.{called};
 ghost use Rattle.mmtel_reports.specs.Ends.{written_by};
+ghost use Rattle.mmtel_run_laws.specs.Mailboxes.{MailboxesAreToldToTheirSubscribers};
 ghost use Rattle.mmtel_run_laws.specs.Sessions.{ShortSessionsAreRefused};
 ghost use Rattle.mmtel_script.specs.Script.{unheard};
 ghost use Rattle.mmtel_server.specs.Seen.{keeper_seen};
@@ -30,8 +31,8 @@ use mmtel_outside::{FileFault, Files, Sink};
 use mmtel_reports::{Report, write_report};
 use mmtel_run_laws::{
     bytes_are_seen, calls_of_runs_come_to_their_outcome, configurations_are_read,
-    homes_of_configurations_are_clean, runs_send_clean_messages, seats_of_runs_are_charged_once,
-    short_sessions_are_refused,
+    homes_of_configurations_are_clean, mailboxes_are_told_to_their_subscribers,
+    runs_send_clean_messages, seats_of_runs_are_charged_once, short_sessions_are_refused,
 };
 use mmtel_scan::{NoMemory, Text};
 use mmtel_script::{ScriptFault, ScriptLink};
@@ -295,6 +296,9 @@ pub fn run<F: Files, L: Link, K: Keeper, S: Sink>(
         words.now (written_by S.Sink result out.old out.new) }
     // By those definitions a 422 of the server's own is offered to an INVITE or UPDATE whose session is too short, and to nothing else, and nothing else is done with that.
     ensures sessions { ShortSessionsAreRefused }
+    // By those definitions each request of the server's own is of a call, of a conference room, or a NOTIFY to the trusted peer of a subscription that lives, with the summary of
+    // what the last accepted upload said of its mailbox; and a SUBSCRIBE of a peer that is not trusted has a refusal.
+    ensures mailboxes { MailboxesAreToldToTheirSubscribers }
     // What was asked of the files.
     ensures calls { IfSome (F.told files.old) (λ shelf. CalledFor shelf words.now result (F.told files.new)) }
     // When the count of their faults rose.
@@ -313,6 +317,7 @@ pub fn run<F: Files, L: Link, K: Keeper, S: Sink>(
     configurations_are_read();
     bytes_are_seen();
     short_sessions_are_refused();
+    mailboxes_are_told_to_their_subscribers();
     let due = prepare::<F, L, K, Brand>(alloc, words, files, link, keeper, Blank::new(1));
     let status = write_report(&due, out);
     drop(due);

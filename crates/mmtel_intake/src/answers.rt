@@ -7,7 +7,7 @@ use mmtel_answers::{FurtherMethods, allowed};
 use mmtel_directory::Directory;
 use mmtel_message::{Line, add_bytes};
 use mmtel_scan::{List, NoMemory};
-use mmtel_types::{Account, CallNo, RoomNo, Side};
+use mmtel_types::{Account, CallNo, RoomNo, Side, SubNo};
 use std::alloc::Global;
 
 /// An answer of the server's own: its status, and the lines that it has of its own.
@@ -15,7 +15,7 @@ use std::alloc::Global;
 pub struct Answer {
     /// The status.
     pub code: u16,
-    /// The lines that are named for it: Allow (RFC 3261 §20.5), Unsupported (§20.40) or Min-SE (RFC 4028 §5).
+    /// The lines that are named for it: Allow (RFC 3261 §20.5), Unsupported (§20.40), Min-SE (RFC 4028 §5), Allow-Events or Expires (RFC 6665 §8.2.2, §4.2.1.1).
     pub named: List<Line>,
 }
 
@@ -36,6 +36,8 @@ pub enum Holder {
         /// The number of the seat.
         seat: u64,
     },
+    /// A subscription to a mailbox.
+    InBox(SubNo),
 }
 
 /// What is done with a request that opens a transaction.
@@ -73,6 +75,10 @@ pub enum Course {
         /// The seconds from now.
         seconds: u64,
     },
+    /// It subscribes to a mailbox (RFC 6665 §4.2.1).
+    Subscribe,
+    /// It is heard in the dialog of this subscription.
+    EnterBox(SubNo),
 }
 
 /// An answer that has no lines of its own.

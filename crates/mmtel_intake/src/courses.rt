@@ -6,8 +6,9 @@ ghost use Rattle.mmtel_lex.specs.Reading.{uri_of};
 ghost use Rattle.mmtel_sdp.specs.Offers.{offers_audio};
 ghost use Rattle.mmtel_trust.specs.MaskedMessages.{public_part};
 ghost use Rattle.mmtel_run.specs.Audio.{is_for_room};
-ghost use Rattle.mmtel_run.specs.Refusals.{by_method, course, course_by, course_in as course_in_dialog, first_that_applies, in_dialog, invited, invited_at, invited_to, is_known_method};
-ghost use Rattle.mmtel_run.specs.Refusals.{is_factory, is_room, is_room_number, is_room_user, opening, room_number, session_refusals, with_audio};
+ghost use Rattle.mmtel_run.specs.Refusals.{by_method, course, course_by, course_in as course_in_dialog, entering, first_that_applies, in_dialog, invited, invited_at};
+ghost use Rattle.mmtel_run.specs.Refusals.{invited_to, is_known_method};
+ghost use Rattle.mmtel_run.specs.Refusals.{is_elsewhere, is_factory, is_room, is_room_number, is_room_user, opening, room_number, session_refusals, with_audio};
 ghost use Rattle.mmtel_intake.specs.Courses.{course_in, holder_in};
 ghost use Rattle.mmtel_intake.specs.Targets.{target_in};
 
@@ -170,6 +171,8 @@ fn by_method(
         invited(alloc, directory, target, full, request)
     } else if is_method(b"REGISTER", start) {
         registration(alloc, directory, request)
+    } else if is_method(b"SUBSCRIBE", start) {
+        Ok(Course::Subscribe)
     } else {
         Ok(Course::Refuse(plainly(481)))
     }
@@ -182,6 +185,29 @@ fn in_dialog(holder: Holder) -> Course
     match holder {
         Holder::InCall { call, side } => Course::Enter { call, side },
         Holder::InRoom { room, seat } => Course::EnterRoom { room, seat },
+        Holder::InBox(sub) => Course::EnterBox(sub),
+    }
+}
+
+/// Whether a dialog is of no subscription.
+fn is_elsewhere(holder: Holder) -> bool
+    ensures { result ≡ is_elsewhere (holder_in holder) }
+{
+    match holder {
+        Holder::InCall { .. } => true,
+        Holder::InRoom { .. } => true,
+        Holder::InBox(_) => false,
+    }
+}
+
+/// What is done with a request in a dialog: whoever has it hears it, but for a SUBSCRIBE in that of a call or of a seat (RFC 6665 §4.2.1.2).
+fn entering(holder: Holder, request: &Hearing) -> Course
+    ensures { course_in result ≡ entering (holder_in holder) (public_part request.now.heard) }
+{
+    if is_method(b"SUBSCRIBE", request.message.start()) && is_elsewhere(holder) {
+        Course::Refuse(plainly(481))
+    } else {
+        in_dialog(holder)
     }
 }
 
@@ -198,7 +224,7 @@ fn course_in_dialog(
 {
     match standing.named {
         None => by_method(alloc, directory, target, standing.full, request),
-        Some(holder) => Ok(in_dialog(holder)),
+        Some(holder) => Ok(entering(holder, request)),
     }
 }
 

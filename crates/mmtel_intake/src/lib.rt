@@ -9,6 +9,7 @@ mod digests;
 mod refusals;
 mod registrations;
 mod replies;
+mod subscribing;
 
 pub use answers::{Answer, Course, Holder, further_methods, plainly};
 pub use arrivals::{arrived, caller_account};
@@ -16,3 +17,6 @@ pub use courses::{Standing, course};
 pub use dialogs::{DialogName, dialog_name};
 pub use digests::{Told, digest, moment};
 pub use replies::{completed_reply, is_untagged, response_to};
+pub use subscribing::{
+    granted_seconds, granting, mailbox_named, other_answer, refusing_answer, subscribe_refusal,
+};

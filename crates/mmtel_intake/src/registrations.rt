@@ -64,16 +64,23 @@ fn to_account(
     }
 }
 
+/// The number of seconds that Expires of a request names (RFC 3261 §20.19); None without one, and where it is no number.
+pub fn expires(request: &Hearing) -> Option<u64>
+    ensures { result ≡ request.now.heard.expires }
+{
+    match request.message.first(b"Expires") {
+        None => None,
+        Some(value) => number_up_to(MOST_SECONDS, value),
+    }
+}
+
 /// For how many seconds a request registers: an hour without Expires, or where that is no number (RFC 3261 §10.2.1.1).
 fn seconds(request: &Hearing) -> u64
     ensures { result ≡ seconds_of request.now.heard.expires }
 {
-    match request.message.first(b"Expires") {
+    match expires(request) {
         None => HOUR,
-        Some(value) => match number_up_to(MOST_SECONDS, value) {
-            None => HOUR,
-            Some(seconds) => seconds,
-        },
+        Some(seconds) => seconds,
     }
 }
 

@@ -14,15 +14,17 @@ use Rattle.mmtel_intake.specs.Dialogs.{name_in}
 use Rattle.mmtel_intake.specs.declared.dialogs.DialogName as declared
 use Rattle.mmtel_outside.specs.declared.events.Offer.{Offer}
 use Rattle.mmtel_run.specs.Calls.{DialogName, dialog_name, find_dialog}
-use Rattle.mmtel_run.specs.Rooms.{Holder, Whose, find_seat, in_call_or, in_room, whose_key, whose_branch}
+use Rattle.mmtel_mwi.specs.Boxes as mailboxes
+use Rattle.mmtel_run.specs.Rooms.{Holder, Whose, find_box, find_seat, in_box, in_call_or, in_room_or, whose_key, whose_branch}
 use Rattle.mmtel_run.specs.Short.{IsShort}
-use Rattle.mmtel_run.specs.World.{World, calls_in, holder_in, rooms_in}
+use Rattle.mmtel_run.specs.World.{World, boxes_in, calls_in, holder_in, rooms_in}
 use Rattle.mmtel_transaction.specs.declared.words.TKey.{TKey}
 use Rattle.mmtel_trust.specs.Digest.{HeardMessage}
 use Rattle.mmtel_trust.specs.Peers.{Peers}
 use Rattle.mmtel_trust.specs.declared.accounts.AccountIdentity.{AccountIdentity}
 use Rattle.mmtel_types.specs.declared.numbers.CallNo.{CallNo}
 use Rattle.mmtel_types.specs.declared.numbers.RoomNo.{RoomNo}
+use Rattle.mmtel_types.specs.declared.numbers.SubNo.{SubNo}
 use Rattle.mmtel_types.specs.declared.sides.Side.{Side}
 use Rattle.mmtel_server.specs.Follows.{Breaks, Follows}
 use Rattle.mmtel_server.specs.Stands.{Did, IsCut, Stands, calls_of, rooms_of}
@@ -58,11 +60,10 @@ asked s x f says d token w have =
     says d.peers d.names.accounts w.deeds (subst (λ (c : CallsView). histories.Stands d.peers d.names.accounts c w.deeds) (sym have.calls) there)
     ∙ ap (λ (c : CallsView). f (table_after (site_in c d.peers d.names.accounts) w.deeds).entries) have.calls
 
--- whose a request is, by its branch or by its client transaction
-pub sent_of : (s : Server) (x : Whose) (o p : Option (List ℕ)) → o ≡ p → x ≡ whose_branch o s.calls.table.entries
-    → (d : Directory) (token : List ℕ) (w : World) → Stands d token s w → x ≡ whose_branch p (calls_in d w).entries
-sent_of s x o p same is d token w have =
-    is ∙ (ap (λ (q : Option (List ℕ)). whose_branch q s.calls.table.entries) same ∙ ap (λ (c : CallsView). whose_branch p c.table.entries) have.calls)
+-- whose a request is, by its branches or by its client transaction
+pub sent_of : (s : Server) (x : Whose) (o p q r : Option (List ℕ)) → o ≡ p → q ≡ r → x ≡ whose_branch o q s.calls.table.entries s.boxes.table
+    → (d : Directory) (token : List ℕ) (w : World) → Stands d token s w → x ≡ whose_branch p r (calls_in d w).entries (boxes_in w)
+sent_of s x o p q r same alike is d token w have = is ∙ (λ i. whose_branch (same i) (alike i) (have.calls i).table.entries (have.boxes i).table)
 
 pub key_of : (s : Server) (x : Whose) (key : TKey) → x ≡ whose_key key s.calls.table.entries
     → (d : Directory) (token : List ℕ) (w : World) → Stands d token s w → x ≡ whose_key key (calls_in d w).entries
@@ -82,7 +83,12 @@ asked_rooms s x f says d token w have =
 
 -- of this name
 abbrev pub holder_by : Option DialogName → Directory → World → Option Holder
-holder_by o d w = in_call_or (in_room (find_seat o (rooms_in d w).live)) (find_dialog o (calls_in d w).entries)
+holder_by o d w = in_call_or (in_room_or (in_box (find_box o (boxes_in w))) (find_seat o (rooms_in d w).live)) (find_dialog o (calls_in d w).entries)
+
+pub found_box : (s : Server) (name : declared.DialogName) (call_id local remote : List ℕ) (x : Option SubNo) → call_id ≡ name.call_id → local ≡ name.local → remote ≡ name.remote
+    → x ≡ mailboxes.found call_id local remote s.boxes.table
+    → (d : Directory) (token : List ℕ) (w : World) → Stands d token s w → x ≡ find_box (Some (name_in name)) (boxes_in w)
+found_box s name call_id local remote x ids locals remotes finds d token w have = finds ∙ (λ i. mailboxes.found (ids i) (locals i) (remotes i) (have.boxes i).table)
 
 pub found_call : (s : Server) (name : declared.DialogName) (call_id local remote : List ℕ) (x : Option (CallNo × Side)) → call_id ≡ name.call_id → local ≡ name.local → remote ≡ name.remote
     → ((peers : Peers) (accounts : List AccountIdentity) (deeds : List Deed) → histories.Stands peers accounts s.calls deeds

@@ -112,6 +112,7 @@ module _ (d : Directory) (token : List ℕ) (before out : List Offer) (s : Serve
           registered = have.stands.registered;
           calls = calls_left;
           rooms = have.stands.rooms;
+          boxes = have.stands.boxes;
           armed = have.stands.armed;
           waiting = taken_over ∙ (ap (λ (rows : List Row). rows ++ calls.table.rows) have.stands.waiting ∙ ap (λ (rows : List Row). w.waiting ++ rows) rows_are);
           drained = none_left;

@@ -1,14 +1,14 @@
 -- A request opens no call where as many live as may.
 use Rattle.std.proofs.Common.{◌≡◌, Bool, true, false, refl, sym, ap, ◌∙◌, Option, Some, None, Result, Ok, Err}
-use Rattle.std.specs.Prelude.{codes, if◌then◌else◌, is_some}
+use Rattle.std.specs.Prelude.{◌&&◌, codes, if◌then◌else◌, is_some}
 use Rattle.mmtel_directory.specs.declared.directories.Directory.{Directory}
 use Rattle.mmtel_leg.specs.Dialogues.{request_uri}
 use Rattle.mmtel_lex.specs.Reading.{Refusal, uri_of}
 use Rattle.mmtel_lex.specs.declared.values.Uri.{Uri}
 use Rattle.mmtel_message.specs.Faults.{is_method}
 use Rattle.mmtel_run.specs.Answers.{Answer, plainly}
-use Rattle.mmtel_run.specs.Refusals.{Course, Refuse, Enter, EnterRoom, Open, OpenRoom, JoinRoom, Register, by_method, course, course_by, first_that_applies, in_dialog, invited_at, is_factory, is_register, is_room, refusals, registration, registration_of, room_number, to_account, with_audio}
-use Rattle.mmtel_run.specs.Rooms.{Holder, InCall, InRoom}
+use Rattle.mmtel_run.specs.Refusals.{Course, Refuse, Enter, EnterRoom, Open, OpenRoom, JoinRoom, Register, Subscribe, EnterBox, by_method, course, course_by, entering, first_that_applies, in_dialog, invited_at, is_elsewhere, is_factory, is_register, is_room, is_subscribe, refusals, registration, registration_of, room_number, to_account, with_audio}
+use Rattle.mmtel_run.specs.Rooms.{Holder, InBox, InCall, InRoom}
 use Rattle.mmtel_sdp.specs.Offers.{offers_audio}
 use Rattle.mmtel_trust.specs.Digest.{HeardMessage}
 use Rattle.mmtel_trust.specs.MaskedMessages.{public_part}
@@ -23,6 +23,8 @@ opens Open = true
 opens OpenRoom = false
 opens (JoinRoom room) = false
 opens (Register account seconds) = false
+opens Subscribe = false
+opens (EnterBox sub) = false
 
 either : (b : Bool) (x y : Course) → opens x ≡ false → opens y ≡ false → opens (if b then x else y) ≡ false
 either true x y e f = e
@@ -50,16 +52,20 @@ module _ (d : Directory) (m : HeardMessage) where
       either (is_method (codes "OPTIONS") m.start) _ _ refl
       (either (is_method (codes "REFER") m.start) _ _ refl
       (either (is_method (codes "INVITE") m.start) _ _ (in_full (uri_of (request_uri m.start)))
-      (either (is_register m) _ _ registered refl)))
+      (either (is_register m) _ _ registered (either (is_subscribe m) Subscribe (Refuse (plainly 481)) refl refl))))
 
   by_holder : (holder : Holder) → opens (in_dialog holder) ≡ false
   by_holder (InCall call side) = refl
   by_holder (InRoom room seat) = refl
+  by_holder (InBox sub) = refl
+
+  enters : (holder : Holder) → opens (entering holder m) ≡ false
+  enters holder = either (is_subscribe m && is_elsewhere holder) (Refuse (plainly 481)) (in_dialog holder) refl (by_holder holder)
 
   by_refusal : (named : Option Holder) (o : Option Answer) → opens (course_by d true named m o) ≡ false
   by_refusal named (Some answer) = refl
   by_refusal None None = by_its_method
-  by_refusal (Some holder) None = by_holder holder
+  by_refusal (Some holder) None = enters holder
 
 opens_none : (d : Directory) (merged : Bool) (named : Option Holder) (m : HeardMessage) → opens (course d merged true named m) ≡ false
 unfolding course

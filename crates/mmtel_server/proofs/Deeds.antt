@@ -6,11 +6,14 @@ use Rattle.mmtel_directory.specs.declared.directories.Directory.{Directory}
 use Rattle.mmtel_message.specs.Message.{Message}
 use Rattle.mmtel_message.specs.Texts.{message_text}
 use Rattle.mmtel_message.specs.declared.messages.Start.{Start}
+use Rattle.mmtel_mwi.specs.Boxes.{BoxesView, with_table}
+use Rattle.mmtel_mwi.specs.Histories as boxes
 use Rattle.mmtel_outside.specs.declared.events.Offer.{Offer}
 use Rattle.mmtel_outside.specs.declared.events.Offer.TheVariants as offer
 use Rattle.mmtel_run.specs.Answers.{tag_for, tags_due}
 use Rattle.mmtel_run.specs.Short.{IsShort}
 use Rattle.mmtel_run.specs.Deadlines as deadlines
+use Rattle.mmtel_run.specs.Subscriptions.{noting}
 use Rattle.mmtel_run.specs.World.{World, acting, arming, drawing, emit_one, emitted, offering, to_peer}
 use Rattle.mmtel_transaction.specs.Answers.{peer_of}
 use Rattle.mmtel_transaction.specs.Calls.{Done, DidAsk, live}
@@ -44,6 +47,7 @@ drew d token before s t out w n did e = record {
     registered = did.stands.registered;
     calls = did.stands.calls;
     rooms = did.stands.rooms;
+    boxes = did.stands.boxes;
     armed = did.stands.armed;
     waiting = did.stands.waiting;
     drained = did.stands.drained;
@@ -97,6 +101,7 @@ asked few s t out out2 peer m at text P opens is offered d token before w did sh
     registered = did.stands.registered;
     calls = did.stands.calls;
     rooms = did.stands.rooms;
+    boxes = did.stands.boxes;
     armed = did.stands.armed;
     waiting = did.stands.waiting;
     drained = did.stands.drained;
@@ -124,6 +129,7 @@ sent_to deed s t out out2 key at text said peer told same is offered d token bef
     registered = did.stands.registered;
     calls = did.stands.calls;
     rooms = did.stands.rooms;
+    boxes = did.stands.boxes;
     armed = did.stands.armed;
     waiting = did.stands.waiting;
     drained = did.stands.drained;
@@ -178,6 +184,31 @@ told_alone deed s t out told d token before w did short = record {
     registered = did.stands.registered;
     calls = did.stands.calls;
     rooms = did.stands.rooms;
+    boxes = did.stands.boxes;
+    armed = did.stands.armed;
+    waiting = did.stands.waiting;
+    drained = did.stands.drained;
+    cleared = did.stands.cleared;
+    whole = did.stands.whole;
+  };
+  offered = did.offered;
+}
+
+-- a deed on mailboxes brings nothing forth by itself
+pub noted : (deed : boxes.Deed) (s : Server) (new : BoxesView) (out : List Offer) → new ≡ with_table s.boxes (boxes.did deed s.boxes.table)
+    → Follows s out (record s { boxes = new }) out (λ d token. noting deed)
+noted deed s new out is d token before w did short = record {
+  stands = record {
+    directory_same = did.stands.directory_same;
+    tokens = did.stands.tokens;
+    transactions = did.stands.transactions;
+    clock = did.stands.clock;
+    steps = did.stands.steps;
+    texts = did.stands.texts;
+    registered = did.stands.registered;
+    calls = did.stands.calls;
+    rooms = did.stands.rooms;
+    boxes = is ∙ ap (λ (b : BoxesView). with_table b (boxes.did deed b.table)) did.stands.boxes;
     armed = did.stands.armed;
     waiting = did.stands.waiting;
     drained = did.stands.drained;
@@ -201,6 +232,7 @@ armed_more s a rest out more step d token before w did short = record {
     registered = did.stands.registered;
     calls = did.stands.calls;
     rooms = did.stands.rooms;
+    boxes = did.stands.boxes;
     armed =
         ap queue_of more
         ∙ (map-append (λ b. armed_in b) s.armed (a ∷ [])

@@ -5,7 +5,7 @@ use Rattle.mmtel_answers.specs.Said.{Said}
 use Rattle.mmtel_b2bua.specs.Histories.{Deed, Finishes, Hears}
 use Rattle.mmtel_b2bua.specs.declared.signals.Signal.{Signal}
 use Rattle.mmtel_b2bua.specs.declared.signals.Signal.TheVariants as signal
-use Rattle.mmtel_desk.specs.Invites.{invite_answered}
+use Rattle.mmtel_desk.specs.Invites.{branch_in, invite_answered}
 use Rattle.mmtel_charging.specs.declared.rows.Row.{Row}
 use Rattle.mmtel_desk.specs.declared.desks.Desk.{Desk}
 use Rattle.mmtel_directory.specs.declared.directories.Directory.{Directory}
@@ -21,10 +21,11 @@ use Rattle.mmtel_run.specs.Answers.{Answer, completed_reply, plainly, response_t
 use Rattle.mmtel_run.specs.Calls.{are_full, arrived, asked_by, site_of}
 use Rattle.mmtel_run.specs.Events.{Digest, Nothing, Refused, Heard, Asked, message_in}
 use Rattle.mmtel_run.specs.Records.{until_of}
-use Rattle.mmtel_run.specs.Refusals.{Course, Refuse, Enter, EnterRoom, Open, OpenRoom, JoinRoom, Register, course}
-use Rattle.mmtel_run.specs.Rooms.{Holder, InCall, InRoom, OfCalls, OfRooms, Whose, whose_branch, rooms_site}
+use Rattle.mmtel_run.specs.Refusals.{Course, Refuse, Enter, EnterRoom, Open, OpenRoom, JoinRoom, Register, Subscribe, EnterBox, course}
+use Rattle.mmtel_run.specs.Rooms.{Holder, InBox, InCall, InRoom, OfBoxes, OfCalls, OfRooms, Whose, whose_branch, rooms_site}
 use Rattle.mmtel_run.specs.Short.{IsShort, tokens_of}
-use Rattle.mmtel_run.specs.World.{World, acknowledging, acknowledging_by, answering, begun, bringing, calls_in, came, cancelling, cancelling_call, comes_of, drawing, emit_one, emitted, ended, entering_room, finishing, handing, heard_now, hearing, holder_in, housed, joining_room, lending, lodging, met, noticed, offering, opening_room, refusing, registering, repeating, replying, replying_plainly, responding, responding_to, seated, serving, signalled, taking, taking_fresh, tokens_now, told, told_as}
+use Rattle.mmtel_run.proofs.BoxWords as boxes
+use Rattle.mmtel_run.specs.World.{World, arming, boxes_in, served, acknowledging, acknowledging_by, answering, begun, bringing, calls_in, came, cancelling, cancelling_call, comes_of, drawing, emit_one, emitted, ended, entering_room, finishing, handing, heard_now, hearing, holder_in, housed, joining_room, lending, lodging, met, noticed, offering, opening_room, refusing, registering, repeating, replying, replying_plainly, responding, responding_to, seated, serving, signalled, taking, taking_fresh, tokens_now, told, told_as}
 use Rattle.mmtel_transaction.specs.Answers.{hear_says, is_merged}
 use Rattle.mmtel_transaction.specs.Calls.{Done, live}
 use Rattle.mmtel_transaction.specs.declared.words.Emit.{Emit}
@@ -38,6 +39,11 @@ use Rattle.mmtel_types.specs.declared.numbers.Peer.{Peer}
 use Rattle.mmtel_types.specs.declared.numbers.RoomNo.{RoomNo}
 use Rattle.mmtel_types.specs.declared.sides.Side.{Side}
 use Rattle.mmtel_web.specs.Answers.{Kept}
+use Rattle.mmtel_web.specs.Uploads.{put_in}
+use Rattle.mmtel_run.specs.Deadlines.{Armed}
+use Rattle.mmtel_run.specs.Subscriptions.{noting}
+use Rattle.mmtel_mwi.specs.Histories as box
+use Rattle.mmtel_answers.specs.Said.{status_of}
 use Rattle.mmtel_server.proofs.RoomWords as words
 use Rattle.mmtel_server.specs.Follows.{AllDrawOn, Breaks, Follows, brought_in, desk_at_end, desk_of, lodged_in}
 use Rattle.mmtel_server.specs.Stands.{IsCut, IsPrefixOf}
@@ -114,6 +120,14 @@ finishes law d token at call w = brings at (Finishes call.0 at (tokens_now token
 pub lends : (deed : Deed) (w : World) → Grows w (lending deed w)
 lends deed w = record { acts = omega arith; steps = omega arith; drawn = λ less. omega arith; front = ([], append-nil w.offers) }
 
+-- ---- what is done on the mailboxes
+
+pub notes : (deed : box.Deed) (w : World) → Grows w (noting deed w)
+notes deed w = record { acts = omega arith; steps = omega arith; drawn = λ less. omega arith; front = ([], append-nil w.offers) }
+
+pub arms : (armed : Armed) (w : World) → Grows w (arming armed w)
+arms armed w = record { acts = omega arith; steps = omega arith; drawn = λ less. omega arith; front = ([], append-nil w.offers) }
+
 -- ---- what is done on the rooms
 
 pub lodges : (at : ℕ) (deed : rooms.Deed) (desk : Desk) (w : World) → Grows w (lodging at deed desk w)
@@ -174,6 +188,8 @@ module _ (law : AllDrawOn) (d : Directory) (token : List ℕ) (at : ℕ) where
       let v = registering account (until_of at seconds) w in
       let g = replies d token at key s (plainly 200) v in
       record { acts = g.acts; steps = g.steps; drawn = g.drawn; front = g.front }
+  takes key s Subscribe w = boxes.subscribes Grows grows_on same notes d token at (draws 1) (emits_all at) arms (replies d token at) key s w
+  takes key s (EnterBox sub) w = boxes.enters Grows grows_on same notes d token at (draws 1) (emits_all at) arms (replies d token at) key s sub w
 
   pub takes_fresh : (key : TKey) (s : Said) (w : World) → Grows w (taking_fresh d token at key s w)
   takes_fresh key s w = takes key s (course d (is_merged key.0 (live w.acts)) (are_full (calls_in d w).entries) (holder_in d s.heard w) s.heard) w
@@ -194,16 +210,18 @@ module _ (law : AllDrawOn) (d : Directory) (token : List ℕ) (at : ℕ) where
   acknowledges_by s None w = same w
   acknowledges_by s (Some (InCall call side)) w = signals law d token at (signal.Ack call side s) w
   acknowledges_by s (Some (InRoom room seat)) w = seats law d token at (of_room.Ack room seat s) w
+  acknowledges_by s (Some (InBox sub)) w = same w
 
   pub acknowledges : (s : Said) (w : World) → Grows w (acknowledging d token at s w)
   acknowledges s w = acknowledges_by s (holder_in d s.heard w) w
 
   pub responds_to : (key : TKey) (s : Said) (whose : Whose) (w : World) → Grows w (responding_to d token at key s whose w)
   responds_to key s OfCalls w = signals law d token at (signal.Answer key s) w
+  responds_to key s OfBoxes w = boxes.answered Grows grows_on same notes (branch_in s.heard.vias) (status_of s.heard.start) w
   responds_to key s OfRooms w = seats law d token at (of_room.Answer key s) w
 
   pub responds : (key : TKey) (s : Said) (w : World) → Grows w (responding d token at key s w)
-  responds key s w = responds_to key s (whose_branch (invite_answered s) (calls_in d w).entries) w
+  responds key s w = responds_to key s (whose_branch (invite_answered s) (branch_in s.heard.vias) (calls_in d w).entries (boxes_in w)) w
 
   pub answers : (s : Said) (o : Option transaction.Heard) (w : World) → Grows w (answering d token at s o w)
   answers s None w = replies_plainly d token at s (plainly 503) w
@@ -229,13 +247,19 @@ module _ (law : AllDrawOn) (d : Directory) (token : List ℕ) (at : ℕ) where
   pub serves : (request : Request) (kept : Kept) (rows : List Row) (w : World) → Grows w (serving d at request kept rows w)
   serves request kept rows w = record { acts = omega arith; steps = omega arith; drawn = λ less. omega arith; front = (_, refl) }
 
+  pub serves_whole : (request : Request) (kept : Kept) (rows : List Row) (w : World) → Grows w (served d token at request kept rows w)
+  serves_whole request kept rows w =
+      let replied : World = serving d at request kept rows w in
+      grows_on w replied (served d token at request kept rows w) (serves request kept rows w)
+      (boxes.puts Grows grows_on same notes d token at (draws 1) (emits_all at) arms (replies d token at) (put_in d.names request kept) replied)
+
   -- ---- events
 
   pub met_grows : (x : Digest) (w : World) → Grows w (met d token at x w)
   met_grows Nothing w = same w
   met_grows (Refused peer source reply) w = refuses token at peer source reply w
   met_grows (Heard s) w = told_grows s w
-  met_grows (Asked request kept rows) w = serves request kept rows w
+  met_grows (Asked request kept rows) w = serves_whole request kept rows w
 
   clocked : (w : World) → Grows w (record (begun w) { clock = at })
   clocked w = let g = begins w in record { acts = g.acts; steps = g.steps; drawn = g.drawn; front = g.front }

@@ -27,6 +27,7 @@ module _ (s : Server) (d : Directory) (token : List ℕ) (before out : List Offe
       registered = did.stands.registered;
       calls = did.stands.calls;
       rooms = did.stands.rooms;
+      boxes = did.stands.boxes;
       armed = did.stands.armed;
       waiting = same;
       drained = did.stands.drained;

@@ -121,6 +121,7 @@ module _ (f : Drawn → Deed) (s : Server) (mid new : RoomsView) (waiting : List
         registered = have.stands.registered;
         calls = have.stands.calls;
         rooms = new_rooms;
+        boxes = have.stands.boxes;
         armed = have.stands.armed;
         waiting = all_wait;
         drained = have.stands.drained;
@@ -151,6 +152,7 @@ module _ (f : Drawn → Deed) (s : Server) (mid new : RoomsView) (waiting : List
           registered = have.stands.registered;
           calls = have.stands.calls;
           rooms = new_rooms;
+          boxes = have.stands.boxes;
           armed = have.stands.armed;
           waiting = all_wait;
           drained = have.stands.drained;

@@ -101,6 +101,7 @@ module _ (deed : Deed) (files : (site : Site) (table : Table) → (did site deed
         registered = did_it.stands.registered;
         calls = calls_are (calls_after d (deed ∷ w.deeds)) table_is;
         rooms = did_it.stands.rooms;
+        boxes = did_it.stands.boxes;
         armed = did_it.stands.armed;
         waiting = did_it.stands.waiting;
         drained = files (site_of d) (calls_in d w) ∙ did_it.stands.drained;
@@ -123,6 +124,7 @@ module _ (deed : Deed) (files : (site : Site) (table : Table) → (did site deed
         registered = did_it.stands.registered;
         calls = calls_are (calls_in d w) (table_is ∙ same);
         rooms = did_it.stands.rooms;
+        boxes = did_it.stands.boxes;
         armed = did_it.stands.armed;
         waiting = did_it.stands.waiting;
         drained = did_it.stands.drained;

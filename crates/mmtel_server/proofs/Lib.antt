@@ -9,6 +9,7 @@ mod Housing
 mod Lending
 mod Seating
 mod Courses
+mod Boxes
 mod Filing
 mod Charging
 mod Firing

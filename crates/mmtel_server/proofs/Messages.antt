@@ -68,6 +68,7 @@ goes_on d token before s t out w h did stands = record {
     registered = did.stands.registered;
     calls = did.stands.calls;
     rooms = did.stands.rooms;
+    boxes = did.stands.boxes;
     armed = did.stands.armed;
     waiting = did.stands.waiting;
     drained = did.stands.drained;

@@ -39,6 +39,7 @@ module _ (s : Server) (r : Held) where
       registered = registers w.registrations did.stands.registered;
       calls = did.stands.calls;
       rooms = did.stands.rooms;
+      boxes = did.stands.boxes;
       armed = did.stands.armed;
       waiting = did.stands.waiting;
       drained = did.stands.drained;
@@ -78,6 +79,7 @@ module _ (s : Server) (r : Held) where
           registered = registers w.registrations did.stands.registered;
           calls = did.stands.calls;
           rooms = did.stands.rooms;
+          boxes = did.stands.boxes;
           armed = did.stands.armed;
           waiting = did.stands.waiting;
           drained = did.stands.drained;

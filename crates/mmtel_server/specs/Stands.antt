@@ -3,6 +3,7 @@ use Rattle.std.specs.Prelude.{◌≡◌, ℕ, false, List, [], ◌∷◌, ◌++�
 use Rattle.mmtel_b2bua.specs.Histories.{CallsView}
 use Rattle.mmtel_directory.specs.declared.directories.Directory.{Directory}
 use Rattle.mmtel_focus.specs.Histories.{RoomsView}
+use Rattle.mmtel_mwi.specs.Boxes.{BoxesView}
 use Rattle.mmtel_outside.specs.declared.events.Offer.{Offer}
 use Rattle.mmtel_in_force.specs.Held.{IsRegisteredBy}
 use Rattle.mmtel_in_force.specs.Texts.{Texts}
@@ -10,7 +11,7 @@ use Rattle.mmtel_run.specs.Answers.{further_methods}
 use Rattle.mmtel_run.specs.Events.{Happened}
 use Rattle.mmtel_run.specs.Run.{IsEnough, gives, world_after}
 use Rattle.mmtel_run.specs.Short.{IsShortRun}
-use Rattle.mmtel_run.specs.World.{World, calls_in, rooms_in}
+use Rattle.mmtel_run.specs.World.{World, boxes_in, calls_in, rooms_in}
 use Rattle.mmtel_server_decisions.specs.Arming.{queue_of}
 use Rattle.mmtel_server.specs.declared.servers.Server.{Server}
 use Rattle.mmtel_transaction.specs.Stands as transactions
@@ -39,6 +40,10 @@ rooms_of directory world = record {
   has_failed = false;
 }
 
+-- and its mailboxes
+abbrev pub boxes_of : Directory → World → BoxesView
+boxes_of directory world = record { sip = directory.sip; table = boxes_in world }
+
 -- what a server keeps of what was done; one that has failed for want of memory stands for nothing
 pub record Stands (directory : Directory) (token : List ℕ) (server : Server) (world : World) : Type 0 where
   pub directory_same : server.directory ≡ directory
@@ -52,6 +57,8 @@ pub record Stands (directory : Directory) (token : List ℕ) (server : Server) (
   -- the calls and the rooms, as they stand after what was done on them
   pub calls : server.calls ≡ calls_of directory world
   pub rooms : server.rooms ≡ rooms_of directory world
+  -- what was said of mailboxes, and who subscribes to them
+  pub boxes : server.boxes ≡ boxes_of directory world
   -- their deadlines
   pub armed : queue_of server.armed ≡ world.armed
   -- the rows that wait: each was taken from the calls or the rooms as soon as it was closed

@@ -1,5 +1,6 @@
 //! The server.
 
+mod boxes;
 mod calls;
 mod deadlines;
 mod deeds;
@@ -16,6 +17,7 @@ use mmtel_charging::Row;
 use mmtel_directory::Directory;
 use mmtel_focus::Rooms;
 use mmtel_in_force::Records;
+use mmtel_mwi::Boxes;
 use mmtel_scan::List;
 use mmtel_server_decisions::Alarms;
 use mmtel_transaction::{Tokens, Transactions};
@@ -43,7 +45,9 @@ pub struct Server {
     calls: Calls,
     /// The conference rooms.
     rooms: Rooms,
-    /// The deadlines of calls and of seats that did not fire.
+    /// What was said of mailboxes, and who subscribes to them.
+    boxes: Boxes,
+    /// The deadlines of calls, of seats and of subscriptions that did not fire.
     armed: Alarms,
     /// The charging rows that wait for the keeper, in the order in which they were closed: each is taken from the calls or the rooms as soon as they have closed it.
     waiting: List<Row>,

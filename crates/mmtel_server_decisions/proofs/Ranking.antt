@@ -1,6 +1,6 @@
 -- The ranks of deadlines: there are five.
 use Rattle.std.proofs.Common.{◌≡◌, ◌⊎◌, inl, inr, refl}
-use Rattle.mmtel_run.specs.Deadlines.{Alarm, OfCall, OfSeat, rank}
+use Rattle.mmtel_run.specs.Deadlines.{Alarm, OfBox, OfCall, OfSeat, rank}
 use Rattle.mmtel_transaction.specs.declared.words.DueWord.TheVariants as due
 use Rattle.mmtel_transaction.specs.declared.words.RoomWord.TheVariants as of_seat
 
@@ -15,3 +15,4 @@ rank_is (OfCall call (due.NoAck success)) = inr (inr (inr (inl refl)))
 rank_is (OfCall call (due.Expired success)) = inr (inr (inr (inr refl)))
 rank_is (OfSeat room seat (of_seat.Cap invitation)) = inr (inr (inl refl))
 rank_is (OfSeat room seat (of_seat.NoAck success)) = inr (inr (inr (inl refl)))
+rank_is (OfBox sub set) = inl refl

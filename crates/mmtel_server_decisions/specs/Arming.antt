@@ -1,7 +1,7 @@
 -- The deadlines of calls and of seats of rooms, as the server keeps them.
 use Rattle.std.specs.Prelude.{◌≡◌, ◌==◌, ◌&&◌, ◌||◌, nat_lt, nat_le, Bool, ℕ, ⊤, List, map, Option, Some}
 use Rattle.std.specs.Option.{option_map}
-use Rattle.mmtel_run.specs.Deadlines.{Alarm, Armed, Chosen, Deadline, OfAlarm, OfCall, OfMessage, OfSeat, choose}
+use Rattle.mmtel_run.specs.Deadlines.{Alarm, Armed, Chosen, Deadline, OfAlarm, OfBox, OfCall, OfMessage, OfSeat, choose}
 use Rattle.mmtel_server_decisions.specs.declared.armed.Alarm as alarms
 use Rattle.mmtel_server_decisions.specs.declared.armed.Alarm.TheVariants as alarm
 use Rattle.mmtel_server_decisions.specs.declared.armed.Armed as declared
@@ -11,6 +11,7 @@ use Rattle.mmtel_server_decisions.specs.declared.deadlines.Deadline.TheVariants 
 abbrev pub alarm_in : alarms.Alarm → Alarm
 alarm_in (alarm.OfCall call what) = OfCall call what
 alarm_in (alarm.OfSeat room seat what) = OfSeat room seat what
+alarm_in (alarm.OfBox sub set) = OfBox sub set
 
 abbrev pub armed_in : declared.Armed → Armed
 armed_in armed = record { alarm = alarm_in armed.alarm; at = armed.at; step = armed.step }

@@ -1,10 +1,10 @@
-//! The deadlines of calls and of seats of rooms (RFC 3261 §13.3.1.4, TS 24.604 §4.8, RFC 3515 §2.4.5).
+//! The deadlines of calls, of seats of rooms and of subscriptions (RFC 3261 §13.3.1.4, TS 24.604 §4.8, RFC 3515 §2.4.5, RFC 6665 §4.2.2).
 ghost use Rattle.std.specs.Prelude.{◌≡◌};
 ghost use Rattle.mmtel_run.specs.Deadlines.{is_sooner, rank};
 ghost use Rattle.mmtel_server_decisions.specs.Arming.{alarm_in, armed_in};
 
 use mmtel_transaction::{DueWord, RoomWord};
-use mmtel_types::{CallNo, RoomNo};
+use mmtel_types::{CallNo, RoomNo, SubNo};
 
 /// What is due.
 #[derive(Clone, Copy)]
@@ -25,9 +25,16 @@ pub enum Alarm {
         /// What it is.
         what: RoomWord,
     },
+    /// That the time of a subscription to a mailbox is over.
+    OfBox {
+        /// The subscription.
+        sub: SubNo,
+        /// The number of the SUBSCRIBE, among its own from 1, that set it.
+        set: u64,
+    },
 }
 
-/// A deadline of a call or of a seat that did not fire.
+/// A deadline of a call, of a seat or of a subscription that did not fire.
 #[derive(Clone, Copy)]
 pub struct Armed {
     /// What is due.
@@ -71,5 +78,6 @@ pub(crate) fn rank(alarm: Alarm) -> u64
             RoomWord::Cap(_) => 2,
             RoomWord::NoAck(_) => 3,
         },
+        Alarm::OfBox { sub: _, set: _ } => 0,
     }
 }

@@ -1,10 +1,11 @@
 //! Whose a message is.
 ghost use Rattle.std.specs.Prelude.{◌≡◌};
 ghost use Rattle.std.specs.Option.{option_copied};
-ghost use Rattle.mmtel_run.specs.Rooms.{is_with, whose_branch, whose_key};
+ghost use Rattle.mmtel_run.specs.Rooms.{is_of_boxes, is_with, whose_branch, whose_key};
 ghost use Rattle.mmtel_server_decisions.specs.Belonging.{whose_in};
 
 use mmtel_b2bua::Calls;
+use mmtel_mwi::Boxes;
 use mmtel_transaction::TKey;
 use mmtel_types::{Account, Peer};
 
@@ -13,16 +14,36 @@ use mmtel_types::{Account, Peer};
 pub enum Whose {
     /// The calls'.
     Calls,
+    /// The mailboxes': it is a NOTIFY of a subscription.
+    Boxes,
     /// The conference rooms'.
     Rooms,
 }
 
-/// Whose the request is that was sent with this branch: the calls' where an INVITE of one has it, and else the rooms' (RFC 3261 §17.1.3).
-pub fn whose_branch(calls: &Calls, branch: Option<&[u8]>) -> Whose
-    ensures { whose_in result ≡ whose_branch (option_copied branch.entry) calls.now.table.entries }
+/// Whether a NOTIFY of a subscription with this branch waits for its answer.
+fn is_of_boxes(boxes: &Boxes, branch: Option<&[u8]>) -> bool
+    ensures { result ≡ is_of_boxes (option_copied branch.entry) boxes.now.table }
 {
-    if calls.has_sent(branch) {
+    match branch {
+        None => false,
+        Some(branch) => boxes.waits(branch),
+    }
+}
+
+/// Whose the request is that was sent with this branch: the calls' where an INVITE of one has it, by the branch of an INVITE; the mailboxes' where a NOTIFY of a subscription has
+/// it; and else the rooms' (RFC 3261 §17.1.3).
+pub fn whose_branch(
+    calls: &Calls,
+    boxes: &Boxes,
+    invite: Option<&[u8]>,
+    branch: Option<&[u8]>,
+) -> Whose
+    ensures { whose_in result ≡ whose_branch (option_copied invite.entry) (option_copied branch.entry) calls.now.table.entries boxes.now.table }
+{
+    if calls.has_sent(invite) {
         Whose::Calls
+    } else if is_of_boxes(boxes, branch) {
+        Whose::Boxes
     } else {
         Whose::Rooms
     }

@@ -10,7 +10,7 @@ use std::sync::ledger::Ledger;
 /// The moments of each rank, by the numbers of those that are armed.
 #[derive(Drop)]
 pub struct Ranks {
-    /// Rank 0: that there is no reply.
+    /// Rank 0: that there is no reply, and that the time of a subscription is over.
     pub no_replies: Deadlines,
     /// Rank 1: that a PRACK is missing.
     pub no_pracks: Deadlines,

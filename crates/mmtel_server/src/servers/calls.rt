@@ -7,8 +7,8 @@ ghost use Rattle.mmtel_directory.specs.declared.directories.Directory.{Directory
 ghost use Rattle.mmtel_intake.specs.Courses.{holder_in};
 ghost use Rattle.mmtel_intake.specs.Dialogs.{name_in};
 ghost use Rattle.mmtel_run.specs.Calls.{are_full, arrived, find_dialog};
-ghost use Rattle.mmtel_run.specs.Rooms.{find_seat, in_call_or, in_room};
-ghost use Rattle.mmtel_run.specs.World.{World, acknowledging, acknowledging_by, calls_in, cancelling, finishing, responding, rooms_in, signalled};
+ghost use Rattle.mmtel_run.specs.Rooms.{find_box, find_seat, in_box, in_call_or, in_room_or};
+ghost use Rattle.mmtel_run.specs.World.{World, acknowledging, acknowledging_by, boxes_in, calls_in, cancelling, finishing, responding, rooms_in, signalled};
 ghost use Rattle.mmtel_server.specs.Calling.{Names};
 ghost use Rattle.mmtel_server.specs.Follows.{Breaks, CallEnds, CallsHear, Follows};
 ghost use Rattle.mmtel_server.specs.Stands.{Stands};
@@ -16,9 +16,9 @@ ghost use Rattle.mmtel_server.specs.Stands.{Stands};
 use super::rows::take_rows_of_calls;
 use super::{Context, Server};
 use crate::laws::numbers_are_drawn_on;
-use mmtel_answers::Hearing;
+use mmtel_answers::{Hearing, status_of};
 use mmtel_b2bua::{CallFault, Signal};
-use mmtel_desk::invite_answered;
+use mmtel_desk::{branch_of, invite_answered};
 use mmtel_focus::RoomSignal;
 use mmtel_intake::{DialogName, Holder, arrived, dialog_name, plainly};
 use mmtel_outside::Offer;
@@ -27,7 +27,7 @@ use mmtel_scan::{List, NoMemory, Text};
 use mmtel_server_decisions::{Whose, whose_branch};
 use mmtel_timers::Steps;
 use mmtel_transaction::{Emits, TKey};
-use mmtel_types::CallNo;
+use mmtel_types::{CallNo, SubNo};
 use std::alloc::Global;
 use std::sync::ledger::Ledger;
 
@@ -38,6 +38,16 @@ fn bytes_of(text: &Option<Text>) -> Option<&[u8]>
     match text {
         None => None,
         Some(text) => Some(text.bytes()),
+    }
+}
+
+/// The subscription that has a dialog, as its holder.
+fn in_box(found: Option<SubNo>) -> Option<Holder>
+    ensures { option_map holder_in result ≡ in_box found }
+{
+    match found {
+        None => None,
+        Some(sub) => Some(Holder::InBox(sub)),
     }
 }
 
@@ -180,11 +190,11 @@ impl Server {
         done
     }
 
-    /// Who has the dialog of this name: a side of a call, or else a seat of a room.
+    /// Who has the dialog of this name: a side of a call, or else a seat of a room, or else a subscription.
     fn holder(&self, name: &DialogName) -> Option<Holder>
         ensures { (directory : Directory) (token : List ℕ) (world : World) → Stands directory token self.now world →
             option_map holder_in result ≡
-            in_call_or (in_room (find_seat (Some (name_in name.now)) (rooms_in directory world).live))
+            in_call_or (in_room_or (in_box (find_box (Some (name_in name.now)) (boxes_in world))) (find_seat (Some (name_in name.now)) (rooms_in directory world).live))
             (find_dialog (Some (name_in name.now)) (calls_in directory world).entries) }
     {
         let call_id = name.call_id.bytes();
@@ -194,7 +204,7 @@ impl Server {
             Some((call, side)) => Some(Holder::InCall { call, side }),
             None => match self.rooms.find(call_id, local, remote) {
                 Some((room, seat)) => Some(Holder::InRoom { room, seat }),
-                None => None,
+                None => in_box(self.boxes.find(call_id, local, remote)),
             },
         }
     }
@@ -235,6 +245,10 @@ impl Server {
             Holder::InRoom { room, seat } => {
                 self.seat_signal(context, RoomSignal::Ack { room, seat, ack }, out, steps)
             }
+            Holder::InBox(_) => {
+                drop(ack);
+                Ok(())
+            }
         }
     }
 
@@ -265,7 +279,8 @@ impl Server {
         }
     }
 
-    /// Does what is due of a response: it is of the calls where an INVITE of one has the branch that it answers, and else of the rooms (RFC 3261 §17.1.3).
+    /// Does what is due of a response: it is of the calls where an INVITE of one has the branch that it answers, of the mailboxes where a NOTIFY of a subscription has it, and else
+    /// of the rooms (RFC 3261 §17.1.3).
     pub(super) fn hear_answer<L: Ledger>(
         &mut self,
         context: &Context,
@@ -287,10 +302,20 @@ impl Server {
                 return Err(error);
             }
         };
-        let whose = whose_branch(&self.calls, bytes_of(&branch));
+        let whose = whose_branch(
+            &self.calls,
+            &self.boxes,
+            bytes_of(&branch),
+            branch_of(&response),
+        );
         drop(branch);
         match whose {
             Whose::Calls => self.signal(context, Signal::Answer { key, response }, out, steps),
+            Whose::Boxes => {
+                self.answer_box(branch_of(&response), status_of(response.message.start()));
+                drop(response);
+                Ok(())
+            }
             Whose::Rooms => {
                 self.seat_signal(context, RoomSignal::Answer { key, response }, out, steps)
             }

@@ -4,10 +4,10 @@ ghost use Rattle.std.specs.Option.{option_map};
 ghost use Rattle.mmtel_outside.specs.declared.events.Offer.{Offer};
 ghost use Rattle.mmtel_run.specs.Deadlines as deadlines;
 ghost use Rattle.mmtel_run.specs.Deadlines.{Chosen, first_armed, first_of};
-ghost use Rattle.mmtel_desk.specs.Invites.{invite_silent};
+ghost use Rattle.mmtel_desk.specs.Invites.{behind_cookie, invite_silent};
 ghost use Rattle.mmtel_run.specs.Rooms.{whose_branch, whose_key};
 ghost use Rattle.mmtel_run.specs.Run.{settled};
-ghost use Rattle.mmtel_run.specs.World.{alarmed, begun, calls_in, ended_of, fired, fired_in, rung, silenced, struck};
+ghost use Rattle.mmtel_run.specs.World.{alarmed, begun, boxes_in, calls_in, ended_of, fired, fired_in, rung, silenced, struck};
 ghost use Rattle.mmtel_server_decisions.specs.Arming.{IsChosen, alarm_in, kind_of, queue_of};
 ghost use Rattle.mmtel_server.specs.Follows.{Breaks, BreaksTo, Follows, FollowsTo, IsBy, IsSettledBy};
 ghost use Rattle.mmtel_transaction.specs.Answers.{next_due};
@@ -18,7 +18,7 @@ use super::deeds::offer_to;
 use super::{Context, Server};
 use crate::laws::numbers_are_drawn_on;
 use mmtel_b2bua::Signal;
-use mmtel_desk::invite_silent;
+use mmtel_desk::{behind_cookie, invite_silent};
 use mmtel_focus::RoomSignal;
 use mmtel_outside::Offer;
 use mmtel_scan::{List, NoMemory, Text};
@@ -45,7 +45,7 @@ impl Server {
         self.steps = self.steps.saturating_add(1);
     }
 
-    /// A request was given up: whoever sent it hears of it, the calls of an INVITE of theirs, and the rooms of all others.
+    /// A request was given up: whoever sent it hears of it, the calls of an INVITE of theirs, the mailboxes of a NOTIFY of a subscription, and the rooms of all others.
     fn silence<L: Ledger>(
         &mut self,
         context: &Context,
@@ -56,14 +56,25 @@ impl Server {
     ) -> Result<(), NoMemory>
         ensures done { OnOk result (Follows self.old out.old self.new out.new
             (λ d token world. silenced d token context.now.at branch method (whose_branch
-            (invite_silent branch method) (calls_in d world).entries) world)) }
+            (invite_silent branch method) (behind_cookie branch) (calls_in d world).entries (boxes_in world)) world)) }
         ensures err { OnErr result (Breaks self.old out.old out.new
             (λ d token world. silenced d token context.now.at branch method (whose_branch
-            (invite_silent branch method) (calls_in d world).entries) world)) }
+            (invite_silent branch method) (behind_cookie branch) (calls_in d world).entries (boxes_in world)) world)) }
     {
-        let whose = whose_branch(&self.calls, invite_silent(branch.bytes(), method.bytes()));
+        let whose = whose_branch(
+            &self.calls,
+            &self.boxes,
+            invite_silent(branch.bytes(), method.bytes()),
+            behind_cookie(branch.bytes()),
+        );
         match whose {
             Whose::Calls => self.signal(context, Signal::Silent { branch, method }, out, steps),
+            Whose::Boxes => {
+                self.answer_box(behind_cookie(branch.bytes()), 408);
+                drop(branch);
+                drop(method);
+                Ok(())
+            }
             Whose::Rooms => {
                 self.seat_signal(context, RoomSignal::Silent { branch, method }, out, steps)
             }
@@ -88,6 +99,7 @@ impl Server {
         let whose = whose_key(&self.calls, key);
         match whose {
             Whose::Calls => self.signal(context, Signal::Over { key }, out, steps),
+            Whose::Boxes => Ok(()),
             Whose::Rooms => self.seat_signal(context, RoomSignal::Over { key }, out, steps),
         }
     }
@@ -145,7 +157,7 @@ impl Server {
         self.ring(alloc, said, now, out, steps)
     }
 
-    /// A deadline of a call or of a seat comes.
+    /// A deadline of a call, of a seat or of a subscription comes.
     fn sound<L: Ledger>(
         &mut self,
         context: &Context,
@@ -168,6 +180,7 @@ impl Server {
             Alarm::OfSeat { room, seat, what } => {
                 self.seat_signal(context, RoomSignal::Due { room, seat, what }, out, steps)
             }
+            Alarm::OfBox { sub, set } => self.end_box(context, sub, set, out, steps),
         }
     }
 

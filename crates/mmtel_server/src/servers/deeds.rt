@@ -165,7 +165,7 @@ impl Server {
     }
 
     /// Arms a deadline, in this step.
-    fn arm<L: Ledger>(
+    pub(super) fn arm<L: Ledger>(
         &mut self,
         alarm: Alarm,
         at: u64,

@@ -32,7 +32,7 @@ use std::alloc::Global;
 use std::sync::ledger::Ledger;
 
 /// The moment so many seconds from now, or the last one that there is.
-fn until(now: Moment, seconds: u64) -> Moment
+pub(super) fn until(now: Moment, seconds: u64) -> Moment
     ensures { result ≡ until_of now seconds }
 {
     let until = now.ms().saturating_add(seconds.saturating_mul(1000));
@@ -219,6 +219,16 @@ impl Server {
             }
             Course::Register { account, seconds } => {
                 let done = self.register(context, key, &request, account, seconds, out, steps);
+                drop(request);
+                done
+            }
+            Course::Subscribe => {
+                let done = self.subscribe(context, key, &request, out, steps);
+                drop(request);
+                done
+            }
+            Course::EnterBox(sub) => {
+                let done = self.enter_box(context, key, &request, sub, out, steps);
                 drop(request);
                 done
             }

@@ -2,19 +2,26 @@
 ghost use Rattle.std.specs.Prelude.{◌≡◌, ◌<◌, ◌++◌, ◌∷◌, [], length, slice_set, IfOk, OnErr, OnOk};
 ghost use Rattle.mmtel_http.specs.Requests.{request_of};
 ghost use Rattle.mmtel_outside.specs.declared.events.Offer.TheVariants as offer;
-ghost use Rattle.mmtel_run.specs.World.{serving};
-ghost use Rattle.mmtel_server.specs.Follows.{Follows};
+ghost use Rattle.mmtel_run.specs.World.{served, serving};
+ghost use Rattle.mmtel_server.specs.Follows.{Breaks, Follows};
+ghost use Rattle.mmtel_server.specs.Seen.{keeper_seen};
+ghost use Rattle.mmtel_server.specs.Stepped.{StoppedAt};
+ghost use Rattle.mmtel_web.specs.Uploads.{put_in};
 ghost use Rattle.mmtel_serving.specs.Calls.{Answers, Counted, Met, call_in};
 ghost use Rattle.mmtel_serving.specs.Outcomes.{kept_in};
 
-use super::Server;
+use super::{Context, Server};
+use crate::laws::numbers_are_drawn_on;
 use mmtel_charging::Row;
 use mmtel_keeper::Keeper;
+use mmtel_mwi::Counts;
 use mmtel_outside::Offer;
 use mmtel_scan::{List, NoMemory, Text};
 use mmtel_serving::{Outcome, Served, serve};
-use mmtel_types::Moment;
+use mmtel_timers::Steps;
+use mmtel_types::{Account, Moment};
 use std::alloc::Global;
+use std::sync::ledger::Ledger;
 
 /// What the keeper answered to an event.
 #[derive(Drop)]
@@ -60,19 +67,21 @@ impl Server {
     /// # Errors
     ///
     /// Want of memory alone: no reply was then offered, and the keeper was not called, since room for the reply is made first.
-    pub(super) fn serve<K: Keeper>(
+    fn answer_web<K: Keeper>(
         &mut self,
         alloc: Global,
         bytes: &[u8],
         at: Moment,
         keeper: &mut K,
         out: &mut List<Offer>,
-    ) -> Result<Answered, NoMemory>
-        ensures done { IfOk result (λ a. Follows self.old out.old self.new out.new (λ d token. serving d at (request_of bytes.now) (kept_in a.kept) a.rows)) }
+    ) -> Result<(Answered, Option<(Account, Counts)>), NoMemory>
+        ensures done { IfOk result (λ a. Follows self.old out.old self.new out.new (λ d token. serving d at (request_of bytes.now) (kept_in a.0.kept) a.0.rows)) }
+        ensures put { IfOk result (λ a. a.1 ≡ put_in self.old.directory.names (request_of bytes.now) (kept_in a.0.kept)) }
         ensures asked { IfOk result (λ a.
-            Answers (call_in self.old.directory.names (request_of bytes.now)) (kept_in a.kept) a.rows (K.held keeper.old) (K.held keeper.new) (K.calls keeper.old)
+            Answers (call_in self.old.directory.names (request_of bytes.now)) (kept_in a.0.kept) a.0.rows (K.held keeper.old) (K.held keeper.new) (K.calls keeper.old)
             (K.calls keeper.new)) }
-        ensures counted { IfOk result (λ a. Counted (kept_in a.kept) (K.faults keeper.old) (K.faults keeper.new)) }
+        ensures counted { IfOk result (λ a. Counted (kept_in a.0.kept) (K.faults keeper.old) (K.faults keeper.new)) }
+        ensures directory { self.new.directory ≡ self.old.directory }
         ensures err { OnErr result (out.new ≡ out.old) }
         ensures uncalled { OnErr result (keeper.new ≡ keeper.old) }
         ensures met { OnErr result (Met (call_in self.old.directory.names (request_of bytes.now)) (K.held keeper.old) (K.held keeper.new) (K.calls keeper.old)
@@ -87,13 +96,55 @@ impl Server {
             keeper,
             bytes,
         ) {
-            Ok(Served { reply, kept, rows }) => {
+            Ok(
+                Served {
+                    reply,
+                    kept,
+                    rows,
+                    put,
+                },
+            ) => {
                 put_reply(place, at.ms(), reply, out);
-                Ok(Answered { kept, rows })
+                Ok((Answered { kept, rows }, put))
             }
             Err(NoMemory) => {
                 drop(out.pop());
                 Err(NoMemory)
+            }
+        }
+    }
+
+    /// Does what the bytes of a web connection ask, replies, and tells whoever subscribes to a mailbox of which they say how many messages wait (RFC 3842 §3).
+    ///
+    /// # Errors
+    ///
+    /// Want of memory alone: before anything was done, no reply was offered and the keeper was not called; or in telling, behind the reply, and a front of the NOTIFYs is
+    /// then offered.
+    pub(super) fn serve<K: Keeper, L: Ledger>(
+        &mut self,
+        alloc: Global,
+        bytes: &[u8],
+        at: Moment,
+        keeper: &mut K,
+        out: &mut List<Offer>,
+        steps: &mut Steps<L>,
+    ) -> Result<Answered, NoMemory>
+        ensures done { IfOk result (λ a. Follows self.old out.old self.new out.new (λ d token. served d token at (request_of bytes.now) (kept_in a.kept) a.rows)) }
+        ensures asked { IfOk result (λ a.
+            Answers (call_in self.old.directory.names (request_of bytes.now)) (kept_in a.kept) a.rows (K.held keeper.old) (K.held keeper.new) (K.calls keeper.old)
+            (K.calls keeper.new)) }
+        ensures counted { IfOk result (λ a. Counted (kept_in a.kept) (K.faults keeper.old) (K.faults keeper.new)) }
+        ensures met { OnErr result (StoppedAt (λ kept rows. Breaks self.old out.old out.new (λ d token. served d token at (request_of bytes.now) kept rows))
+            (λ kept rows between. Answers (call_in self.old.directory.names (request_of bytes.now)) kept rows (K.held keeper.old) between.held (K.calls keeper.old) between.calls)
+            (keeper_seen K.Keeper keeper.old) (keeper_seen K.Keeper keeper.new)) }
+    {
+        numbers_are_drawn_on();
+        let (answered, put) = self.answer_web(alloc, bytes, at, keeper, out)?;
+        match self.put_counts(&Context { alloc, at }, put, out, steps) {
+            Ok(()) => Ok(answered),
+            Err(error) => {
+                drop(answered);
+                Err(error)
             }
         }
     }

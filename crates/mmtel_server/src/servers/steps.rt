@@ -15,9 +15,8 @@ ghost use Rattle.mmtel_server_decisions.specs.Handed.{Handed, HandedCounted, Sto
 ghost use Rattle.mmtel_server.specs.Seen.{keeper_seen, step_state};
 ghost use Rattle.mmtel_server.specs.Stands.{Serves, Went};
 ghost use Rattle.mmtel_server.specs.Stepped.{AskedAfter, Came, KeeperWent, Stepped, Stopped, StoppedAt, call_of, happened_in};
-ghost use Rattle.mmtel_serving.specs.Calls.{Answers, Counted, Met};
+ghost use Rattle.mmtel_serving.specs.Calls.{Answers, Counted};
 ghost use Rattle.mmtel_serving.specs.Outcomes.{kept_in};
-ghost use Rattle.mmtel_web.specs.Answers.{Kept};
 
 use super::Server;
 use super::requests::{Answered, unasked};
@@ -29,6 +28,7 @@ use mmtel_focus::Rooms;
 use mmtel_in_force::Records;
 use mmtel_intake::{digest, further_methods, moment};
 use mmtel_keeper::Keeper;
+use mmtel_mwi::Boxes;
 use mmtel_outside::{Event, Offer};
 use mmtel_run::{enough_comes, rows_are_filed};
 use mmtel_run_laws::offers_are_added;
@@ -152,12 +152,14 @@ impl Server {
                 return Err(error);
             }
         };
+        let boxes = Boxes::new(alloc, directory.sip);
         Ok(Server {
             directory,
             tokens: Tokens::new(token),
             transactions: Transactions::new(),
             calls,
             rooms,
+            boxes,
             armed: Alarms::new(alloc),
             waiting: List::new(),
             records,
@@ -230,6 +232,7 @@ impl Server {
             transactions,
             calls,
             rooms,
+            boxes,
             armed,
             waiting,
             records,
@@ -245,6 +248,7 @@ impl Server {
         drop(records);
         calls.give_up();
         rooms.give_up();
+        boxes.give_up();
     }
 
     /// Meets a datagram.
@@ -279,13 +283,14 @@ impl Server {
     ) -> Result<Answered, NoMemory>
         ensures done { IfOk result (λ a. Follows self.old out.old self.new out.new
             (λ d token. met d token at (digest_event d event.now (kept_in a.kept) a.rows))) }
-        ensures err { OnErr result ((kept : Kept) (rows : List Row) →
-            Breaks self.old out.old out.new (λ d token. met d token at (digest_event d event.now kept rows))) }
         ensures asked { IfOk result (λ a. Answers (call_of self.old.directory.names event.now) (kept_in a.kept) a.rows
             (K.held keeper.old) (K.held keeper.new) (K.calls keeper.old) (K.calls keeper.new)) }
         ensures counted { IfOk result (λ a. Counted (kept_in a.kept) (K.faults keeper.old) (K.faults keeper.new)) }
-        ensures met { OnErr result (Met (call_of self.old.directory.names event.now) (K.held keeper.old) (K.held keeper.new)
-            (K.calls keeper.old) (K.calls keeper.new) (K.faults keeper.old) (K.faults keeper.new)) }
+        ensures met { OnErr result (StoppedAt
+            (λ kept rows. Breaks self.old out.old out.new (λ d token. met d token at (digest_event d event.now kept rows)))
+            (λ kept rows between. Answers (call_of self.old.directory.names event.now) kept rows
+            (K.held keeper.old) between.held (K.calls keeper.old) between.calls)
+            (keeper_seen K.Keeper keeper.old) (keeper_seen K.Keeper keeper.new)) }
     {
         numbers_are_drawn_on();
         match event {
@@ -293,7 +298,7 @@ impl Server {
                 self.meet_datagram(alloc, at, *from, bytes.bytes(), out, steps)?;
                 Ok(unasked())
             }
-            Event::Web { bytes, .. } => self.serve(alloc, bytes.bytes(), at, keeper, out),
+            Event::Web { bytes, .. } => self.serve(alloc, bytes.bytes(), at, keeper, out, steps),
             Event::Quiet { .. } => Ok(unasked()),
         }
     }

@@ -34,8 +34,8 @@ struct Visitor<'a> {
     tag: &'a Text,
 }
 
-/// Draws the tag of an answer to an INVITE that comes to a room.
-fn next_tag(alloc: Global, tokens: &mut Tokens) -> Result<Text, NoMemory>
+/// Draws a tag or a branch.
+pub(super) fn next_tag(alloc: Global, tokens: &mut Tokens) -> Result<Text, NoMemory>
     ensures tag { tokens.old.drawn < 2 ^ 60 →
         IfOk result (λ tag. tag ≡ token_text tokens.old.token (tokens.old.drawn + 1)) }
     ensures drawn { tokens.old.drawn < 2 ^ 60 →
@@ -44,8 +44,12 @@ fn next_tag(alloc: Global, tokens: &mut Tokens) -> Result<Text, NoMemory>
     tokens.draw(alloc)
 }
 
-/// The leg of whoever sent an INVITE, where the server answers with this tag.
-fn leg_by(alloc: Global, invite: &Hearing, tag: Text) -> Result<CallerLeg<Standing>, NoMemory>
+/// The leg of whoever sent an INVITE or a SUBSCRIBE, where the server answers with this tag.
+pub(super) fn leg_by(
+    alloc: Global,
+    invite: &Hearing,
+    tag: Text,
+) -> Result<CallerLeg<Standing>, NoMemory>
     ensures { IfOk result (λ leg. leg ≡ leg_by tag invite.now) }
 {
     match CallerLeg::open(alloc, invite.peer, &invite.message, tag, None) {

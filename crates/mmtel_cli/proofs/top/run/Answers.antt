@@ -11,6 +11,9 @@ returns-clause-ran g c =
 pub returns-clause-sessions : goal.returns-clause-sessions
 returns-clause-sessions g c = c.short_sessions_are_refused.ensures.law
 
+pub returns-clause-mailboxes : goal.returns-clause-mailboxes
+returns-clause-mailboxes g c = c.mailboxes_are_told_to_their_subscribers.ensures.law
+
 pub returns-clause-calls : goal.returns-clause-calls
 returns-clause-calls g c = calls_told _ _ _ _ _ _ _ c.prepare-due.ensures.prepares c.write_report-status.ensures.ends
 

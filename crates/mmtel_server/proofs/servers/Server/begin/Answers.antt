@@ -16,6 +16,7 @@ returns c = record {
       registered = did.stands.registered;
       calls = did.stands.calls;
       rooms = did.stands.rooms;
+      boxes = did.stands.boxes;
       armed = did.stands.armed;
       waiting = did.stands.waiting;
       drained = did.stands.drained;

@@ -1,4 +1,4 @@
-use Rattle.std.proofs.Common.{◌++◌, ◌∙◌, List, ap, inl, refl, subst}
+use Rattle.std.proofs.Common.{◌++◌, ◌∙◌, List, ap, subst}
 use Rattle.mmtel_charging.specs.declared.rows.Row.{Row}
 use Rattle.mmtel_directory.specs.declared.directories.Directory.{Directory}
 use Rattle.mmtel_run.specs.Events.{digest_event}
@@ -55,12 +55,12 @@ returns-in_err-answered-clause-met g c =
       kept = m.kept;
       rows = m.rows;
       broke = λ took. broke_meeting c.numbers_are_drawn_on.ensures c.args.self.now c.begin.new.self c.args.out.now c.args.at (c.begin.ensures.done c.args.out.now)
-          (λ d. digest_event d c.args.event.now m.kept m.rows) took c.meet_event.new.out (c.in_err-answered.ensures.err m.kept m.rows);
-      between = keeper_seen g.K.Keeper c.meet_event.new.keeper;
-      asked = subst (λ (x : Directory). Answers (call_of x.names c.args.event.now) m.kept m.rows (g.K.Keeper.held c.args.keeper.now) (g.K.Keeper.held c.meet_event.new.keeper)
-          (g.K.Keeper.calls c.args.keeper.now) (g.K.Keeper.calls c.meet_event.new.keeper)) c.begin.ensures.directory m.answers;
+          (λ d. digest_event d c.args.event.now m.kept m.rows) took c.meet_event.new.out m.broke;
+      between = m.between;
+      asked = subst (λ (x : Directory). Answers (call_of x.names c.args.event.now) m.kept m.rows (g.K.Keeper.held c.args.keeper.now) m.between.held
+          (g.K.Keeper.calls c.args.keeper.now) m.between.calls) c.begin.ensures.directory m.asked;
       counted = m.counted;
-      handed = (refl, (inl refl, refl));
+      handed = m.handed;
     })
 
 pub returns-in_err-took-clause-met : goal.returns-in_err-took-clause-met

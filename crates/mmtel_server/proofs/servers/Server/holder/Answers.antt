@@ -1,29 +1,43 @@
 use Rattle.std.proofs.Common.{Option, Some, ℕ, ap, sym, ◌∙◌}
 use Rattle.mmtel_intake.specs.Dialogs.{name_in}
-use Rattle.mmtel_run.specs.Rooms.{find_seat, in_call_or, in_room}
-use Rattle.mmtel_run.specs.World.{rooms_in}
+use Rattle.mmtel_run.specs.Rooms.{Holder, find_box, find_seat, in_box, in_call_or, in_room_or}
+use Rattle.mmtel_run.specs.World.{World, boxes_in, rooms_in}
+use Rattle.mmtel_directory.specs.declared.directories.Directory.{Directory}
+use Rattle.mmtel_intake.specs.declared.dialogs.DialogName.{DialogName}
 use Rattle.mmtel_types.specs.declared.numbers.RoomNo.{RoomNo}
-use Rattle.mmtel_server.proofs.Asked.{found_call, found_seat}
+use Rattle.mmtel_server.proofs.Asked.{found_box, found_call, found_seat}
 use Rattle.mmtel_server.proofs.servers.Server.holder.Goals as goal
+
+-- who has it where no call has
+abbrev of_boxes : DialogName → World → Option Holder
+of_boxes name w = in_box (find_box (Some (name_in name)) (boxes_in w))
+
+abbrev elsewhere : DialogName → Directory → World → Option Holder
+elsewhere name d w = in_room_or (of_boxes name w) (find_seat (Some (name_in name)) (rooms_in d w).live)
 
 pub returns-in-Some : goal.returns-in-Some
 returns-in-Some c d token w have =
     let name = c.args.name.now in
-    let call = found_call c.args.self.now name c.bytes-call_id.result.now c.bytes-local.result.now c.bytes-remote.result.now c.find.result c.bytes-call_id.ensures c.bytes-local.ensures c.bytes-remote.ensures c.find.ensures d token w have in
-    ap (in_call_or (in_room (find_seat (Some (name_in name)) (rooms_in d w).live))) (sym c.in-Some.is ∙ call)
+    let call = found_call c.args.self.now name c.bytes-call_id.result.now c.bytes-local.result.now c.bytes-remote.result.now c.find.result c.bytes-call_id.ensures c.bytes-local.ensures
+    c.bytes-remote.ensures c.find.ensures d token w have in
+    ap (in_call_or (elsewhere name d w)) (sym c.in-Some.is ∙ call)
 
 pub returns-in-Some-find : goal.returns-in-Some-find
 returns-in-Some-find c d token w have =
     let name = c.args.name.now in
-    let call = found_call c.args.self.now name c.bytes-call_id.result.now c.bytes-local.result.now c.bytes-remote.result.now c.find.result c.bytes-call_id.ensures c.bytes-local.ensures c.bytes-remote.ensures c.find.ensures d token w have in
-    let seat = found_seat c.args.self.now name c.bytes-call_id.result.now c.bytes-local.result.now c.bytes-remote.result.now c.find-in-None.result c.bytes-call_id.ensures c.bytes-local.ensures c.bytes-remote.ensures c.find-in-None.ensures d token w have in
-    ap (λ (o : Option (RoomNo × ℕ)). in_room o) (sym c.in-Some-find.is ∙ seat)
-    ∙ ap (in_call_or (in_room (find_seat (Some (name_in name)) (rooms_in d w).live))) (sym c.in-None.is ∙ call)
+    let call = found_call c.args.self.now name c.bytes-call_id.result.now c.bytes-local.result.now c.bytes-remote.result.now c.find.result c.bytes-call_id.ensures c.bytes-local.ensures
+    c.bytes-remote.ensures c.find.ensures d token w have in
+    let seat = found_seat c.args.self.now name c.bytes-call_id.result.now c.bytes-local.result.now c.bytes-remote.result.now c.find-in-None.result c.bytes-call_id.ensures c.bytes-local.ensures
+    c.bytes-remote.ensures c.find-in-None.ensures d token w have in
+    ap (λ (o : Option (RoomNo × ℕ)). in_room_or (of_boxes name w) o) (sym c.in-Some-find.is ∙ seat) ∙ ap (in_call_or (elsewhere name d w)) (sym c.in-None.is ∙ call)
 
 pub returns-in-None-find : goal.returns-in-None-find
 returns-in-None-find c d token w have =
     let name = c.args.name.now in
-    let call = found_call c.args.self.now name c.bytes-call_id.result.now c.bytes-local.result.now c.bytes-remote.result.now c.find.result c.bytes-call_id.ensures c.bytes-local.ensures c.bytes-remote.ensures c.find.ensures d token w have in
-    let seat = found_seat c.args.self.now name c.bytes-call_id.result.now c.bytes-local.result.now c.bytes-remote.result.now c.find-in-None.result c.bytes-call_id.ensures c.bytes-local.ensures c.bytes-remote.ensures c.find-in-None.ensures d token w have in
-    ap (λ (o : Option (RoomNo × ℕ)). in_room o) (sym c.in-None-find.is ∙ seat)
-    ∙ ap (in_call_or (in_room (find_seat (Some (name_in name)) (rooms_in d w).live))) (sym c.in-None.is ∙ call)
+    let call = found_call c.args.self.now name c.bytes-call_id.result.now c.bytes-local.result.now c.bytes-remote.result.now c.find.result c.bytes-call_id.ensures c.bytes-local.ensures
+    c.bytes-remote.ensures c.find.ensures d token w have in
+    let seat = found_seat c.args.self.now name c.bytes-call_id.result.now c.bytes-local.result.now c.bytes-remote.result.now c.find-in-None.result c.bytes-call_id.ensures c.bytes-local.ensures
+    c.bytes-remote.ensures c.find-in-None.ensures d token w have in
+    let box = found_box c.args.self.now name c.bytes-call_id.result.now c.bytes-local.result.now c.bytes-remote.result.now c.find-in-None-find.result c.bytes-call_id.ensures c.bytes-local.ensures
+    c.bytes-remote.ensures c.find-in-None-find.ensures.found d token w have in
+    c.in_box.ensures ∙ (ap in_box box ∙ (ap (λ (o : Option (RoomNo × ℕ)). in_room_or (of_boxes name w) o) (sym c.in-None-find.is ∙ seat) ∙ ap (in_call_or (elsewhere name d w)) (sym c.in-None.is ∙ call)))

@@ -17,6 +17,7 @@ returns-clause-begins c before = record {
       registered = c.in-Ok.ensures.registered;
       calls = c.in-Ok-none_yet.ensures.calls;
       rooms = c.in-Ok-none_yet.ensures.rooms;
+      boxes = c.new-boxes.ensures.nothing;
       waiting = c.new-4.ensures;
       drained = refl;
       cleared = refl;

@@ -1,9 +1,9 @@
 use Rattle.std.proofs.Common.{[], ◌∷◌, ℕ, sym, subst}
 use Rattle.std.proofs.lemmas.Result.{on_err_weaker, on_ok_weaker}
-use Rattle.mmtel_desk.specs.Invites.{invite_silent}
+use Rattle.mmtel_desk.specs.Invites.{behind_cookie, invite_silent}
 use Rattle.mmtel_outside.specs.declared.events.Offer.TheVariants as offer
 use Rattle.mmtel_run.specs.Rooms.{whose_branch, whose_key}
-use Rattle.mmtel_run.specs.World.{calls_in, ended_of, rung, silenced}
+use Rattle.mmtel_run.specs.World.{boxes_in, calls_in, ended_of, rung, silenced}
 use Rattle.mmtel_transaction.specs.declared.words.Due.{Due}
 use Rattle.mmtel_server.proofs.Firing.{offers}
 use Rattle.mmtel_server.proofs.Grows.{stops}
@@ -23,13 +23,15 @@ returns-in-Again-clause-err g c = on_err_weaker c.offer_to.result (λ is by.
 pub returns-in-Silent-clause-done : goal.returns-in-Silent-clause-done
 returns-in-Silent-clause-done g c = on_ok_weaker c.silence.result (λ holds by.
     subst (λ (x : Due). Follows c.args.self.now c.args.out.now c.silence.new.self c.silence.new.out (λ d token. rung d token x)) (sym c.in-Silent.is)
-    (subst (λ (n : ℕ). Follows c.args.self.now c.args.out.now c.silence.new.self c.silence.new.out (λ d token w. silenced d token n c.in-Silent.branch c.in-Silent.method (whose_branch (invite_silent c.in-Silent.branch c.in-Silent.method) (calls_in d w).entries) w))
+    (subst (λ (n : ℕ). Follows c.args.self.now c.args.out.now c.silence.new.self c.silence.new.out (λ d token w. silenced d token n c.in-Silent.branch c.in-Silent.method (whose_branch (invite_silent
+    c.in-Silent.branch c.in-Silent.method) (behind_cookie c.in-Silent.branch) (calls_in d w).entries (boxes_in w)) w))
     (c.moment_by-at.ensures (subst (IsBy c.args.now) c.in-Silent.is by)) holds)) c.silence.ensures.done
 
 pub returns-in-Silent-clause-err : goal.returns-in-Silent-clause-err
 returns-in-Silent-clause-err g c = on_err_weaker c.silence.result (λ holds by.
     subst (λ (x : Due). Breaks c.args.self.now c.args.out.now c.silence.new.out (λ d token. rung d token x)) (sym c.in-Silent.is)
-    (subst (λ (n : ℕ). Breaks c.args.self.now c.args.out.now c.silence.new.out (λ d token w. silenced d token n c.in-Silent.branch c.in-Silent.method (whose_branch (invite_silent c.in-Silent.branch c.in-Silent.method) (calls_in d w).entries) w))
+    (subst (λ (n : ℕ). Breaks c.args.self.now c.args.out.now c.silence.new.out (λ d token w. silenced d token n c.in-Silent.branch c.in-Silent.method (whose_branch (invite_silent c.in-Silent.branch
+    c.in-Silent.method) (behind_cookie c.in-Silent.branch) (calls_in d w).entries (boxes_in w)) w))
     (c.moment_by-at.ensures (subst (IsBy c.args.now) c.in-Silent.is by)) holds)) c.silence.ensures.err
 
 pub returns-in-Over-clause-done : goal.returns-in-Over-clause-done

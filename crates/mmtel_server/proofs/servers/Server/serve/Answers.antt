@@ -1,35 +1,42 @@
-use Rattle.std.proofs.Common.{rules, ◌≡◌, ◌++◌, [], ◌∷◌, ap, append_assoc, length}
+use Rattle.std.proofs.Common.{inl, refl}
 use Rattle.mmtel_http.specs.Requests.{request_of}
-use Rattle.mmtel_outside.specs.declared.events.Offer.TheVariants as offer
-use Rattle.mmtel_serving.specs.Calls.{call_in}
-use Rattle.mmtel_server.proofs.Keeping.{met_unasked}
-use Rattle.mmtel_server.proofs.Replaced.{put_behind}
+use Rattle.mmtel_run.specs.World.{served}
+use Rattle.mmtel_serving.specs.Outcomes.{kept_in}
+use Rattle.mmtel_server.proofs.Boxes.{serves_breaks, serves_follows}
+use Rattle.mmtel_server.proofs.Grows.{on_err, serves_whole, stops}
 use Rattle.mmtel_server.proofs.servers.Server.serve.Goals as goal
+use Rattle.mmtel_server.specs.Seen.{keeper_seen}
 
-pub returns-in_err-make_room-clause-met : goal.returns-in_err-make_room-clause-met
-returns-in_err-make_room-clause-met g c =
-    met_unasked c.from_residual.result (call_in c.args.self.now.directory.names (request_of c.args.bytes.now)) (g.K.Keeper.held c.args.keeper.now) (g.K.Keeper.calls c.args.keeper.now) (g.K.Keeper.faults c.args.keeper.now)
+pub returns-in_err-answered-clause-met : goal.returns-in_err-answered-clause-met
+returns-in_err-answered-clause-met g c =
+    let m = c.in_err-answered.ensures.met in
+    on_err c.from_residual.result _ (record {
+      kept = m.kept;
+      rows = m.rows;
+      broke = stops (λ d token. served d token c.args.at (request_of c.args.bytes.now) m.kept m.rows) c.args.self.now c.args.out.now c.answer_web.new.out
+          (λ d token w. serves_whole c.numbers_are_drawn_on.ensures d token c.args.at (request_of c.args.bytes.now) m.kept m.rows w) c.in_err-answered.ensures.err;
+      between = keeper_seen g.K.Keeper c.answer_web.new.keeper;
+      asked = m.answers;
+      counted = m.counted;
+      handed = (refl, (inl refl, refl));
+    })
 
 pub returns-in-Ok-clause-done : goal.returns-in-Ok-clause-done
 returns-in-Ok-clause-done g c =
-    let added : c.put_reply.new.out ≡ c.args.out.now ++ offer.Web c.ms-in-Ok.result c.in-Ok.field-0.reply ∷ [] =
-    put_behind c.args.out.now c.make_room.new.out c.put_reply.new.out (offer.Web c.ms.result []) (offer.Web c.ms-in-Ok.result c.in-Ok.field-0.reply) (length c.items-place.result.now) c.in_ok-make_room.ensures.done (ap length c.items-place.ensures) c.put_reply.ensures
-    in λ directory token before world did short. record {
-      stands = record {
-        directory_same = did.stands.directory_same;
-        tokens = did.stands.tokens;
-        transactions = did.stands.transactions;
-        clock = did.stands.clock;
-        steps = did.stands.steps;
-        texts = search (rules, did.stands.directory_same, did.stands.texts);
-        registered = c.in-Ok.ensures.registered world.registrations did.stands.registered;
-        calls = did.stands.calls;
-        rooms = did.stands.rooms;
-        armed = did.stands.armed;
-        waiting = did.stands.waiting;
-        drained = did.stands.drained;
-        cleared = did.stands.cleared;
-        whole = did.stands.whole;
-      };
-      offered = search (rules, added, did.offered, did.stands.directory_same, did.stands.texts, append_assoc before world.offers);
+    serves_follows c.numbers_are_drawn_on.ensures c.args.self.now c.answer_web.new.self c.args.out.now c.answer_web.new.out c.args.at (request_of c.args.bytes.now) (kept_in
+    c.in_ok-answered.answered.kept) c.in_ok-answered.answered.rows c.in_ok-answered.put
+    c.in_ok-answered.ensures.done c.in_ok-answered.ensures.put c.put_counts.new.self c.put_counts.new.out c.in-Ok.ensures.done
+
+pub returns-in-Err-clause-met : goal.returns-in-Err-clause-met
+returns-in-Err-clause-met g c =
+    record {
+      kept = kept_in c.in_ok-answered.answered.kept;
+      rows = c.in_ok-answered.answered.rows;
+      broke = serves_breaks c.numbers_are_drawn_on.ensures c.args.self.now c.answer_web.new.self c.args.out.now c.answer_web.new.out c.args.at (request_of c.args.bytes.now) (kept_in
+          c.in_ok-answered.answered.kept) c.in_ok-answered.answered.rows c.in_ok-answered.put
+          c.in_ok-answered.ensures.done c.in_ok-answered.ensures.put c.put_counts.new.out c.in-Err.ensures.err;
+      between = keeper_seen g.K.Keeper c.answer_web.new.keeper;
+      asked = c.in_ok-answered.ensures.asked;
+      counted = c.in_ok-answered.ensures.counted;
+      handed = (refl, (inl refl, refl));
     }

@@ -17,3 +17,9 @@ returns-in-OfSeat-clause-done g c = subst (λ (x : Alarm). OnOk c.seat_signal.re
 
 pub returns-in-OfSeat-clause-err : goal.returns-in-OfSeat-clause-err
 returns-in-OfSeat-clause-err g c = subst (λ (x : Alarm). OnErr c.seat_signal.result (Breaks c.args.self.now c.args.out.now c.seat_signal.new.out (λ d token. alarmed d token c.args.context.now.at (alarm_in x)))) (sym c.in-OfSeat.is) c.seat_signal.ensures.err
+
+pub returns-in-OfBox-clause-done : goal.returns-in-OfBox-clause-done
+returns-in-OfBox-clause-done g c = subst (λ (x : Alarm). OnOk c.end_box.result (Follows c.args.self.now c.args.out.now c.end_box.new.self c.end_box.new.out (λ d token. alarmed d token c.args.context.now.at (alarm_in x)))) (sym c.in-OfBox.is) c.end_box.ensures.done
+
+pub returns-in-OfBox-clause-err : goal.returns-in-OfBox-clause-err
+returns-in-OfBox-clause-err g c = subst (λ (x : Alarm). OnErr c.end_box.result (Breaks c.args.self.now c.args.out.now c.end_box.new.out (λ d token. alarmed d token c.args.context.now.at (alarm_in x)))) (sym c.in-OfBox.is) c.end_box.ensures.err

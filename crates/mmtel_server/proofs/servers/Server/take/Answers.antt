@@ -81,3 +81,23 @@ returns-in-JoinRoom-clause-done g c = subst (λ (x : Course). OnOk c.join_room-d
 pub returns-in-JoinRoom-clause-err : goal.returns-in-JoinRoom-clause-err
 returns-in-JoinRoom-clause-err g c = subst (λ (x : Course). OnErr c.join_room-done.result
     (Breaks c.args.self.now c.args.out.now c.join_room-done.new.out (λ d token. taking d token c.args.context.now.at c.args.key c.args.request (course_in x)))) (sym c.in-JoinRoom.is) c.join_room-done.ensures.err
+
+pub returns-in-Subscribe-clause-done : goal.returns-in-Subscribe-clause-done
+returns-in-Subscribe-clause-done g c = subst (λ (x : Course). OnOk c.subscribe-done.result
+    (Follows c.args.self.now c.args.out.now c.subscribe-done.new.self c.subscribe-done.new.out (λ d token. taking d token c.args.context.now.at c.args.key c.args.request (course_in x))))
+    (sym c.in-Subscribe.is) c.subscribe-done.ensures.done
+
+pub returns-in-Subscribe-clause-err : goal.returns-in-Subscribe-clause-err
+returns-in-Subscribe-clause-err g c = subst (λ (x : Course). OnErr c.subscribe-done.result
+    (Breaks c.args.self.now c.args.out.now c.subscribe-done.new.out (λ d token. taking d token c.args.context.now.at c.args.key c.args.request (course_in x))))
+    (sym c.in-Subscribe.is) c.subscribe-done.ensures.err
+
+pub returns-in-EnterBox-clause-done : goal.returns-in-EnterBox-clause-done
+returns-in-EnterBox-clause-done g c = subst (λ (x : Course). OnOk c.enter_box-done.result
+    (Follows c.args.self.now c.args.out.now c.enter_box-done.new.self c.enter_box-done.new.out (λ d token. taking d token c.args.context.now.at c.args.key c.args.request (course_in x))))
+    (sym c.in-EnterBox.is) c.enter_box-done.ensures.done
+
+pub returns-in-EnterBox-clause-err : goal.returns-in-EnterBox-clause-err
+returns-in-EnterBox-clause-err g c = subst (λ (x : Course). OnErr c.enter_box-done.result
+    (Breaks c.args.self.now c.args.out.now c.enter_box-done.new.out (λ d token. taking d token c.args.context.now.at c.args.key c.args.request (course_in x))))
+    (sym c.in-EnterBox.is) c.enter_box-done.ensures.err

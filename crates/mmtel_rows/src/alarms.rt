@@ -59,6 +59,7 @@ fn word_of(alarm: Alarm) -> &'static [u8] {
             RoomWord::Cap(_) => b"longest time of a seat",
             RoomWord::NoAck(_) => b"no ACK of a seat",
         },
+        Alarm::OfBox { sub: _, set: _ } => b"time of a subscription",
     }
 }
 

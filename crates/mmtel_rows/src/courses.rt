@@ -6,11 +6,12 @@ use crate::requests::{add_request, add_request_to, add_request_with, directory, 
 use mmtel_directory::Directory;
 use mmtel_intake::{Answer, Course, Holder, Standing, course};
 use mmtel_told::cut;
-use mmtel_types::{CallNo, RoomNo, Side};
+use mmtel_types::{CallNo, RoomNo, Side, SubNo};
 use std::alloc::Global;
 
 /// A row is a request: `m` where it is merged, `f` where as many calls live as may and `u` where its peer is not trusted; `t` where To has a tag of no dialog, `d` and `e`
-/// where it names that of the caller and of the callee of call 3, `s` that of seat 2 of room 5, `x` where it names no account, and `o` where it offers audio; its method
+/// where it names that of the caller and of the callee of call 3, `s` that of seat 2 of room 5, `b` that of subscription 7, `x` where it names no account, and `o` where it
+/// offers audio; its method
 /// and Request-URI, and further lines, each ended by `|`. Below it stands what is done with it. A line of `=` switches extensions on or off for the rows below it: `r` reliable
 /// answers, `t` session timers and `m` waiting messages; none is on before.
 const TABLE: &[u8] = br#"> -- INFO sip:bob@home.example
@@ -247,6 +248,28 @@ enter 3 caller
 405 Allow: INVITE, ACK, CANCEL, BYE, OPTIONS, REGISTER, REFER, SUBSCRIBE
 > -- BYE sip:bob@home.example|Require: mwi|
 420 Unsupported: mwi
+> -- SUBSCRIBE sip:bob@home.example|Event: message-summary|
+subscribe
+> u- SUBSCRIBE sip:bob@home.example
+subscribe
+> -t SUBSCRIBE sip:bob@home.example
+481
+> m- SUBSCRIBE sip:bob@home.example
+482
+> -- SUBSCRIBE sip:bob@home.example|Require: 100rel|
+420 Unsupported: 100rel
+> -d SUBSCRIBE sip:bob@home.example
+481
+> -s SUBSCRIBE sip:bob@home.example
+481
+> -b SUBSCRIBE sip:bob@home.example
+subscription 7
+> -b OPTIONS sip:bob@home.example
+subscription 7
+> -b PRACK sip:bob@home.example
+405 Allow: INVITE, ACK, CANCEL, BYE, OPTIONS, REGISTER, REFER, SUBSCRIBE
+> -b INVITE sip:bob@home.example
+subscription 7
 = rtm
 > -- OPTIONS sip:bob@home.example|Require: timer, histinfo, 100rel|
 200 Allow: INVITE, ACK, CANCEL, BYE, OPTIONS, REGISTER, REFER, PRACK, UPDATE, SUBSCRIBE
@@ -302,6 +325,11 @@ fn tell_course(page: &mut Page, course: &Course) {
             page.add(b" ");
             page.add_number(*seconds);
         }
+        Course::Subscribe => page.add(b"subscribe"),
+        Course::EnterBox(sub) => {
+            page.add(b"subscription ");
+            page.add_number(sub.0);
+        }
     }
     page.add(b"\n");
 }
@@ -321,6 +349,7 @@ fn standing(whence: u8, to: u8) -> Standing {
             room: RoomNo(5),
             seat: 2,
         }),
+        b'b' => Some(Holder::InBox(SubNo(7))),
         _ => None,
     };
     Standing {

@@ -34,6 +34,8 @@ mod limits;
 #[cfg(test)]
 mod links;
 #[cfg(test)]
+mod mailboxes;
+#[cfg(test)]
 mod openings;
 #[cfg(test)]
 mod pages;

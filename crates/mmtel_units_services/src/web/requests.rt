@@ -47,7 +47,7 @@ fn directory(told: &mut Told) -> WebDirectory {
     WebDirectory {
         accounts,
         operator,
-        mwi: false,
+        mwi: true,
     }
 }
 
@@ -95,6 +95,12 @@ fn add_web(told: &mut Told, web: &Web) {
             add_shown(told, reply.bytes());
         }
         Web::Charges => told.add(b"charges"),
+        Web::Mailbox { account, body } => {
+            told.add(b"mailbox ");
+            told.add(digit_of(*account));
+            told.add(b" ");
+            add_shown(told, body.bytes());
+        }
     }
 }
 
@@ -217,6 +223,30 @@ HTTP/1.1 404 Not Found%~Content-Length: 0%~Connection: close%~%~
 HTTP/1.1 404 Not Found%~Content-Length: 0%~Connection: close%~%~
 > DELETE /nowhere HTTP/1.1%~%~
 HTTP/1.1 404 Not Found%~Content-Length: 0%~Connection: close%~%~
+> GET /mailbox HTTP/1.1%~%~
+HTTP/1.1 404 Not Found%~Content-Length: 0%~Connection: close%~%~
+> GET /mailbox/ HTTP/1.1%~%~
+HTTP/1.1 404 Not Found%~Content-Length: 0%~Connection: close%~%~
+> PUT /mailbox/02 HTTP/1.1%~X-3GPP-Asserted-Identity: \"sip:op@home.example\"%~Content-Type: application/toml%~%~
+HTTP/1.1 404 Not Found%~Content-Length: 0%~Connection: close%~%~
+> PUT /mailbox/2/ HTTP/1.1%~X-3GPP-Asserted-Identity: \"sip:op@home.example\"%~Content-Type: application/toml%~%~
+HTTP/1.1 404 Not Found%~Content-Length: 0%~Connection: close%~%~
+> GET /mailbox/2 HTTP/1.1%~X-3GPP-Asserted-Identity: \"sip:op@home.example\"%~%~
+HTTP/1.1 405 Method Not Allowed%~Allow: PUT%~Content-Length: 0%~Connection: close%~%~
+> DELETE /mailbox/9 HTTP/1.1%~%~
+HTTP/1.1 405 Method Not Allowed%~Allow: PUT%~Content-Length: 0%~Connection: close%~%~
+> PUT /mailbox/9 HTTP/1.1%~X-3GPP-Asserted-Identity: \"sip:bob@home.example\"%~%~
+HTTP/1.1 404 Not Found%~Content-Length: 0%~Connection: close%~%~
+> PUT /mailbox/4294967298 HTTP/1.1%~X-3GPP-Asserted-Identity: \"sip:op@home.example\"%~Content-Type: application/toml%~%~
+HTTP/1.1 404 Not Found%~Content-Length: 0%~Connection: close%~%~
+> PUT /mailbox/2 HTTP/1.1%~X-3GPP-Asserted-Identity: \"sip:bob@home.example\"%~Content-Type: text/plain%~%~
+HTTP/1.1 403 Forbidden%~Content-Length: 0%~Connection: close%~%~
+> PUT /mailbox/2 HTTP/1.1%~X-3GPP-Asserted-Identity: \"sip:op@home.example\"%~X-3GPP-Asserted-Identity: \"sip:op@home.example\"%~%~
+HTTP/1.1 403 Forbidden%~Content-Length: 0%~Connection: close%~%~
+> PUT /mailbox/2 HTTP/1.1%~X-3GPP-Asserted-Identity: \"sip:op@home.example\"%~Content-Length: 7%~%~new = 1
+HTTP/1.1 415 Unsupported Media Type%~Content-Length: 0%~Connection: close%~%~
+> PUT /mailbox/2 HTTP/1.1%~X-3GPP-Asserted-Identity: \"sip:op@home.example\"%~Content-Type: application/toml%~Content-Length: 7%~%~new = 1
+mailbox 2 new = 1
 > POST /charges HTTP/1.1%~%~
 HTTP/1.1 405 Method Not Allowed%~Allow: GET%~Content-Length: 0%~Connection: close%~%~
 > PUT /charges HTTP/1.1%~X-3GPP-Asserted-Identity: \"sip:op@home.example\"%~Content-Type: application/toml%~%~

@@ -1,9 +1,9 @@
 //! The table of calls as it is kept: each call in a box of its own, so that little moves when one leaves; in the order of their numbers; those that live are counted, and of
 //! each account the calls that keep it busy; each is found by its marks.
-ghost use Rattle.std.specs.Prelude.{◌≡◌, ◌<◌, ◌≤◌, ◌+◌, ◌^◌, ◌++◌, true, None, IfOk, OnOk, MatchResult, Some, if◌then◌else◌};
-ghost use Rattle.std.specs.Prelude.{count_by, drop, length, nat_le, option_to_list, remove, slice_get, take, ℕ};
+ghost use Rattle.std.specs.Prelude.{◌≡◌, ◌<◌, ◌≤◌, ◌+◌, ◌^◌, ◌++◌, true, false, None, IfOk, IfSome, OnOk, MatchResult, Some, if◌then◌else◌};
+ghost use Rattle.std.specs.Prelude.{count_by, drop, length, nat_le, nat_lt, option_to_list, remove, slice_get, take, ℕ};
 ghost use Rattle.std.specs.Option.{option_copied, option_map};
-ghost use Rattle.std.specs.List.Sorted.{IsNonDecreasingBy};
+ghost use Rattle.std.specs.List.Sorted.{IsNonDecreasingBy, IsPartitionPoint};
 ghost use Rattle.mmtel_desk.specs.Marks.{AreBelow, Unmarked};
 ghost use Rattle.mmtel_leg.specs.Releases.{released_leg};
 ghost use Rattle.mmtel_scan.specs.Numbers.{next_number};
@@ -109,7 +109,7 @@ fn place_in(entries: &[Box<Entry>], number: CallNo) -> Option<usize>
     requires { IsNonDecreasingBy (λ b. number_of b.value) entries.now }
     ensures { result ≡ place_of number.0 (unboxed entries.now) }
 {
-    let place = entries.partition_point(|entry| entry.call.opening.number.0 < number.0);
+    let place = first_from(entries, number.0);
     if place == entries.len() {
         return None;
     }
@@ -126,7 +126,51 @@ fn below(entries: &[Box<Entry>], number: u64) -> usize
     ensures within { result ≤ length (unboxed entries.now) }
     ensures lower { AreBelow number_of number (take result (unboxed entries.now)) }
 {
-    entries.partition_point(|entry| entry.call.opening.number.0 < number)
+    first_from(entries, number)
+}
+
+/// The place of the first call whose number is not lower, or else how many there are.
+fn first_from(entries: &[Box<Entry>], number: u64) -> usize
+    requires { IsNonDecreasingBy (λ b. number_of b.value) entries.now }
+    ensures parted { IsPartitionPoint (λ b. nat_lt (number_of b.value) number ≡ true) (λ b. nat_lt (number_of b.value) number ≡ false) entries.now result }
+    ensures within { result ≤ length entries.now }
+{
+    match first_near_end(entries, number) {
+        Some(place) => place,
+        None => entries.partition_point(|entry| entry.call.opening.number.0 < number),
+    }
+}
+
+/// The same, if one stands before it and no later call has left: as far from the last one as the number is below that one's. So a young call is found by few looks.
+fn first_near_end(entries: &[Box<Entry>], number: u64) -> Option<usize>
+    requires { IsNonDecreasingBy (λ b. number_of b.value) entries.now }
+    ensures parted { IfSome result (λ place. IsPartitionPoint (λ b. nat_lt (number_of b.value) number ≡ true) (λ b. nat_lt (number_of b.value) number ≡ false) entries.now place) }
+    ensures within { IfSome result (λ place. place ≤ length entries.now) }
+{
+    let last = match entries.last() {
+        None => return None,
+        Some(last) => last.call.opening.number.0,
+    };
+    if last < number {
+        return None;
+    }
+    let Ok(behind) = usize::try_from(last - number) else {
+        return None;
+    };
+    if entries.len() <= behind {
+        return None;
+    }
+    let place = entries.len() - 1 - behind;
+    if place == 0 {
+        return None;
+    }
+    if entries[place - 1].call.opening.number.0 < number
+        && number <= entries[place].call.opening.number.0
+    {
+        Some(place)
+    } else {
+        None
+    }
 }
 
 /// So many places after another one, where so many calls are kept.

@@ -1,7 +1,8 @@
--- Owners by ascending numbers: the place of a number is found by halving.
-use Rattle.std.proofs.Common.{◌≡◌, ℕ, zero, suc, ◌<◌, ◌≤◌, Bool, true, false, cond, List, [], ◌∷◌, length, get_or, Some, None, refl, sym, ap, ◌∙◌, arith, inl, inr, take}
+-- Owners by ascending numbers: the place of a number is found by halving, or where the one before it is lower and the one at it is not.
+use Rattle.std.proofs.Common.{◌≡◌, ℕ, zero, suc, ◌-◌, ◌<◌, ◌≤◌, Bool, true, false, cond, List, [], ◌∷◌, length, get_or, Some, None, refl, sym, ap, ◌∙◌, arith, inl, inr, take}
 use Rattle.std.proofs.lemmas.Bool.Decides.{nat_tests}
 use Rattle.std.proofs.lemmas.Bool.{cases_lt}
+use Rattle.std.proofs.lemmas.List.{get_or_read}
 use Rattle.std.proofs.lemmas.Option.{get_or_from_slice_get, slice_get_read}
 use Rattle.std.specs.Prelude.{◌==◌, nat_lt, position, slice_get}
 use Rattle.std.specs.List.{position_or_len}
@@ -26,6 +27,26 @@ module _ {X : Type 0} (number : X → ℕ) where
       at (y ∷ ys) least a (suc j) l = let h = a.0 in let g = at ys (number y) a.1 j (omega (arith, l)) in omega (arith, h, g)
   ascends low high (x ∷ xs) a (suc i) zero d e l = absurd (omega (arith, e))
   ascends low high (x ∷ xs) a (suc i) (suc j) d e l = ascends (number x) high xs a.1 i j d (omega (arith, e)) (omega (arith, l))
+
+  -- where one has a lower number and the next one has not, those of lower numbers end
+  pub parted_at : (n i : ℕ) (xs : List X) (x y : X) → IsNonDecreasingBy number xs → 1 ≤ i → i < length xs → x ≡ get_or xs (i - 1) x → y ≡ get_or xs i y → number x < n → n ≤ number y
+      → IsPartitionPoint (λ (z : X). nat_lt (number z) n ≡ true) (λ (z : X). nat_lt (number z) n ≡ false) xs i
+  parted_at n i xs x y up some inside before at lower higher = (lesser, others)
+    where
+      lesser : (j : ℕ) (d : X) → 0 ≤ j → j < i → nat_lt (number (get_or xs j d)) n ≡ true
+      lesser j d a l =
+          let within : i - 1 < length xs = omega (arith, some, inside) in
+          let h = up j (i - 1) d (omega (arith, l)) within in
+          let r : number x ≡ number (get_or xs (i - 1) d) = ap number (get_or_read xs (i - 1) x within before d) in
+          let g : number (get_or xs j d) < n = omega (arith, h, r, lower) in
+          grind (arith, nat_tests)
+
+      others : (j : ℕ) (d : X) → i ≤ j → j < length xs → nat_lt (number (get_or xs j d)) n ≡ false
+      others j d a l =
+          let h = up i j d a l in
+          let r : number y ≡ number (get_or xs i d) = ap number (get_or_read xs i y inside at d) in
+          let g : n ≤ number (get_or xs j d) = omega (arith, h, r, higher) in
+          grind (arith, nat_tests)
 
   abbrev Numbered : ℕ → X → Bool
   Numbered n x = number x == n

@@ -7,6 +7,7 @@ mod Keys
 mod Removal
 mod Sorting
 mod Turns
+mod Mapped
 mod Halving
 pub mod Ordered
 pub mod Indexed

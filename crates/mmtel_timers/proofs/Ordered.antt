@@ -55,7 +55,7 @@ has_in_back (suc p) x (y ∷ ys) z (inr h) = elim (has_in_back p x ys z h) [
   | inr g ↦ inr (inr g)
 ]
 
-all_in : {X : Type 0} (P : X → Type 0) (p : ℕ) (x : X) (xs : List X) → AllByRecursion P xs → P x → AllByRecursion P (insert xs p x)
+pub all_in : {X : Type 0} (P : X → Type 0) (p : ℕ) (x : X) (xs : List X) → AllByRecursion P xs → P x → AllByRecursion P (insert xs p x)
 all_in P zero x xs a h = (h, a)
 all_in P (suc p) x [] a h = (h, a)
 all_in P (suc p) x (y ∷ ys) a h = (a.0, all_in P p x ys a.1 h)
@@ -78,7 +78,7 @@ has_out (suc p) (y ∷ ys) x z g (inr h) = elim (has_out p ys x z g h) [
   | inr k ↦ inr (inr k)
 ]
 
-all_out : {X : Type 0} (P : X → Type 0) (p : ℕ) (xs : List X) → AllByRecursion P xs → AllByRecursion P (remove xs p)
+pub all_out : {X : Type 0} (P : X → Type 0) (p : ℕ) (xs : List X) → AllByRecursion P xs → AllByRecursion P (remove xs p)
 all_out P zero [] a = a
 all_out P zero (y ∷ ys) a = a.1
 all_out P (suc p) [] a = a

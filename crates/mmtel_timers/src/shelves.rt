@@ -5,35 +5,74 @@ ghost use Rattle.std.specs.List.Sorted.{IsPartitionedBy, IsPartitionPoint};
 use crate::steps::Steps;
 use mmtel_scan::NoMemory;
 use std::alloc::Global;
+use std::cmp::Ordering;
 use std::collections::VecDeque;
 use std::marker::Model;
 use std::sync::ledger::Ledger;
 
-/// A list of items that whoever keeps it keeps in an order of its own.
-///
-/// Each item lies in a block of its own, so that putting one in or taking one out moves an address for each item on the shorter side of its place.
-pub struct Shelf<T> {
-    items: VecDeque<Box<T>>,
+/// What may stand in a shelf: it has a rank, a number by which most items are told apart before anything else of them is looked at.
+pub trait Ranked {
+    ghost rank: { Self → ℕ };
+
+    /// Its rank.
+    fn rank(&self) -> u64
+        ensures { result ≡ rank self.now };
 }
 
-impl<T> Model for Shelf<T> {
+/// An item in a block of its own, and its rank beside it, so that a search reads one line of memory after the other and hardly ever what lies in the blocks.
+struct Slot<T> {
+    rank: u64,
+    block: Box<T>,
+}
+
+impl<T: Drop> Drop for Slot<T> {
+    fn drop(self) {
+        let Slot { rank: _, block: _ } = self;
+    }
+}
+
+impl<T> Slot<T> {
+    /// The block alone.
+    fn into_block(self) -> Box<T>
+        ensures { result ≡ self.block }
+    {
+        let Slot { rank: _, block } = self;
+        block
+    }
+}
+
+/// A list of items that whoever keeps it keeps in an order of its own.
+///
+/// Each item lies in a block of its own, so that putting one in or taking one out moves an address and a rank for each item on the shorter side of its place.
+pub struct Shelf<T: Ranked> {
+    items: VecDeque<Slot<T>>,
+}
+
+impl<T: Ranked> Model for Shelf<T> {
     ghost use Rattle.std.specs.Prelude.{List};
-    ghost use Rattle.mmtel_timers.specs.Shelves.{unboxed};
+    ghost use Rattle.mmtel_timers.specs.Ranks.{AreRanked, ranked_items};
 
     ghost Value = { List T };
 
-    ghost view = { λ shelf. unboxed shelf.items.items };
+    ghost view = { λ shelf. ranked_items shelf.items.items };
+
+    ghost invariant = { λ shelf. AreRanked T.rank shelf.items.items };
 }
 
-impl<T: Drop> Drop for Shelf<T> {
+impl<T: Ranked + Drop> Drop for Shelf<T> {
     fn drop(self) {
         let Shelf { items: _ } = self;
     }
 }
 
 /// A place that is looked for: it says of each item whether that comes before it.
-pub trait Mark<T> {
+pub trait Mark<T: Ranked> {
     ghost before: { Self → T → Bool };
+
+    /// Its rank: an item of a lower one comes before the place, and one of a higher one does not.
+    fn rank_sought(&self) -> u64
+        ensures lower { (x : T) → T.rank x < result → before self.now x ≡ true }
+        ensures higher { (x : T) → result < T.rank x → before self.now x ≡ false };
 
     /// Whether the item comes before the place.
     fn is_before(&self, item: &T) -> bool
@@ -47,7 +86,21 @@ pub struct Sought<'a, T> {
     pub item: Option<&'a T>,
 }
 
-impl<T> Shelf<T> {
+/// Whether what stands in a slot comes before the place: by the ranks, where they differ.
+fn comes_before<T: Ranked, M: Mark<T>>(slot: &Slot<T>, rank: u64, mark: &M) -> bool
+    requires ranked { slot.now.rank ≡ T.rank slot.now.block.value }
+    requires lower { (x : T) → T.rank x < rank → M.before mark.now x ≡ true }
+    requires higher { (x : T) → rank < T.rank x → M.before mark.now x ≡ false }
+    ensures { result ≡ M.before mark.now slot.now.block.value }
+{
+    match slot.rank.cmp(&rank) {
+        Ordering::Less => true,
+        Ordering::Greater => false,
+        Ordering::Equal => mark.is_before(slot.block.as_ref()),
+    }
+}
+
+impl<T: Ranked> Shelf<T> {
     /// A shelf of no items. It takes no memory.
     pub fn new(alloc: Global) -> Shelf<T>
         ensures { result ≡ [] }
@@ -71,7 +124,7 @@ impl<T> Shelf<T> {
     {
         steps.tick();
         match self.items.get(place) {
-            Some(item) => Some(item.as_ref()),
+            Some(slot) => Some(slot.block.as_ref()),
             None => None,
         }
     }
@@ -87,12 +140,13 @@ impl<T> Shelf<T> {
         ensures err { OnErr result (self.new ≡ self.old) }
         ensures handed_back { IfErr result (λ refused. refused.0 ≡ item) }
     {
+        let rank = item.rank();
         let block = match Box::new(*self.items.allocator(), item) {
             Ok(block) => block,
             Err(refused) => return Err((refused.value, NoMemory)),
         };
-        if let Err(refused) = self.items.insert(place, block) {
-            return Err((Box::into_inner(refused.value), NoMemory));
+        if let Err(refused) = self.items.insert(place, Slot { rank, block }) {
+            return Err((Box::into_inner(refused.value.into_block()), NoMemory));
         }
         Ok(())
     }
@@ -103,7 +157,7 @@ impl<T> Shelf<T> {
         ensures rest { self.new ≡ remove self.old place }
     {
         match self.items.remove(place) {
-            Some(block) => Some(Box::into_inner(block)),
+            Some(slot) => Some(Box::into_inner(slot.into_block())),
             None => None,
         }
     }
@@ -124,13 +178,14 @@ impl<T> Shelf<T> {
         ensures rest { self.new ≡ insert (remove self.old from) result.1 item }
         ensures rise { steps.old ≤ steps.new }
     {
+        let rank = item.rank();
         let mut block = match self.items.remove(from) {
-            Some(block) => block,
+            Some(slot) => slot.into_block(),
             None => unreachable!(),
         };
         let taken = Box::replace(&mut block, item);
         let place = self.seek(mark, steps).place;
-        match self.items.insert(place, block) {
+        match self.items.insert(place, Slot { rank, block }) {
             Ok(()) => (taken, place),
             Err(_) => unreachable!(),
         }
@@ -145,20 +200,30 @@ impl<T> Shelf<T> {
         ensures cost { 2 ^ (steps.new - steps.old) ≤ 2 * length self.now + 1 }
         ensures rise { steps.old ≤ steps.new }
     {
+        let rank = mark.rank_sought();
         let mut low = 0;
         let mut high = self.items.len();
-        let mut item = None;
+        let mut found = None;
         while low < high {
             let middle = low + (high - low) / 2;
             steps.tick();
-            let found = self.items[middle].as_ref();
-            if mark.is_before(found) {
+            let slot = &self.items[middle];
+            if comes_before(slot, rank, mark) {
                 low = middle + 1;
             } else {
                 high = middle;
-                item = Some(found);
+                found = Some(slot);
             }
         }
-        Sought { place: low, item }
+        match found {
+            None => Sought {
+                place: low,
+                item: None,
+            },
+            Some(slot) => Sought {
+                place: low,
+                item: Some(slot.block.as_ref()),
+            },
+        }
     }
 }

@@ -65,6 +65,11 @@ module _ {E : Type 0} (key : E → ℕ) where
       let p : position_or_len (is k) (x ∷ es) ≡ i = pos_at k (x ∷ es) i x r l (ranked _ k Equal (sym (q x))) in
       ap (λ n. cond (nat_lt n (length (x ∷ es))) (Some n) None) p ∙ ap (λ b. cond b (Some i) None) (at_len i (length (x ∷ es)) l)
 
+  pub placed : (k : ℕ) (es : List E) (i : ℕ) (e : E) → Rises key es → i < length es → e ≡ get_or es i e → key e ≡ k → position (is k) es ≡ Some i
+  placed k es i e rises inside at same =
+      let p : position_or_len (is k) es ≡ i = pos_at k es i e rises inside (ap key (sym at) ∙ same) in
+      ap (λ n. cond (nat_lt n (length es)) (Some n) None) p ∙ ap (λ b. cond b (Some i) None) (at_len i (length es) inside)
+
   pub searched : (k : ℕ) (es : List E) (r : Result ℕ ℕ) → Rises key es → IsSearchInRange r (length es) → IsBinarySearchResult (λ (e : E). nat_cmp (key e) k) es r → record { found : IfOk r (λ i. position (is k) es ≡ Some i); absent : IfErr r (λ i. position (is k) es ≡ None) }
   searched k es (Ok i) rises range equal = record { found = found_at k es i rises range equal; absent = tt }
   searched k es (Err i) rises range parted =
@@ -101,6 +106,10 @@ searched_boxes k bs (Ok i) rises range said =
 searched_boxes k bs (Err i) rises range said =
     let w = searched (λ (b : Box Entry _). b.value.key) k bs (Err i) (boxes_rise bs rises) range said in
     record { found = tt; absent = position_unboxed k bs ∙ w.absent }
+
+-- a box of the key, at its place
+pub placed_box : {A : Type 0} (k : ℕ) (bs : List (Box Entry A)) (i : ℕ) (b : Box Entry A) → Rises (λ (e : Entry). e.key) (unboxed bs) → i < length bs → b ≡ get_or bs i b → b.value.key ≡ k → position (is_of k) (unboxed bs) ≡ Some i
+placed_box k bs i b rises inside at same = position_unboxed k bs ∙ placed (λ (c : Box Entry _). c.value.key) k bs i b (boxes_rise bs rises) inside at same
 
 pub set_unboxed : {X A : Type 0} (bs : List (Box X A)) (i : ℕ) (b : Box X A) → unboxed (set bs i b) ≡ set (unboxed bs) i b.value
 set_unboxed bs i b = map-set (λ c. c.value) bs i b

@@ -1,5 +1,5 @@
 -- By what live transactions are looked up, in which order, and the tables that are kept of them.
-use Rattle.std.specs.Prelude.{◌≡◌, ◌≤◌, ℕ, ◌-◌, ◌^◌, true, false, insert, remove, slice_get, Bool, not, nat_le, ◌&&◌, ◌==◌, if◌then◌else◌}
+use Rattle.std.specs.Prelude.{◌≡◌, ◌≤◌, ℕ, ◌-◌, ◌^◌, true, false, insert, remove, slice_get, Bool, not, nat_le, min, ◌&&◌, ◌==◌, if◌then◌else◌}
 use Rattle.std.specs.Prelude.{List, [], length, Option, Some, None, count_by}
 use Rattle.std.specs.List.{list_any}
 use Rattle.std.specs.Str.{bytes_eq}
@@ -28,6 +28,10 @@ said_cmp x y =
 -- the order of names: first by the numbers that are told from them, which takes one comparison where names are alike in many bytes
 abbrev pub name_cmp : Name → Name → Ordering
 name_cmp x y = ordering_then (nat_cmp x.told y.told) (said_cmp x y)
+
+-- a moment as a rank: itself, or the greatest one
+abbrev pub moment_rank : ℕ → ℕ
+moment_rank at = min at (2 ^ 64 - 1)
 
 -- the order in which deadlines fire
 abbrev pub waits_cmp : Waits → Waits → Ordering

@@ -2,12 +2,12 @@
 ghost use Rattle.std.specs.Prelude.{◌≡◌, IfOk, option_copied};
 ghost use Rattle.std.specs.Ordering.{ordering_then};
 ghost use Rattle.mmtel_timers.specs.Shelves.{answer, comes_before};
-ghost use Rattle.mmtel_transaction.specs.Indexes.{call_named, client_named, has_name, mark_name, name_cmp, named, said_cmp, server_named, waits, waits_cmp};
+ghost use Rattle.mmtel_transaction.specs.Indexes.{call_named, client_named, has_name, mark_name, moment_rank, name_cmp, named, said_cmp, server_named, waits, waits_cmp};
 ghost use Rattle.mmtel_transaction.specs.Told.{told_of};
 
 use crate::entries::{Entry, armed_by, deadline_of};
 use mmtel_scan::{NoMemory, Text};
-use mmtel_timers::Mark;
+use mmtel_timers::{Mark, Ranked};
 use std::alloc::Global;
 use std::cmp::Ordering;
 
@@ -118,8 +118,20 @@ fn name_order(name: &Name, mark: &NameMark<'_>) -> Ordering
     }
 }
 
+impl Ranked for Name {
+    ghost rank = { λ name. name.told };
+
+    fn rank(&self) -> u64 {
+        self.told
+    }
+}
+
 impl<'a> Mark<Name> for NameMark<'a> {
     ghost before = { λ mark name. comes_before name_cmp (mark_name mark) name };
+
+    fn rank_sought(&self) -> u64 {
+        self.told
+    }
 
     fn is_before(&self, name: &Name) -> bool {
         match name_order(name, self) {
@@ -243,8 +255,23 @@ fn waits_order(x: &Waits, y: &Waits) -> Ordering
     )
 }
 
+impl Ranked for Waits {
+    ghost rank = { λ x. moment_rank x.at };
+
+    fn rank(&self) -> u64 {
+        match u64::try_from(self.at) {
+            Ok(at) => at,
+            Err(_) => u64::MAX,
+        }
+    }
+}
+
 impl Mark<Waits> for Waits {
     ghost before = { λ mark x. comes_before waits_cmp mark x };
+
+    fn rank_sought(&self) -> u64 {
+        self.rank()
+    }
 
     fn is_before(&self, x: &Waits) -> bool {
         match waits_order(x, self) {

@@ -1,6 +1,6 @@
 //! The live transactions with what they are looked up by: their numbers, which rise, and shelves of their names and deadlines.
 ghost use Rattle.std.specs.Prelude.{◌≡◌, ◌-◌, ◌+◌, ◌*◌, ◌^◌, ◌≤◌, ◌<◌, true, false, List, [], ◌++◌, ◌∷◌};
-ghost use Rattle.std.specs.Prelude.{OnOk, OnErr, IfOk, IfErr, IsTrue, length, remove, map, option_map, option_copied, position, Some, None};
+ghost use Rattle.std.specs.Prelude.{OnOk, OnErr, IfOk, IfErr, IfSome, IsTrue, length, remove, map, option_map, option_copied, position, Some, None};
 ghost use Rattle.std.specs.List.{find, list_any};
 ghost use Rattle.mmtel_timers.specs.Shelves.{Has, IsIndex, Rises, unboxed};
 ghost use Rattle.mmtel_transaction.specs.declared.entries.Entry.{Entry};
@@ -374,7 +374,36 @@ fn search(entries: &VecDeque<Box<Entry>>, key: u64) -> Result<usize, usize>
     ensures found { IfOk result (λ i. position (is_of key) (unboxed entries.now.items) ≡ Some i) }
     ensures absent { IfErr result (λ i. position (is_of key) (unboxed entries.now.items) ≡ None) }
 {
-    entries.binary_search_by_key(&key, |e| e.key)
+    match search_from_end(entries, key) {
+        Some(place) => Ok(place),
+        None => entries.binary_search_by_key(&key, |e| e.key),
+    }
+}
+
+/// Where a transaction stands, if none of those that were opened after it has ended: as far from the last one as its key is from that one's. So one that is young is found by one look.
+fn search_from_end(entries: &VecDeque<Box<Entry>>, key: u64) -> Option<usize>
+    requires rises { Rises (λ e. e.key) (unboxed entries.now.items) }
+    ensures { IfSome result (λ i. position (is_of key) (unboxed entries.now.items) ≡ Some i) }
+{
+    let last = match entries.back() {
+        None => return None,
+        Some(last) => last.key,
+    };
+    if last < key {
+        return None;
+    }
+    let Ok(behind) = usize::try_from(last - key) else {
+        return None;
+    };
+    if entries.len() <= behind {
+        return None;
+    }
+    let place = entries.len() - 1 - behind;
+    if entries[place].key == key {
+        Some(place)
+    } else {
+        None
+    }
 }
 
 /// Takes the transaction at a place out.

@@ -1,9 +1,11 @@
 //! Deadlines, and the moments at which messages are sent again.
-ghost use Rattle.std.specs.Prelude.{◌≡◌, ◌<◌};
+ghost use Rattle.std.proofs.Props.{props};
+ghost use Rattle.std.specs.Prelude.{◌≡◌, ◌<◌, ◌/◌, nat_lt};
+ghost use Rattle.std.specs.List.Sorted.{IsNonDecreasingBy};
 
 use crate::asserting::assert_right;
 use mmtel_scan::number_up_to;
-use mmtel_timers::{Deadlines, Key, Schedule, Shelf, Steps};
+use mmtel_timers::{Deadlines, Key, Mark, Ranked, Schedule, Shelf, Steps};
 use mmtel_told::{Rows, Told, cut, wrong_line};
 use mmtel_types::Moment;
 use std::alloc::Global;
@@ -214,18 +216,42 @@ fn deadlines_and_schedules(rt: HostRuntime) {
     assert_right(&rt, "FIRST", wrong_deadlines(rt.alloc(), FIRST));
 }
 
+/// An item of a shelf: a number, of which the tens are the rank.
+#[derive(Clone, Copy)]
+struct Item(u64);
+
+impl Ranked for Item {
+    ghost rank = { λ item. item.0 / 10 };
+
+    fn rank(&self) -> u64 {
+        self.0 / 10
+    }
+}
+
+impl Mark<Item> for Item {
+    ghost before = { λ mark item. nat_lt item.0 mark.0 };
+
+    fn rank_sought(&self) -> u64 {
+        self.rank()
+    }
+
+    fn is_before(&self, item: &Item) -> bool {
+        item.0 < self.0
+    }
+}
+
 /// Puts an item before the one at a place, or at the end.
-fn put(told: &mut Told, shelf: &mut Shelf<u64>, place: usize, item: u64) {
-    if place > shelf.len() || shelf.insert(place, item).is_err() {
+fn put(told: &mut Told, shelf: &mut Shelf<Item>, place: usize, item: u64) {
+    if place > shelf.len() || shelf.insert(place, Item(item)).is_err() {
         told.fail();
     }
 }
 
 /// Takes every item out from the front and tells it.
-fn take_all(told: &mut Told, shelf: &mut Shelf<u64>) {
+fn take_all(told: &mut Told, shelf: &mut Shelf<Item>) {
     for _ in 0..shelf.len() {
         if let Some(item) = shelf.remove(0) {
-            told.add_spaced_number(item);
+            told.add_spaced_number(item.0);
         }
     }
     told.add(b"\n");
@@ -246,4 +272,120 @@ fn wrong_shelf(alloc: Global) -> usize {
 #[test]
 fn items_are_put_on_a_shelf(rt: HostRuntime) {
     assert_right(&rt, "shelf", wrong_shelf(rt.alloc()));
+}
+
+/// A shelf of numbers that do not fall, and the counter of looks beside it.
+#[derive(Drop)]
+struct Sorted<L: Ledger> {
+    shelf: Shelf<Item>,
+    steps: Steps<L>,
+    ghost order: { IsNonDecreasingBy (λ item. item.0) shelf } by { Prim.hlevel props },
+}
+
+impl<L: Ledger> Sorted<L> {
+    /// Puts a number before the first that is not below it.
+    fn put(&mut self, told: &mut Told, item: Item) {
+        let place = self.shelf.seek(&item, &mut self.steps).place;
+        told.keep(self.shelf.insert(place, item).is_ok());
+    }
+
+    /// Tells the place of the first number that is not below this one, and that number.
+    fn tell_place(&mut self, told: &mut Told, item: Item) {
+        let sought = self.shelf.seek(&item, &mut self.steps);
+        told.add_spaced_number(sought.place as u64);
+        match sought.item {
+            None => told.add(b" -"),
+            Some(found) => told.add_spaced_number(found.0),
+        }
+        told.add(b"\n");
+    }
+}
+
+/// `+` puts a number in; `?` tells the place of the first that is not below one, and which stands there, or `-`.
+impl<L: Ledger> Rows for Sorted<L> {
+    fn tell(&mut self, told: &mut Told, asked: &[u8]) {
+        match asked {
+            [b'+', digits @ ..] => self.put(told, Item(number(digits))),
+            [_, digits @ ..] => self.tell_place(told, Item(number(digits))),
+            [] => told.fail(),
+        }
+    }
+}
+
+/// Numbers of different ranks and of one; those that are sought have a rank that no item has, that of one item, or that of several, some of which come before them.
+const SOUGHT: &[u8] = b"> ?15
+ 0 -
+> +25
+> ?15
+ 0 25
+> ?35
+ 1 -
+> ?25
+ 0 25
+> ?24
+ 0 25
+> ?26
+ 1 -
+> +11
+> +43
+> +22
+> +28
+> +25
+> ?0
+ 0 11
+> ?11
+ 0 11
+> ?12
+ 1 22
+> ?20
+ 1 22
+> ?22
+ 1 22
+> ?23
+ 2 25
+> ?25
+ 2 25
+> ?26
+ 4 28
+> ?28
+ 4 28
+> ?29
+ 5 43
+> ?30
+ 5 43
+> ?43
+ 5 43
+> ?44
+ 6 -
+> ?18446744073709551615
+ 6 -
+> +18446744073709551615
+> ?18446744073709551615
+ 6 18446744073709551615
+> ?18446744073709551614
+ 6 18446744073709551615
+";
+
+/// The number of the first line of the table, from 1, that is not told again; 0 where each is. Its looks are counted from nothing.
+fn wrong_sought<L: Ledger>(alloc: Global, blank: Blank) -> usize
+    requires name { blank.name ≡ L.name }
+    requires parts { blank.parts ≡ L.parts }
+    requires some { 0 < L.parts }
+{
+    let steps: Steps<L> = Steps::new(blank);
+    let mut sorted = Sorted {
+        shelf: Shelf::new(alloc),
+        steps,
+    };
+    wrong_line(alloc, &mut sorted, SOUGHT)
+}
+
+/// The same with a counter of its own.
+fn wrong_places(alloc: Global) -> usize {
+    wrong_sought::<Brand>(alloc, Blank::new(1))
+}
+
+#[test]
+fn items_are_sought_by_their_ranks_first(rt: HostRuntime) {
+    assert_right(&rt, "SOUGHT", wrong_places(rt.alloc()));
 }

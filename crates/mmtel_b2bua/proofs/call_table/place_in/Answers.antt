@@ -1,6 +1,4 @@
-use Rattle.std.proofs.Common.{◌<◌, Box, Global, length, rules, arith, sym, ap, ◌∙◌}
-use Rattle.std.specs.Prelude.{nat_lt}
-use Rattle.std.proofs.lemmas.List.Sorted.{IsPartitionPoint-from_clause, IsPartitionedBy-ltb}
+use Rattle.std.proofs.Common.{◌<◌, length, arith, sym, ap, ◌∙◌}
 use Rattle.mmtel_desk.proofs.Ascending.{place_gone, place_here, place_past}
 use Rattle.mmtel_b2bua.specs.Entries.{is_numbered}
 use Rattle.mmtel_b2bua.specs.declared.entries.Entry.{Entry}
@@ -12,28 +10,25 @@ pub returns-then-place-entries : goal.returns-then-place-entries
 returns-then-place-entries c =
     let n = c.args.number.0 in
     let bs = c.args.entries.now in
-    let i = c.partition_point-place.result in
-    let parts = IsPartitionPoint-from_clause (λ (b : Box Entry Global). nat_lt (number_in b) n) bs i c.partition_point-place.ensures.partitioned (IsPartitionedBy-ltb number_in bs n c.requires) (λ a r f called. search rules) in
-    place_past number_in n i bs c.requires parts (omega (arith, c.if-place-entries.true)) ∙ numbered_boxes n bs
+    let i = c.first_from-place.result in
+    place_past number_in n i bs c.requires c.first_from-place.ensures.parted (omega (arith, c.if-place-entries.true)) ∙ numbered_boxes n bs
 
 pub returns-then-is_numbered : goal.returns-then-is_numbered
 returns-then-is_numbered c =
     let n = c.args.number.0 in
     let bs = c.args.entries.now in
-    let i = c.partition_point-place.result in
-    let parts = IsPartitionPoint-from_clause (λ (b : Box Entry Global). nat_lt (number_in b) n) bs i c.partition_point-place.ensures.partitioned (IsPartitionedBy-ltb number_in bs n c.requires) (λ a r f called. search rules) in
+    let i = c.first_from-place.result in
     let b = c.index-entries-place.result in
-    let less : i < length bs = omega (arith, c.if-place-entries.false, c.partition_point-place.ensures.bound) in
+    let less : i < length bs = omega (arith, c.if-place-entries.false, c.first_from-place.ensures.within) in
     let same = sym (numbered n b.value) ∙ (ap (λ (e : Entry). is_numbered n e) (sym c.deref.ensures) ∙ (sym c.is_numbered.ensures ∙ c.if-is_numbered.true)) in
-    place_here number_in n i bs c.requires parts b less c.index-entries-place.is same ∙ numbered_boxes n bs
+    place_here number_in n i bs c.requires c.first_from-place.ensures.parted b less c.index-entries-place.is same ∙ numbered_boxes n bs
 
 pub returns-else-is_numbered : goal.returns-else-is_numbered
 returns-else-is_numbered c =
     let n = c.args.number.0 in
     let bs = c.args.entries.now in
-    let i = c.partition_point-place.result in
-    let parts = IsPartitionPoint-from_clause (λ (b : Box Entry Global). nat_lt (number_in b) n) bs i c.partition_point-place.ensures.partitioned (IsPartitionedBy-ltb number_in bs n c.requires) (λ a r f called. search rules) in
+    let i = c.first_from-place.result in
     let b = c.index-entries-place.result in
-    let less : i < length bs = omega (arith, c.if-place-entries.false, c.partition_point-place.ensures.bound) in
+    let less : i < length bs = omega (arith, c.if-place-entries.false, c.first_from-place.ensures.within) in
     let same = sym (numbered n b.value) ∙ (ap (λ (e : Entry). is_numbered n e) (sym c.deref.ensures) ∙ (sym c.is_numbered.ensures ∙ c.if-is_numbered.false)) in
-    place_gone number_in n i bs c.requires parts b less c.index-entries-place.is same ∙ numbered_boxes n bs
+    place_gone number_in n i bs c.requires c.first_from-place.ensures.parted b less c.index-entries-place.is same ∙ numbered_boxes n bs

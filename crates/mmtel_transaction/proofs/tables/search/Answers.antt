@@ -4,8 +4,8 @@ use Rattle.std.proofs.lemmas.List.Sorted.{answers_always}
 use Rattle.mmtel_transaction.proofs.Placing.{searched_boxes}
 use Rattle.mmtel_transaction.proofs.tables.search.Goals as goal
 
-pub returns : goal.returns
-returns c =
+pub returns-in-None : goal.returns-in-None
+returns-in-None c =
     let facts = c.binary_search_by_key.ensures in
     let q = c.args.entries.now in
     let by_key = facts.position (λ b. b.value.key) (answers_always _ _ _ (λ f a r g called. search rules)) in

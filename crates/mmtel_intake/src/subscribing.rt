@@ -1,9 +1,7 @@
 //! What is asked with a SUBSCRIBE, and what is answered to it (RFC 6665 §4.2.1; 3GPP TS 24.606).
-ghost use Rattle.std.specs.Prelude.{◌≡◌, IfOk, None};
+ghost use Rattle.std.specs.Prelude.{◌≡◌, IfOk};
 ghost use Rattle.mmtel_mwi.specs.Subscribing.{granted, refusal};
-ghost use Rattle.mmtel_parties.specs.Parties.{account_by};
 ghost use Rattle.mmtel_run.specs.Subscriptions.{asking_of, granting, mailbox_named, other_answer, refusing_answer, sender_of};
-ghost use Rattle.mmtel_trust.specs.Digest.{account_from};
 ghost use Rattle.mmtel_intake.specs.Courses.{answer_in};
 
 use crate::answers::{Answer, allowing, plainly};
@@ -11,33 +9,13 @@ use crate::refusals::{Target, read_target};
 use crate::registrations::expires;
 use mmtel_answers::Hearing;
 use mmtel_directory::Directory;
-use mmtel_lex::Uri;
 use mmtel_message::{add_bytes, add_decimal, is_method, is_readable, line_texts};
 use mmtel_mwi::{Asks, granted, refusal};
+use mmtel_parties::account_of;
 use mmtel_scan::{List, NoMemory};
-use mmtel_trust::{Accounts, Identities, asserted};
+use mmtel_trust::asserted;
 use mmtel_types::Account;
 use std::alloc::Global;
-
-/// The account of an identity, if there is one.
-fn account_by(accounts: &Accounts, identity: &Option<Uri>) -> Option<Account>
-    ensures { result ≡ account_by accounts.now identity.now }
-{
-    match identity {
-        None => None,
-        Some(uri) => accounts.find(uri),
-    }
-}
-
-/// The account of identities: that of the sip URI, or else of the tel URI (RFC 3325 §9.1).
-fn account_of(accounts: &Accounts, identities: &Identities) -> Option<Account>
-    ensures { result ≡ account_from accounts.now identities.now None }
-{
-    match account_by(accounts, &identities.sip) {
-        Some(account) => Some(account),
-        None => account_by(accounts, &identities.tel),
-    }
-}
 
 /// The account of whoever the sender of a request is asserted to be.
 fn sender_of(

@@ -13,6 +13,6 @@ pub use laws::{
 pub use mmtel_targets::{
     RegistrationState, Served, Target, diverted_target, first_target, is_at_home,
 };
-pub use parties::Parties;
+pub use parties::{Parties, account_of};
 pub use routing::{kept_routes, names_server, next_hop};
 pub use served::ServedSides;

@@ -116,8 +116,8 @@ fn account_by(accounts: &Accounts, identity: &Option<Uri>) -> Option<Account>
     }
 }
 
-/// The account of the sip identity, or else of the tel identity.
-fn account_of(accounts: &Accounts, identities: &Identities) -> Option<Account>
+/// The account of identities: that of the sip URI, or else of the tel URI (RFC 3325 §9.1).
+pub fn account_of(accounts: &Accounts, identities: &Identities) -> Option<Account>
     ensures { result ≡ account_from accounts.now identities.now None }
 {
     match account_by(accounts, &identities.sip) {

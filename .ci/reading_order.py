@@ -1,8 +1,8 @@
 """Which files of definitions the contract of `run` reaches, and whether the reading order of docs/ARCHITECTURE.md has just these.
 
 A definition reaches each definition that it names, through imports, aliases, constructors and fields; the contract of `run` (crates/mmtel_cli/src/top.rt) reaches those that
-its clauses name. A file that is reached stands in a sitting of the reading order, and a file of a sitting is reached. Names are followed by their text and not by the
-compiler, so a file that is reached by none of its names and is wanted all the same stands in `READ_ANYWAY`, with why.
+its clauses name. A file that is reached is in a portion of the reading order, and a file of a portion is reached. Names are followed by their text and not by the
+compiler, so a file that is reached by none of its names and has to be read all the same is in `READ_ANYWAY`, with the reason.
 """
 import collections
 import re
@@ -36,13 +36,13 @@ class Definitions:
                 self.owner.update((found.group(1), name) for found in map(CONSTRUCTOR.match, lines[1:]) if found)
 
     def is_definition(self, opened, line, current):
-        """Whether the line begins a definition: none of a record's fields does, which stand further in than it."""
+        """Whether the line begins a definition: none of a record's fields does, which are indented further."""
         if not opened.group("indent") or not current:
             return True
         return "record" not in self.lines[current][0].split() or len(opened.group("indent")) <= len(re.match(r"\s*", self.lines[current][0]).group())
 
     def add_use(self, module, names, alias):
-        """Takes in an import, of names or of a module by an alias."""
+        """Adds an import, of names or of a module by an alias."""
         if names is None:
             self.aliases[alias or module.split(".")[-1]] = module
             return
@@ -51,7 +51,7 @@ class Definitions:
             self.imports[here or there] = (module, there)
 
     def names_in(self, lines, itself=None):
-        """What the lines name: words of this file by themselves, others with their module."""
+        """What the lines name: names of this file by themselves, others with their module."""
         for line in lines:
             for token in TOKEN.findall(line):
                 first, *more = token.split(".")
@@ -89,7 +89,7 @@ def resolved(module, name, files):
 
 
 def contract_of_run(top):
-    """What the clauses of `run` name."""
+    """The names in the clauses of `run`."""
     text = (top / "crates/mmtel_cli/src/top.rt").read_text()
     contract = re.search(r"\npub fn run<.*?\n\{\n", text, re.S).group().splitlines()
     uses = "\n".join(line for line in text.splitlines() if line.startswith("ghost use"))
@@ -112,7 +112,7 @@ def reached(top):
 
 
 def listed(top):
-    """The modules of the sittings of the reading order."""
+    """The modules of the portions of the reading order."""
     found = set()
     for row in re.findall(r"^\| \d+\. .* \|$", (top / "docs/ARCHITECTURE.md").read_text(), re.M):
         for crate, names in re.findall(r"`(mmtel_\w+)`: ([\w/, ]+)", row.split(" | ")[1]):
@@ -121,7 +121,7 @@ def listed(top):
 
 
 def wrong_reading(top):
-    """Files that are reached and stand in no sitting, and files of a sitting that nothing reaches."""
+    """Files that are reached and are in no portion, and files of a portion that nothing reaches."""
     there, order = reached(top), listed(top)
     for module in sorted(set(there) - order):
         yield f"reading order: {module} is in no sitting, and `run` reaches its `{there[module]}`"

@@ -1,4 +1,4 @@
-"""The sources of Rattle, read by their text: the functions of each file, with what their heads and bodies say. Used by `.ci/reached` and `tools/figures`."""
+"""The sources of Rattle, read by their text: the functions of each file, with the names in their heads and bodies. Used by `.ci/reached` and `tools/figures`."""
 import pathlib
 import re
 
@@ -13,7 +13,7 @@ USE = re.compile(r"^ *(?:pub )?use ([\w:]+?)(?:::\{([^}]*)\})?(?: as (\w+))?;", 
 
 
 def closed(text, at):
-    """The place behind the bracket that closes the one at this place."""
+    """The position after the bracket that closes the one at this position."""
     depth = 0
     for found in re.finditer(r"[(\[{}\])]", text[at:]):
         depth += 1 if found.group() in "([{" else -1
@@ -23,7 +23,7 @@ def closed(text, at):
 
 
 def arguments(text):
-    """How many items stand in the text of a list, parted by commas outside brackets."""
+    """How many items are in the text of a list, separated by commas outside brackets."""
     depth, items, some = 0, 0, False
     for found in re.finditer(r"->|=>|[(\[{<>}\]),]|\|[^|]*\||[^\s(\[{<>}\]),|]+", text):
         sign = found.group()
@@ -62,7 +62,7 @@ class Function:
 
 
 def closed_generics(text, at):
-    """The place behind the generic parameters that begin at this place, if any do."""
+    """The position after the generic parameters that begin at this position, if any do."""
     if text[at] != "<":
         return at
     depth = 0
@@ -102,7 +102,7 @@ class File:
 
 
 def blank(found):
-    """What stands in the place of a remark, a text or a word of the definitions: as many lines."""
+    """The replacement of a comment, a text or a ghost line: as many lines."""
     return ('""' if found.group()[-1] in "\"#'" else "") + "\n" * found.group().count("\n")
 
 
@@ -116,7 +116,7 @@ def owner_of(kind, head):
 
 
 def stands_on(top):
-    """All that each crate stands on, itself included."""
+    """All crates on which each crate depends, itself included."""
     below = {line.split(":")[0]: line.split(":")[1].split() for line in (top / "crates.txt").read_text().splitlines() if ":" in line and not line.startswith("#")}
     whole = {}
 

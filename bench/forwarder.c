@@ -1,5 +1,5 @@
-// The least that anything does which passes SIP on: what comes to 127.0.0.1:5260 from 127.0.0.1:5072 goes to 127.0.0.1:5071, all else to 127.0.0.1:5072, unread.
-// It waits, takes in and sends with one system call each, as the server does for its datagrams. bench/measure compiles and starts it.
+// The least work with which SIP can be forwarded: what 127.0.0.1:5260 receives from 127.0.0.1:5072 goes to 127.0.0.1:5071, all else to 127.0.0.1:5072, unread.
+// It waits, receives and sends with one system call each, as the server does for its datagrams. bench/measure compiles and starts it.
 #include <arpa/inet.h>
 #include <poll.h>
 #include <sys/socket.h>

@@ -1,5 +1,5 @@
-/* A back-to-back user agent made of Sofia-SIP's user agent engine (nua), for bench/measure: each call that comes to 127.0.0.1:5460 is made again to 127.0.0.1:5072, bodies, statuses
-   and ends are passed on. It asks nothing of accounts or services, carries no audio and keeps no record.
+/* A back-to-back user agent made of Sofia-SIP's user agent engine (nua), for bench/measure: each call to 127.0.0.1:5460 is made again to 127.0.0.1:5072, bodies, statuses
+   and ends are passed on. It has no accounts and no services, carries no audio and keeps no CDRs.
    cc -O2 -o sofia bench/sofia.c $(pkg-config --cflags --libs sofia-sip-ua) */
 typedef struct leg leg;
 #define NUA_MAGIC_T void
@@ -27,7 +27,7 @@ static leg *add_leg(nua_handle_t *handle)
     return made;
 }
 
-/* A call comes in: the same one goes out. */
+/* A call is received: the same one is made. */
 static void call_on(nua_t *nua, nua_handle_t *handle, sip_t const *sip)
 {
     leg *caller = add_leg(handle), *callee = add_leg(NULL);
@@ -38,7 +38,7 @@ static void call_on(nua_t *nua, nua_handle_t *handle, sip_t const *sip)
     nua_invite(callee->handle, SIPTAG_CONTENT_TYPE(sip->sip_content_type), SIPTAG_PAYLOAD(sip->sip_payload), TAG_END());
 }
 
-/* A leg is over: nothing is said of it any more. */
+/* A leg is over: nothing is reported for it any more. */
 static void forget(leg *over)
 {
     if (over->other)

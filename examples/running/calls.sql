@@ -1,5 +1,5 @@
--- Each account's calls of each month (UTC, by the moment at which they began): how many it made and how many came to it, how many of these were answered, and for how many minutes it talked.
--- A kind is 0 of a call that the account made, 1 of one that came to it; moments are milliseconds since 1970.
+-- Each account's calls of each month (UTC, by the moment at which they began): how many it made and how many it received, how many of these were answered, and their minutes after the
+-- answer. A kind is 0 of a call that the account made, 1 of one that it received; moments are milliseconds since 1970.
 SELECT strftime('%Y-%m', began / 1000, 'unixepoch') AS month,
        account,
        sum(kind = 0) AS made,

@@ -1,4 +1,4 @@
--- How the calls of each month (UTC) ended that came to an account or were made by one: the cause, its status, and how many rows have it. An answered call has `ended` and 0.
+-- How the calls of each month (UTC) ended that an account received or made: the cause, its status, and how many CDRs have it. An answered call has `ended` and 0.
 SELECT strftime('%Y-%m', began / 1000, 'unixepoch') AS month,
        cause,
        code,

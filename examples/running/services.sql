@@ -1,5 +1,5 @@
--- Each account's services of each month (UTC): the diversions that it made with how many of them were answered and for how many minutes, its seats in conference rooms with their minutes,
--- and the holds of its calls. A kind is 2 of a diversion, 3 of a seat.
+-- Each account's services of each month (UTC): the diversions that it made with how many of them were answered and for how many minutes, its participations in conferences with their
+-- minutes, and the holds of its calls. A kind is 2 of a diversion, 3 of a participation.
 SELECT strftime('%Y-%m', began / 1000, 'unixepoch') AS month,
        account,
        sum(kind = 2) AS diversions,

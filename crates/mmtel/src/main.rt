@@ -1,4 +1,4 @@
-//! The program: the files of the system, the network, a journal or a database, the standard output, and the call that does the work. It ends with that call's status.
+//! The program: the files of the system, the network, a journal or a database, the standard output, and the call that runs the command. It exits with that call's status.
 #![tactic(auto)]
 
 use mmtel_cli::{DiskFiles, OutSink, out_of_memory, program};
@@ -10,7 +10,7 @@ use std::io::ErrorKind;
 use std::process::ExitCode;
 use std::{env, io};
 
-/// The words behind the program's own name; none where one of them is not UTF-8, which is of no command, as no word at all is.
+/// The arguments after the program's own name; an empty list where one of them is not UTF-8, since neither is a command.
 fn words(rt: &HostRuntime, alloc: Global) -> io::Result<Vec<Text>> {
     let mut words = Vec::new(alloc);
     for word in env::args(rt)?.skip(1) {
@@ -22,7 +22,7 @@ fn words(rt: &HostRuntime, alloc: Global) -> io::Result<Vec<Text>> {
     Ok(words)
 }
 
-/// Does what the words say, over the files of the system, the network and a journal or a database.
+/// Runs the command of these arguments, over the files of the system, the network and a journal or a database.
 fn perform(rt: &HostRuntime, alloc: Global, words: &[Text], out: &mut OutSink<'_>) -> ExitCode {
     let mut files = DiskFiles::new(rt);
     let mut link = NetLink::new(rt);

@@ -1,4 +1,4 @@
--- On what of its request a response rests.
+-- On what of its request a response depends.
 use Rattle.std.proofs.Common.{◌≡◌, Bool, true, false, List, [], ◌∷◌, ℕ, codes, cond, inl, inr, refl}
 use Rattle.std.proofs.lemmas.Bool.{cases_Bool}
 use Rattle.mmtel_message.specs.Faults.{is_request}
@@ -11,7 +11,7 @@ use Rattle.mmtel_trust.specs.Mask.{NoEntries, Places, is_kept, masked_lines, onl
 use Rattle.mmtel_trust.specs.MaskedMessages.{Restriction, mask}
 use Rattle.mmtel_trust.specs.declared.accounts.AccountIdentity.{AccountIdentity}
 
--- no line of the name is one that has the name
+-- no line of the name means that none has the name
 pub none_has : (name : List ℕ) (ls : List Line) → named name ls ≡ [] → has_line name ls ≡ false
 none_has name [] e = refl
 none_has name (l ∷ ls) e =

@@ -1,4 +1,4 @@
--- What an attempt towards an untrusted peer says of the INVITE that opened the call.
+-- What an attempt towards an untrusted peer contains of the INVITE that opened the call.
 use Rattle.std.proofs.Common.{◌≡◌, ◌∙◌, Bool, List, [], ap, cond, false, ℕ}
 use Rattle.mmtel_history.specs.declared.entries.Entry.{Entry}
 use Rattle.mmtel_leg.specs.declared.dialogues.Dialogue.{Dialogue}

@@ -1,4 +1,4 @@
--- What is found by a name among the lines of a request that the server makes, beside what its dialog says: the first Via, and the Route values.
+-- What is found by a name among the lines of a request that the server makes, beside those of its dialog: the first Via, and the Route values.
 use Rattle.std.proofs.Common.{◌≡◌, ◌∙◌, ◌&&◌, not, ℕ, Bool, true, false, List, [], ◌∷◌, ◌++◌, Option, Some, None, append-nil, ap, arith, codes, cond, decimal, length, map, refl, sym}
 use Rattle.std.proofs.lemmas.List.Elements.{filter-append}
 use Rattle.std.specs.Option.{option_map}

@@ -1,5 +1,5 @@
--- The responses that the server gives to what it heard: those of its own (RFC 3261 §8.2.6), and those that it relays from the other side of a call (§16.7). The first Via
--- says where the request came from (§18.2.1).
+-- The responses of the server to what it received: those of its own (RFC 3261 §8.2.6), and those that it relays from the other side of a call (§16.7). The first Via has the
+-- source of the request (§18.2.1).
 use Rattle.std.specs.Prelude.{ℕ, Bool, true, false, Some, List, [], ◌∷◌, codes}
 use Rattle.mmtel_message.specs.Message.{Line, Message}
 use Rattle.mmtel_message.specs.Phrases.{phrase_of}
@@ -10,18 +10,18 @@ use Rattle.mmtel_types.specs.declared.addrs.Addr.{Addr}
 use Rattle.mmtel_answers.specs.Said.{Said, phrase_in, status_of}
 use Rattle.mmtel_answers.specs.declared.answers.FurtherMethods.{FurtherMethods}
 
--- what a response of the server's own says, with this Contact where one is due: its tag in the dialog, the lines of History-Info that a 181 passes, the lines that are
--- named for the status, and the body
+-- the content of a response of the server's own, with this Contact where one is due: its tag in the dialog, the lines of History-Info that a 181 passes, the lines that are added
+-- for the status, and the body
 abbrev pub own_reply : (contact : List ℕ) → Addr → (tag : List ℕ) → (code : ℕ) → (passed named : List Line) → (body : List ℕ) → Reply
 own_reply contact source tag code passed named body =
     record { code = code; phrase = phrase_of code; tag = tag; source = Some source; contact = contact; passed = passed; named = named; body = body }
 
--- what a response that is relayed says: status, phrase and body of the one that was heard, and these lines of it
+-- the content of a relayed response: status, phrase and body of the received one, and these lines of it
 abbrev pub relayed_reply : (contact : List ℕ) → Addr → (tag : List ℕ) → (passed : List Line) → HeardMessage → Reply
 relayed_reply contact source tag passed m =
     record { code = status_of m.start; phrase = phrase_in m.start; tag = tag; source = Some source; contact = contact; passed = passed; named = []; body = m.body }
 
--- the response to a request that was heard
+-- the response to a received request
 abbrev pub answer : Said → Reply → Message Start
 answer m r = response m.heard.start m.heard.lines r
 
@@ -31,17 +31,17 @@ own_answer contact m tag code passed named body = answer m (own_reply contact m.
 abbrev pub relayed_answer : (contact : List ℕ) → Said → (tag : List ℕ) → (passed : List Line) → Said → Message Start
 relayed_answer contact m tag passed r = answer m (relayed_reply contact m.source tag passed r.heard)
 
--- ---- named lines
+-- ---- added lines
 
 -- when a request may be sent again, in seconds (§14.2, §20.33)
 abbrev pub retry_after : List Line
 retry_after = (codes "Retry-After", codes "5") ∷ []
 
--- none beside the methods that the server always knows
+-- none beside the methods that the server always supports
 abbrev pub no_further_methods : FurtherMethods
 no_further_methods = record { reliable = false; mwi = false }
 
--- the methods that the server knows (§20.5)
+-- the methods that the server supports (§20.5)
 abbrev pub method_names : (reliable mwi : Bool) → List ℕ
 method_names false false = codes "INVITE, ACK, CANCEL, BYE, OPTIONS, REGISTER, REFER"
 method_names true false = codes "INVITE, ACK, CANCEL, BYE, OPTIONS, REGISTER, REFER, PRACK, UPDATE"

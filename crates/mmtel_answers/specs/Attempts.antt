@@ -1,5 +1,5 @@
--- The INVITE of an attempt: the first request of a dialog that the server begins (RFC 3261 §8.1.1, §12.1.2), by which it relays the INVITE that opened the call (§16.6) to
--- the first target or to one that the call was diverted to (RFC 7044 §7, RFC 4458 §2).
+-- The INVITE of an attempt: the first request of a dialog that the server begins (RFC 3261 §8.1.1, §12.1.2), by which it relays the INVITE that opened the call (§16.6) to the
+-- first target or to one to which the call was diverted (RFC 7044 §7, RFC 4458 §2).
 use Rattle.std.specs.Prelude.{ℕ, Bool, Option, Some, None, List, [], ◌∷◌, ◌++◌, codes, if◌then◌else◌}
 use Rattle.mmtel_history.specs.EntryUri.{with_cause, without_cause}
 use Rattle.mmtel_leg.specs.Dialogues.{after_request, request_uri}
@@ -18,9 +18,9 @@ use Rattle.mmtel_types.specs.declared.sides.Side.TheVariants.{Callee}
 use Rattle.mmtel_answers.specs.Requests.{relaying}
 use Rattle.mmtel_answers.specs.declared.attempts.Aim.{Aim}
 
--- ---- to whom it goes
+-- ---- its destination
 
--- a display and a URI without the parameters behind them
+-- a display name and a URI without the parameters after them
 abbrev pub without_params : Option NameAddr → List ℕ
 without_params None = []
 without_params (Some n) = display_and_uri n
@@ -29,11 +29,11 @@ without_params (Some n) = display_and_uri n
 abbrev pub bracketed : List ℕ → List ℕ
 bracketed uri = name_addr_text (record { display = []; uri = uri; params = [] })
 
--- to the first target: Request-URI, and display and URI of To, as received
+-- the first target: Request-URI, and display name and URI of To, as received
 abbrev pub first_aim : Peer → (routes : List (List ℕ)) → HeardMessage → Aim
 first_aim peer routes m = record { peer = peer; uri = request_uri m.start; to = without_params (read_by m.to); routes = routes }
 
--- to the target of a diversion: the cause stands in the Request-URI and not in To
+-- the target of a diversion: the cause is in the Request-URI and not in To
 abbrev pub diverted_aim : Peer → (routes : List (List ℕ)) → (target : Uri) → (cause : ℕ) → Aim
 diverted_aim peer routes target cause =
     record { peer = peer; uri = with_cause cause (uri_text target); to = bracketed (without_cause (uri_text target)); routes = routes }
@@ -57,13 +57,13 @@ calling aim call_id tag from = record {
   invited = None;
 }
 
--- as the leg knows it, once the INVITE was sent: the Route values were for the INVITE, and the way to the callee is not known (§12.1.2)
+-- as the leg keeps it, once the INVITE was sent: the Route values were for the INVITE, and the route to the callee is not known (§12.1.2)
 abbrev pub called : Dialogue → Dialogue
 called d = record (after_request d (codes "INVITE")) { routes = [] }
 
 -- ---- the INVITE
 
--- the line by which a target is told that the call waits (TS 24.615 §4.5.5.3)
+-- the line that indicates to a target that the call waits (TS 24.615 §4.5.5.3)
 abbrev pub alert_lines : Bool → List Line
 alert_lines waiting = if waiting then (codes "Alert-Info", codes "<urn:alert:service:call-waiting>") ∷ [] else []
 

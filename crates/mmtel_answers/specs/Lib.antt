@@ -1,10 +1,10 @@
 -- What public clauses cite.
--- Of the calls:
+-- Of the functions:
 pub mod Said
 pub mod Answers
 pub mod Requests
 pub mod Attempts
--- Of the laws alone:
+-- Of the theorems alone:
 pub mod Repeats
 
 -- What private functions alone cite: nothing.

@@ -1,4 +1,4 @@
--- What laws say of the messages that the server makes: what repeats an INVITE has of it (RFC 3261 §9.1, §17.1.1.3), and what a tag is read of.
+-- What theorems state of the messages that the server makes: what a CANCEL or an ACK copies from its INVITE (RFC 3261 §9.1, §17.1.1.3), and what a tag is read from.
 use Rattle.std.specs.Prelude.{◌≡◌, codes}
 use Rattle.mmtel_leg.specs.Deeds.{HaveOneNumber}
 use Rattle.mmtel_leg.specs.Dialogues.{request_uri}

@@ -1,5 +1,5 @@
--- What the server gives to the requests that it makes in a dialog, where they relay a request of the other side and where they relay none (RFC 3261 §12.2.1.1, §16.6); and
--- what repeats an INVITE: CANCEL (§9.1) and the ACK of a final from 300 (§17.1.1.3).
+-- The parts of the requests that the server makes in a dialog, where they relay a request of the other side and where they relay none (RFC 3261 §12.2.1.1, §16.6); and what
+-- copies fields of an INVITE: CANCEL (§9.1) and the ACK of a final from 300 (§17.1.1.3).
 use Rattle.std.specs.Prelude.{ℕ, ◌-◌, Option, Some, None, List, [], codes}
 use Rattle.mmtel_leg.specs.Requests.{Given, numbered}
 use Rattle.mmtel_leg.specs.declared.dialogues.Dialogue.{Dialogue}
@@ -9,7 +9,7 @@ use Rattle.mmtel_trust.specs.Digest.{HeardMessage}
 use Rattle.mmtel_types.specs.declared.addrs.Addr.{Addr}
 use Rattle.mmtel_types.specs.declared.sides.Side.TheVariants.{Callee}
 
--- one hop less; 70 are meant where the sender names none (§16.6, §20.22), and none is left of none
+-- one hop less; 70 where the sender gives no number (§16.6, §20.22), and none remains of none
 abbrev pub hops_left : Option ℕ → ℕ
 hops_left None = 69
 hops_left (Some n) = n - 1
@@ -18,7 +18,7 @@ hops_left (Some n) = n - 1
 abbrev pub bringing : Addr → (branch : List ℕ) → (named : List Line) → (body : List ℕ) → Given
 bringing sip branch named body = record { sip = sip; hops = 70; branch = branch; shown = named; body = body }
 
--- of one that brings nothing
+-- of one without lines of its own and without a body
 abbrev pub bare : Addr → (branch : List ℕ) → Given
 bare sip branch = bringing sip branch [] []
 
@@ -26,13 +26,13 @@ bare sip branch = bringing sip branch [] []
 abbrev pub relaying : Addr → (branch : List ℕ) → (passed : List Line) → HeardMessage → Given
 relaying sip branch passed m = record { sip = sip; hops = hops_left m.hops; branch = branch; shown = passed; body = m.body }
 
--- ---- what repeats an INVITE that was sent in this dialog with this number and this branch
+-- ---- what copies fields of an INVITE that was sent in this dialog with this number and this branch
 
 -- CANCEL
 abbrev pub cancel_of : Dialogue → (number : ℕ) → Addr → (branch : List ℕ) → Message Start
 cancel_of d number sip branch = numbered d number (codes "CANCEL") (bare sip branch)
 
--- the dialog with this To, as it stands
+-- the dialog with this To, otherwise unchanged
 abbrev pub towards : Dialogue → (to : List ℕ) → Dialogue
 towards d to = record d { side = Callee; remote = to; remote_tag = [] }
 

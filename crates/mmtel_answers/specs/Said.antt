@@ -1,5 +1,5 @@
--- A message as it was heard: what is read of it, from whom it came, and where that peer is reached. Whoever reads no lines of it, no entry of its History-Info and not
--- where it redirects to sees nothing of what is private.
+-- A received message: what was read of it, the peer from which it came, and the address of that peer. Whatever reads no lines of it, no entry of its History-Info and not the
+-- target to which it redirects sees nothing of what is private.
 use Rattle.std.specs.Prelude.{ℕ, Bool, List, [], Option}
 use Rattle.std.specs.Option.{unwrap_or}
 use Rattle.mmtel_scan.specs.Chain.{◌>>=◌}
@@ -12,13 +12,13 @@ use Rattle.mmtel_types.specs.declared.addrs.Addr.{Addr}
 use Rattle.mmtel_types.specs.declared.numbers.Peer.{Peer}
 
 pub record Said : Type 0 where
-  -- from whom it was heard, and where that peer is reached
+  -- the peer from which it was received, and the address of that peer
   pub peer : Peer
   pub source : Addr
-  -- what is read of it
+  -- what was read of it
   pub heard : HeardMessage
 
--- what a peer said, who is trusted or not
+-- what a peer sent, which is trusted or not
 abbrev pub said : Peer → Addr → Bool → Message Start → Said
 said peer source trusted m = record { peer = peer; source = source; heard = heard trusted m }
 
@@ -36,6 +36,6 @@ phrase_in (Status code phrase) = phrase
 abbrev pub number_of : Said → Option ℕ
 number_of m = m.heard.cseq >>= number_at
 
--- the tag of its To, which a response gives; no bytes where there is none (§19.3)
+-- the tag of its To, which a response has; no bytes where there is none (§19.3)
 abbrev pub tag_given : Said → List ℕ
 tag_given m = unwrap_or m.heard.to_tag []

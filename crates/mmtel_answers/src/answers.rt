@@ -1,4 +1,4 @@
-//! Responses to what was heard.
+//! Responses to received messages.
 ghost use Rattle.std.specs.Prelude.{◌≡◌, IfOk, codes};
 ghost use Rattle.mmtel_message.specs.Addresses.{contact_text};
 ghost use Rattle.mmtel_message.specs.Message.{line};
@@ -10,25 +10,25 @@ use mmtel_scan::{List, NoMemory};
 use mmtel_types::Addr;
 use std::alloc::Global;
 
-/// What a response of the server's own says (RFC 3261 §8.2.6).
+/// The content of a response of the server's own (RFC 3261 §8.2.6).
 #[derive(Clone, Copy)]
 pub struct OwnResponse<'a> {
     /// Its status.
     pub code: u16,
     /// Lines that are passed on: History-Info of a 181.
     pub passed: &'a [Line],
-    /// Lines that are named for the status.
+    /// Lines that are added for the status.
     pub named: &'a [Line],
     /// Its body.
     pub body: &'a [u8],
 }
 
-/// The response of the server's own to a request: its status and phrase, the tag where the request has none, Contact with this value where one is due, and what else it
-/// says (RFC 3261 §8.2.6).
+/// The response of the server's own to a request: its status and phrase, the tag where the request has none, Contact with this value where one is due, and its other content
+/// (RFC 3261 §8.2.6).
 ///
 /// # Errors
 ///
-/// Want of memory alone.
+/// Out of memory only.
 pub fn own_answer_at(
     alloc: Global,
     contact: &[u8],
@@ -57,11 +57,11 @@ pub fn own_answer_at(
     )
 }
 
-/// The response of the server's own, with its own Contact where one is due; the other words are as of `own_answer_at`.
+/// The response of the server's own, with its own Contact where one is due; the other parameters are as in `own_answer_at`.
 ///
 /// # Errors
 ///
-/// Want of memory alone.
+/// Out of memory only.
 pub fn own_answer(
     alloc: Global,
     sip: Addr,
@@ -76,11 +76,11 @@ pub fn own_answer(
     own_answer_at(alloc, contact.bytes(), request, tag, own)
 }
 
-/// The response that relays one which was heard, with these lines of it: its status, phrase and body, and the server's Contact where one is due (RFC 3261 §16.7).
+/// The response that relays a received one, with these lines of it: its status, phrase and body, and the server's Contact where one is due (RFC 3261 §16.7).
 ///
 /// # Errors
 ///
-/// Want of memory alone.
+/// Out of memory only.
 pub fn relayed_answer(
     alloc: Global,
     sip: Addr,
@@ -110,11 +110,11 @@ pub fn relayed_answer(
     )
 }
 
-/// The line that says when a request may be sent again: after 5 seconds (RFC 3261 §14.2, §20.33).
+/// The line with the time after which a request may be sent again: 5 seconds (RFC 3261 §14.2, §20.33).
 ///
 /// # Errors
 ///
-/// Want of memory alone.
+/// Out of memory only.
 #[tactic(auto, unfolding(mmtel_message::specs::Message::line))]
 pub fn retry_after(alloc: Global) -> Result<List<Line>, NoMemory>
     ensures lines { IfOk result (λ ls. ls ≡ retry_after) }
@@ -124,16 +124,16 @@ pub fn retry_after(alloc: Global) -> Result<List<Line>, NoMemory>
     Ok(lines)
 }
 
-/// Which methods the server knows beside those that it always knows.
+/// Which methods the server supports beside those that it always supports.
 #[derive(Clone, Copy)]
 pub struct FurtherMethods {
     /// PRACK (RFC 3262) and UPDATE (RFC 3311).
     pub reliable: bool,
-    /// SUBSCRIBE, to waiting messages (RFC 3842).
+    /// SUBSCRIBE, for message waiting (RFC 3842).
     pub mwi: bool,
 }
 
-/// The names of the methods that the server knows.
+/// The names of the methods that the server supports.
 fn method_names(methods: FurtherMethods) -> &'static [u8]
     ensures { result.now ≡ method_names methods.reliable methods.mwi }
 {
@@ -147,11 +147,11 @@ fn method_names(methods: FurtherMethods) -> &'static [u8]
     }
 }
 
-/// The line of the methods that the server knows (RFC 3261 §20.5).
+/// The line of the methods that the server supports (RFC 3261 §20.5).
 ///
 /// # Errors
 ///
-/// Want of memory alone.
+/// Out of memory only.
 #[tactic(auto, unfolding(mmtel_message::specs::Message::line))]
 pub fn allowed(alloc: Global, methods: FurtherMethods) -> Result<List<Line>, NoMemory>
     ensures lines { IfOk result (λ ls. ls ≡ allowed methods) }

@@ -15,10 +15,10 @@ use mmtel_trust::{attempt_from, display_and_uri, name_addr_in};
 use mmtel_types::{Addr, Peer, Side};
 use std::alloc::Global;
 
-/// To whom an attempt goes.
+/// The destination of an attempt.
 #[derive(Drop)]
 pub struct Aim {
-    /// The peer that its messages go to.
+    /// The peer to which its messages are sent.
     pub peer: Peer,
     /// The Request-URI.
     pub uri: Text,
@@ -38,7 +38,7 @@ fn to_value(message: &Hearing) -> Option<&[u8]>
     None
 }
 
-/// A value as a display and a URI, without the parameters behind them.
+/// A value as a display name and a URI, without the parameters after them.
 fn without_params(alloc: Global, value: Option<&[u8]>) -> Result<Text, NoMemory>
     ensures { IfOk result (λ t. t ≡ without_params (read_by (option_copied value.entry))) }
 {
@@ -48,11 +48,11 @@ fn without_params(alloc: Global, value: Option<&[u8]>) -> Result<Text, NoMemory>
     }
 }
 
-/// To the first target of a call: Request-URI, and display and URI of To, as received in the INVITE that opened it; with these Route values.
+/// The first target of a call: Request-URI, and display name and URI of To, as received in the INVITE that opened it; with these Route values.
 ///
 /// # Errors
 ///
-/// Want of memory alone.
+/// Out of memory only.
 pub fn first_aim(
     alloc: Global,
     peer: Peer,
@@ -76,7 +76,7 @@ pub fn first_aim(
 ///
 /// # Errors
 ///
-/// Want of memory alone.
+/// Out of memory only.
 pub fn bracketed(alloc: Global, uri: Text) -> Result<Text, NoMemory>
     ensures text { IfOk result (λ t. t ≡ bracketed uri) }
 {
@@ -88,11 +88,11 @@ pub fn bracketed(alloc: Global, uri: Text) -> Result<Text, NoMemory>
     print_name_addr(alloc, &alone)
 }
 
-/// To the target of a diversion with this cause: the cause stands in the Request-URI (RFC 4458 §2), and To is the target without one; with these Route values.
+/// The target of a diversion with this cause: the cause is in the Request-URI (RFC 4458 §2), and To is the target without one; with these Route values.
 ///
 /// # Errors
 ///
-/// Want of memory alone.
+/// Out of memory only.
 pub fn diverted_aim(
     alloc: Global,
     peer: Peer,
@@ -140,12 +140,12 @@ pub fn dialogue_to(aim: Aim, call_id: Text, tag: Text, from: Text) -> Dialogue
     }
 }
 
-/// The dialog of an attempt of a call, before its INVITE is sent: From is nobody's where the call is restricted, else the display and the URI of the caller as received,
+/// The dialog of an attempt of a call, before its INVITE is sent: From is anonymous where the call is restricted, else the display name and the URI of the caller as received,
 /// each with the tag (RFC 3261 §12.1.2, RFC 3323 §4.1.1.3).
 ///
 /// # Errors
 ///
-/// Want of memory alone.
+/// Out of memory only.
 pub fn calling(
     alloc: Global,
     aim: Aim,
@@ -160,7 +160,7 @@ pub fn calling(
     Ok(dialogue_to(aim, call_id, tag, from))
 }
 
-/// The dialog as the leg knows it, once the INVITE was sent (RFC 3261 §12.1.2).
+/// The dialog as the leg keeps it, once the INVITE was sent (RFC 3261 §12.1.2).
 pub fn called(dialogue: Dialogue) -> Dialogue
     ensures dialogue { result ≡ called dialogue }
 {
@@ -173,7 +173,7 @@ pub fn called(dialogue: Dialogue) -> Dialogue
     }
 }
 
-/// Adds the line by which a target is told that the call waits, where it does.
+/// Adds the line that indicates to a target that the call waits, where it does.
 #[tactic(auto, unfolding(mmtel_message::specs::Message::line))]
 fn add_alert(alloc: Global, lines: &mut List<Line>, waiting: bool) -> Result<(), NoMemory>
     ensures { OnOk result (lines.new ≡ lines.old ++ alert_lines waiting) }
@@ -198,12 +198,12 @@ fn attempt_lines(alloc: Global, passed: &[Line], waiting: bool) -> Result<List<L
     Ok(lines)
 }
 
-/// The INVITE of an attempt, the first request of its dialog: it relays the INVITE that opened the call with these lines of it, and tells the target where the call waits
+/// The INVITE of an attempt, the first request of its dialog: it relays the INVITE that opened the call with these lines of it, and indicates to the target where the call waits
 /// (RFC 3261 §16.6, TS 24.615 §4.5.5.3).
 ///
 /// # Errors
 ///
-/// Want of memory alone.
+/// Out of memory only.
 pub fn invite(
     alloc: Global,
     dialogue: &Dialogue,

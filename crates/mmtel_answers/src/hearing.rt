@@ -1,4 +1,4 @@
-//! Messages as they were heard.
+//! Received messages.
 ghost use Rattle.std.specs.Prelude.{◌≡◌, IfOk};
 ghost use Rattle.mmtel_leg.specs.Remotes.{remote_of};
 ghost use Rattle.mmtel_answers.specs.Requests.{hops_left};
@@ -12,12 +12,12 @@ use mmtel_types::{Addr, Peer, Side};
 use std::alloc::Global;
 use std::marker::Model;
 
-/// A message as it was heard. Contracts see what is read of it.
+/// A received message. Its value in contracts is what was read of it.
 #[derive(Drop)]
 pub struct Hearing {
-    /// From whom it was heard.
+    /// The peer from which it was received.
     pub peer: Peer,
-    /// Where that peer is reached.
+    /// The address of that peer.
     pub source: Addr,
     /// Whether that peer is trusted.
     pub trusted: bool,
@@ -53,7 +53,7 @@ pub fn phrase_in(start: &Start) -> &[u8]
     }
 }
 
-/// The hops that are left to a request that relays this one.
+/// The remaining hops of a request that relays this one.
 pub fn hops_left(message: &Hearing) -> u8
     ensures { result ≡ hops_left message.now.heard.hops }
 {
@@ -66,7 +66,7 @@ pub fn hops_left(message: &Hearing) -> u8
     }
 }
 
-/// The number of CSeq of a message (RFC 3261 §20.16), where that can be read. It takes no memory.
+/// The number of CSeq of a message (RFC 3261 §20.16), where that can be read. It allocates nothing.
 #[tactic(auto, unfolding(mmtel_leg::specs::Dialogues::number_in))]
 pub fn number_of(message: &Hearing) -> Option<u32>
     ensures number { result ≡ number_of message.now }
@@ -74,11 +74,11 @@ pub fn number_of(message: &Hearing) -> Option<u32>
     number_in(&message.message)
 }
 
-/// What the callee says of itself in a response (RFC 3261 §12.1.2).
+/// The callee's tag, target and route set in a response (RFC 3261 §12.1.2).
 ///
 /// # Errors
 ///
-/// Want of memory alone.
+/// Out of memory only.
 #[tactic(auto, unfolding(mmtel_leg::specs::Remotes::tag_in))]
 pub fn said_by_callee(alloc: Global, response: &Hearing) -> Result<Remote, NoMemory>
     ensures remote { IfOk result (λ r. r ≡ remote_of Callee response.now.heard.lines) }

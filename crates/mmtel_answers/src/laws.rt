@@ -1,4 +1,4 @@
-//! Laws of the definitions that contracts cite: each is the contract of a function that does nothing.
+//! Theorems about the definitions that contracts cite: each is the contract of a function that does nothing.
 ghost use Rattle.std.specs.Prelude.{◌≡◌, ◌⊎◌, ◌<◌, ◌^◌, Bool, true, false, List, [], ℕ, Some, codes};
 ghost use Rattle.mmtel_history.specs.HistoryInfo.{masked_list};
 ghost use Rattle.mmtel_history.specs.declared.entries.Entry.{Entry};
@@ -34,8 +34,8 @@ use mmtel_trust::{
     masks_leave_the_way, own_lines_are_not_passed,
 };
 
-/// A CANCEL and the ACK of a final from 300 have their INVITE's Request-URI, branch, Route values, From, Call-ID and number (RFC 3261 §9.1, §17.1.1.3), where the INVITE
-/// brings no Route line among those that it passes on.
+/// A CANCEL and the ACK of a final from 300 have their INVITE's Request-URI, branch, Route values, From, Call-ID and number (RFC 3261 §9.1, §17.1.1.3), where the INVITE has no
+/// Route line among those that it passes on.
 /// A CANCEL has its To as well, and the ACK that of the final.
 pub fn repeats_have_what_they_repeat()
     ensures cancel { (d : Dialogue) (number : ℕ) (given : Given) → named (codes "Route") given.shown ≡ [] →
@@ -49,7 +49,7 @@ pub fn repeats_have_what_they_repeat()
     requests_name_their_dialog();
 }
 
-/// The dialog that a leg keeps of the INVITE of an attempt is the one that begins with this INVITE (RFC 3261 §12.1.2), where the tag is read of From.
+/// The dialog that a leg keeps for the INVITE of an attempt is the one that begins with this INVITE (RFC 3261 §12.1.2), where the tag is read from From.
 pub fn legs_begin_with_their_invite()
     ensures leg { (aim : Aim) (call_id tag from : List ℕ) (given : Given) → tag_of (Some from) ≡ Some tag →
         started aim.peer (numbered (calling aim call_id tag from) 1 (codes "INVITE") given) ≡ called (calling aim call_id tag from) }
@@ -58,8 +58,8 @@ pub fn legs_begin_with_their_invite()
     numbers_read_back();
 }
 
-/// A relayed response has the five fields of the request that it answers (RFC 3261 §8.1.1, §16.7), Via completed and To with the tag, whatever the response was that was
-/// heard, and what it shows by the header table.
+/// A relayed response has the five fields of the request to which it responds (RFC 3261 §8.1.1, §16.7), Via completed and To with the tag, whatever response was received, and
+/// whatever of it is shown by the header table.
 pub fn relayed_answers_have_the_fields()
     ensures five { (contact tag : List ℕ) (m r : Said) (f : Facing) (to_trusted : Bool) (h : List Entry) (five : Five) → IsSource m.source → (tag ≡ []) ⊎ IsToken tag →
         AreLinesWith five m.heard.lines →
@@ -70,15 +70,15 @@ pub fn relayed_answers_have_the_fields()
     responses_have_the_fields();
 }
 
-/// A response rests on its request's lines of six names, and on those of Record-Route only where it makes a dialog.
+/// A response depends on its request's lines of six names, and on those of Record-Route only where it makes a dialog.
 pub fn responses_rest_on_six_names()
     ensures same { (start : Start) (ls ms : List Line) (r : Reply) → named (codes "Via") ls ≡ named (codes "Via") ms → named (codes "From") ls ≡ named (codes "From") ms →
         named (codes "To") ls ≡ named (codes "To") ms → named (codes "Call-ID") ls ≡ named (codes "Call-ID") ms → named (codes "CSeq") ls ≡ named (codes "CSeq") ms →
         named (codes "Record-Route") ls ≡ named (codes "Record-Route") ms → response start ls r ≡ response start ms r }
 {}
 
-/// A response says of its request's private places those of From and To alone: without these it is the same of the message and of the masked one.
-/// And of two requests of equal masks, the one from an untrusted peer, the same responses are given: what such a peer sends has no private place.
+/// The only private places of its request that a response contains are those of From and To: where these are not private, the response to the message and to the masked one is
+/// the same. And two requests of equal masks, the one from an untrusted peer, get the same responses: what such a peer sends has no private place.
 pub fn masked_requests_are_answered_alike()
     ensures kept { (p : Places) (start : Start) (ls : List Line) (r : Reply) → p.from ≡ false → p.to ≡ false → response start (masked_lines p ls) r ≡ response start ls r }
     ensures strangers { (restricts : Restriction) (accounts others : List AccountIdentity) (m n : HeardMessage) (r : Reply) →
@@ -89,7 +89,7 @@ pub fn masked_requests_are_answered_alike()
     masks_leave_the_way();
 }
 
-/// Of two INVITEs of equal masks, with lists of History-Info that are masked alike, the INVITE of an attempt towards an untrusted peer is the same where the caller is
+/// For two INVITEs of equal masks, with lists of History-Info that are equal when masked, the INVITE of an attempt towards an untrusted peer is the same where the caller is
 /// restricted: its dialog, each line and the body.
 pub fn attempts_hide_their_caller()
     ensures aim { (restricts : Restriction) (accounts others : List AccountIdentity) (m n : HeardMessage) (peer : Peer) (routes : List (List ℕ)) →

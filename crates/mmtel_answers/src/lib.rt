@@ -1,5 +1,5 @@
-//! The messages that the server makes of those that it hears: responses of its own and relayed ones (RFC 3261 §8.2.6, §16.7), requests that relay one or none (§16.6), the
-//! INVITE of an attempt (§8.1.1), and what repeats an INVITE (§9.1, §17.1.1.3).
+//! The messages that the server makes of those that it receives: responses of its own and relayed ones (RFC 3261 §8.2.6, §16.7), requests that relay one or none (§16.6), the
+//! INVITE of an attempt (§8.1.1), and the CANCEL and ACK that copy fields of an INVITE (§9.1, §17.1.1.3).
 #![tactic(auto)]
 
 mod answers;

@@ -1,4 +1,4 @@
-//! Requests that relay one that was heard, or none; and what repeats an INVITE.
+//! Requests that relay a received one, or none; and those that copy fields of an INVITE.
 ghost use Rattle.std.specs.Prelude.{◌≡◌, IfOk, OnErr, OnOk};
 ghost use Rattle.mmtel_leg.specs.Dialogues.{after_request};
 ghost use Rattle.mmtel_leg.specs.Legs.{with_dialogue};
@@ -12,14 +12,14 @@ use mmtel_scan::{List, NoMemory, Text};
 use mmtel_types::{Addr, Side};
 use std::alloc::Global;
 
-/// What a request has that relays none, with these named lines and this body.
+/// The parts of a request that relays none, with these named lines and this body.
 pub fn bringing<'a>(sip: Addr, branch: &'a Text, named: &'a List<Line>, body: &'a [u8]) -> Parts<'a>
     ensures parts { result ≡ bringing sip branch.now named.now body.now }
 {
     Parts::of(sip, 70, branch, named, body)
 }
 
-/// What a request has that relays none and brings nothing.
+/// The parts of a request that relays none and has neither lines of its own nor a body.
 pub fn bare<'a>(sip: Addr, branch: &'a Text) -> Parts<'a>
     ensures parts { result ≡ bare sip branch.now }
 {
@@ -32,7 +32,7 @@ pub fn bare<'a>(sip: Addr, branch: &'a Text) -> Parts<'a>
     }
 }
 
-/// What a request has that relays this one, with these lines of it: one hop less, and its body (RFC 3261 §16.6).
+/// The parts of a request that relays this one, with these lines of it: one hop less, and its body (RFC 3261 §16.6).
 pub fn relaying<'a>(
     sip: Addr,
     branch: &'a Text,
@@ -54,7 +54,7 @@ pub fn relaying<'a>(
 ///
 /// # Errors
 ///
-/// Want of memory alone; the leg is then as before.
+/// Out of memory only; the leg is then as before.
 pub fn own_request<P>(
     alloc: Global,
     leg: &mut LegOf<P, Standing>,
@@ -75,7 +75,7 @@ pub fn own_request<P>(
 ///
 /// # Errors
 ///
-/// Want of memory alone; the leg is then as before.
+/// Out of memory only; the leg is then as before.
 pub fn relayed_request<P, S: InDialog>(
     alloc: Global,
     leg: &mut LegOf<P, S>,
@@ -104,7 +104,7 @@ pub fn relayed_request<P, S: InDialog>(
 ///
 /// # Errors
 ///
-/// Want of memory alone.
+/// Out of memory only.
 pub fn own_ack(
     alloc: Global,
     dialogue: &Dialogue,
@@ -120,7 +120,7 @@ pub fn own_ack(
 ///
 /// # Errors
 ///
-/// Want of memory alone.
+/// Out of memory only.
 pub fn relayed_ack<P>(
     alloc: Global,
     leg: &LegOf<P, Standing>,
@@ -145,7 +145,7 @@ pub fn relayed_ack<P>(
 ///
 /// # Errors
 ///
-/// Want of memory alone.
+/// Out of memory only.
 pub fn cancel(
     alloc: Global,
     dialogue: &Dialogue,
@@ -174,7 +174,7 @@ fn towards(dialogue: Dialogue, to: Text) -> Dialogue
 ///
 /// # Errors
 ///
-/// Want of memory alone.
+/// Out of memory only.
 pub fn final_ack(
     alloc: Global,
     dialogue: &Dialogue,

@@ -1,4 +1,4 @@
--- A leg that was taken out of a call has no meter, and fits into the call again, which stands where it stood.
+-- A leg that was detached from a call has no meter, and fits into the call again, which is unchanged otherwise.
 use Rattle.std.proofs.Common.{◌≡◌, ℕ, ◌+◌, Bool, true, List, Option, Some, None, Ok, Err, Result, length, refl, sym, ap, cond, not, ◌∙◌, ◌==◌}
 use Rattle.std.proofs.Math.Seq.{lt-length-set}
 use Rattle.std.proofs.lemmas.List.{length-set, get_or-set_same}
@@ -74,7 +74,7 @@ same_number (Stood x (Asking asking q)) side c = refl
 same_number (Lent loan) side c = refl
 same_number (Over cause) side c = refl
 
--- put back, or ended without it, it has its number too
+-- put back, or ended without it, the call has its number too
 pub number_back : (phase : Phase) (leg : Released) (c : Call) → (put_back_in phase leg c).opening.number.0 ≡ c.opening.number.0
 number_back (Offered x) leg c = refl
 number_back (Stood x stage) leg c = refl
@@ -91,7 +91,7 @@ pub number_ended : (site : Site) (at : ℕ) (c : Call) (desk : Desk) → (finish
 unfolding finished
 number_ended site at c desk = number_over c.phase site at c desk
 
--- whether it lives stays too
+-- whether it is live does not change either
 lives_lent : (phase : Phase) (side : Side) (c : Call) → c.phase ≡ phase → is_over_in (lent_in phase side c).phase ≡ is_over_in c.phase
 lives_lent (Offered x) side c h = refl
 lives_lent (Stood x (Answered waiting success)) side c h = refl
@@ -115,7 +115,7 @@ pub live_back : (away : Released) (e : Entry) → is_live (put_back away e) ≡ 
 unfolding is_live
 live_back away e = ap not (lives_back e.call.phase away e.call refl)
 
--- and whom it keeps busy
+-- nor do the accounts that it keeps busy
 origin_lent : (phase : Phase) (side : Side) (c : Call) → c.phase ≡ phase → origin_in (lent_in phase side c).phase (lent_in phase side c).opening.served.origin ≡ origin_in c.phase c.opening.served.origin
 origin_lent (Offered x) side c h = refl
 origin_lent (Stood x (Answered waiting success)) side c h = refl
@@ -202,7 +202,7 @@ no_meter side (Some e) leg h = taken_meter e.call.phase side leg h
 pub without_meter : (number : ℕ) (side : Side) (es : List Entry) (leg : Released) → leg_out number side es ≡ Some leg → (released_leg leg).meter ≡ None
 without_meter number side es leg h = no_meter side (entry_of number es) leg h
 
--- ---- as an outcome
+-- ---- as a result of the function
 
 pub fits_after : {E : Type 0} (number : ℕ) (side : Side) (es now : List Entry) (r : Result Released E) (Q : E → Type 0) → now ≡ released number side es → MatchResult r (λ leg. leg_out number side es ≡ Some leg) Q → IfOk r (λ leg. takes_back leg (entry_of number now) ≡ true)
 fits_after number side es now (Ok leg) Q e h = ap (λ xs. takes_back leg (entry_of number xs)) e ∙ fits_again number side es leg h

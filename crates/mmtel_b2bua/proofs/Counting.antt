@@ -1,4 +1,4 @@
--- Of each account the calls that keep it busy, through each change of the table; and how things stand for a call by these counts.
+-- For each account the number of calls that keep it busy, through each change of the table; and the state for a call according to these counts.
 use Rattle.std.proofs.Common.{◌≡◌, ℕ, zero, suc, ◌+◌, ◌<◌, ◌≤◌, ◌^◌, Bool, true, false, cond, List, [], ◌∷◌, ◌++◌, get_or, set, Option, Some, None, refl, sym, ap, ◌∙◌, subst, arith}
 use Rattle.std.proofs.Math.Seq.{lt-length-set}
 use Rattle.std.proofs.lemmas.Bool.Decides.{nat_tests}
@@ -71,7 +71,7 @@ module _ (n : ℕ) where
       ∙ ap (λ (m : ℕ). keeps_busy n e + m) (others_counted number es other.1)
       ∙ sym (sum_by-cons (keeps_busy n) e es)
 
--- ---- numbers of others
+-- ---- other numbers
 
 pub numbered : (number : ℕ) (e : Entry) → is_numbered number e ≡ (number_of e == number)
 unfolding is_numbered
@@ -142,9 +142,9 @@ module _ (n : ℕ) (es : List Entry) (k : ℕ) (e y : Entry) (is : slice_get es 
   left_counted true now is_now = let a = put in let b = gone_from in omega (arith, a, b, is_now)
   left_counted false now is_now = let a = put in omega (arith, a, is_now)
 
--- its accounts were taken out, and put in again where it stays
+-- its accounts were removed, and added again if it stays
 module _ (es : List Entry) (k : ℕ) (e y : Entry) (is : slice_get es k ≡ Some e) (gone : Bool) (before after : Counts) (counted : (n : ℕ) → calls_of before n ≡ sum_by (keeps_busy n) es) where
-  -- that of its attempt before the step, and that of its caller behind it
+  -- that of its attempt before the step, and that of its caller after it
   pub parted : (mid next : Counts) (served origin : Option Account) → served ≡ served_of e → origin ≡ origin_of e → ((n : ℕ) → calls_of mid n ≡ calls_of before n - often served n)
       → ((n : ℕ) → calls_of next n ≡ calls_of mid n + (if gone then 0 else keeps_busy n y)) → ((n : ℕ) → calls_of after n ≡ calls_of next n - often origin n)
       → (n : ℕ) → calls_of after n + keeps_busy n e ≡ sum_by (keeps_busy n) es + (if gone then 0 else keeps_busy n y)
@@ -166,7 +166,7 @@ module _ (es : List Entry) (k : ℕ) (e y : Entry) (is : slice_get es k ≡ Some
       let b = into n in
       omega (arith, f, h, a, b)
 
--- ---- a call more
+-- ---- one more call
 
 pub one_more : (n : ℕ) (es : List Entry) (e : Entry) (before after : ℕ) → before ≡ sum_by (keeps_busy n) es → after ≡ before + keeps_busy n e → after ≡ sum_by (keeps_busy n) (es ++ e ∷ [])
 one_more n es e before after counted more = more ∙ ap (λ (m : ℕ). m + keeps_busy n e) counted ∙ sym (sum_by_push (keeps_busy n) es e)
@@ -176,7 +176,7 @@ one_more n es e before after counted more = more ∙ ap (λ (m : ℕ). m + keeps
 pub live_counted : (es : List Entry) (counts : Counts) (n : ℕ) → calls_of counts n ≡ sum_by (keeps_busy n) es → live_of counts n ≡ live n es
 live_counted es counts n counted = ap (λ (m : ℕ). min m (2 ^ 32 - 1)) (counted ∙ sym (all_counted n es))
 
--- ---- how things stand by these counts
+-- ---- the state according to these counts
 
 -- functions that are equal everywhere are equal
 lives : (counts : Counts) (busy : List Account) → ((n : ℕ) → calls_of counts n ≡ count_by (is_account n) busy) → live_of counts ≡ calls_among busy
@@ -189,7 +189,7 @@ module _ (site : Site) (at : ℕ) (view : InForce) (counts : Counts) where
   stands : (busy : List Account) → ((n : ℕ) → calls_of counts n ≡ count_by (is_account n) busy) → by_counts ≡ standing at view busy
   stands busy same = ap (λ (f : ℕ → ℕ). let s : Standing = record { at = at; sheets = sheet_in view; ends = end_in view; live = f } in s) (lives counts busy same)
 
-  -- for the call at this place, where the account of its attempt was taken out
+  -- for the call at this index, where the account of its attempt was removed
   pub stepped : (es : List Entry) (high k : ℕ) (e : Entry) (before : Counts) (served : Option Account) → Ascend number_of 0 es high → slice_get es k ≡ Some e → ((n : ℕ) → calls_of before n ≡ sum_by (keeps_busy n) es)
       → served ≡ served_of e → ((n : ℕ) → calls_of counts n ≡ calls_of before n - often served n) → (heard : calls.Signal) (desk : Desk)
       → step site by_counts heard e.call desk ≡ step_of site at view (busy_beside (number_of e) es) heard desk e
@@ -201,7 +201,7 @@ module _ (site : Site) (at : ℕ) (view : InForce) (counts : Counts) where
       let b = out n ∙ ap (λ (o : Option Account). calls_of before n - often o n) its in
       omega (arith, own, h, b)))
 
-  -- for a call that is opened, where that of its caller was put in
+  -- for a call that is opened, where that of its caller was added
   pub begun : (es : List Entry) (high : ℕ) (arrival : Arrival) (before : Counts) → Ascend number_of 0 es high → high < arrival.number.0 → ((n : ℕ) → calls_of before n ≡ sum_by (keeps_busy n) es)
       → ((n : ℕ) → calls_of counts n ≡ calls_of before n + often arrival.served.origin n) → (desk : Desk) → opened site by_counts arrival desk ≡ open_of site at view (busy_with arrival es) arrival desk
   unfolding open_of

@@ -1,4 +1,4 @@
--- A call that a signal, a request or a transaction is of has the mark by which it is looked for.
+-- A call to which a signal, a request or a transaction belongs has the mark by which it is looked up.
 use Rattle.std.proofs.Common.{◌≡◌, ℕ, ◌+◌, Bool, true, false, List, [], ◌∷◌, ◌++◌, Option, Some, None, refl, sym, ap, arith, inl, inr, ◌⊎◌}
 use Rattle.std.proofs.lemmas.Bool.{and_parts, or_cases}
 use Rattle.std.proofs.lemmas.Bool.Decides.{nat_tests}
@@ -64,7 +64,7 @@ module _ (branch : List ℕ) where
         ])
       ]
 
--- a response that answers no INVITE is of no call
+-- a response to no INVITE belongs to no call
 none_of_all : (es : List Entry) → AllByRecursion (λ e. sent_it None e ≡ false) es
 unfolding sent_it
 none_of_all [] = tt
@@ -73,7 +73,7 @@ none_of_all (e ∷ es) = (refl, none_of_all es)
 pub none_sent : (es : List Entry) → None ≡ position (sent_it None) es
 none_sent es = none_found marks_of (sent_it None) es (none_of_all es)
 
--- ---- one that had its answer by this transaction
+-- ---- one that received its response in this transaction
 
 same_number : (a b : ℕ) → (a == b) ≡ true → b ≡ a
 same_number a b e = grind (arith, nat_tests)

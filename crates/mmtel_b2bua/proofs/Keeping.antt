@@ -1,4 +1,4 @@
--- The table of calls as it is kept, through each change: numbers ascend, and those that live are counted.
+-- The table of calls as it is kept, through each change: numbers ascend, and the live calls are counted.
 use Rattle.std.proofs.Common.{◌≡◌, ℕ, zero, suc, ◌+◌, ◌<◌, ◌≤◌, ◌^◌, Bool, true, false, not, cond, List, [], ◌∷◌, ◌++◌, length, get_or, set, Option, Some, None, refl, sym, ap, ◌∙◌, subst, arith, OnOk, IfOk, Result, Ok, Err, take, drop}
 use Rattle.std.proofs.lemmas.List.{drop-map, length-map, length-set, map-set, take_rest}
 use Rattle.std.proofs.lemmas.List.Sums.{count_by-le-length, sum_by-append, sum_by-cons, sum_by-set}
@@ -28,7 +28,7 @@ use Rattle.mmtel_b2bua.proofs.Counting.{left_counted, one_more}
 pub length_boxes : {X A : Type 0} (bs : List (Box X A)) → length (unboxed bs) ≡ length bs
 length_boxes bs = length-map bs (λ b. b.value)
 
--- the boxes from a place on
+-- the boxes from an index on
 pub rest_boxes : {X A : Type 0} (bs : List (Box X A)) (k : ℕ) → unboxed (take (length bs - k) (drop k bs)) ≡ drop k (unboxed bs)
 rest_boxes bs k = ap unboxed (take_rest bs k) ∙ sym (drop-map (λ b. b.value) k bs)
 
@@ -47,13 +47,13 @@ position_boxes p bs =
     ap (λ n. cond (nat_lt n (length bs)) (Some n) None) (placed_boxes p bs)
     ∙ ap (λ m. cond (nat_lt (position_or_len p (unboxed bs)) m) (Some (position_or_len p (unboxed bs))) None) (sym (length-map bs (λ b. b.value)))
 
--- ---- numbers that ascend: what holds of all owners of marks is of `mmtel_desk`
+-- ---- numbers that ascend: what holds for all owners of marks is in `mmtel_desk`
 
 raised : (low high higher : ℕ) (es : List Entry) → high ≤ higher → Ascend number_of low es high → Ascend number_of low es higher
 raised low high higher [] e a = omega arith
 raised low high higher (x ∷ es) e a = (a.0, raised (number_of x) high higher es e a.1)
 
--- a call that is changed first leaves the same others
+-- where a call is changed before it is removed, the same others remain
 set_away : (es : List Entry) (k : ℕ) (y : Entry) → remove es k ≡ remove (set es k y) k
 set_away [] zero y = refl
 set_away [] (suc k) y = refl
@@ -82,7 +82,7 @@ module _ {A : Type 0} where
   below_boxes n zero (b ∷ bs) all = tt
   below_boxes n (suc k) (b ∷ bs) all = (all.0, below_boxes n k bs all.1)
 
--- ---- so many live
+-- ---- the number of live calls
 
 counted_cons : (x : Entry) (es : List Entry) → count_by is_live (x ∷ es) ≡ one_if (is_live x) + count_by is_live es
 counted_cons x es = sum_by-cons (λ (z : Entry). one_if (is_live z)) x es
@@ -132,7 +132,7 @@ module _ (es : List Entry) (opened alive : ℕ) (i : Index) (busy : Counts) (k :
       length_removed (x ∷ xs) (suc k) = let h = length_removed xs k in omega (arith, h)
   length_left false = let b = length-set es k y in omega (arith, b)
 
-  -- and there is room to count it again
+  -- and the counter can hold it again
   pub has_room : (gone : Bool) → length es < 2 ^ 64 → alive + one_if (lives_on gone y) < 2 ^ 64 + one_if (is_live e)
   has_room gone l =
       let h = counted_left gone in
@@ -140,7 +140,7 @@ module _ (es : List Entry) (opened alive : ℕ) (i : Index) (busy : Counts) (k :
       let f = length_left gone in
       omega (arith, h, g, f, l)
 
-  -- its marks and its accounts were taken out, and put in again where it stays
+  -- its marks and its accounts were removed, and added again if it stays
   pub left_kept : (gone : Bool) (after : ℕ) (mid j : Index) (now : Counts) → Written false (number_of e) (marks_of e) i mid → Written (not gone) (number_of e) (marks_of y) mid j
       → (gone ≡ false → number_of y ≡ number_of e) → after + one_if (is_live e) ≡ alive + one_if (lives_on gone y)
       → ((n : ℕ) → calls_of now n + keeps_busy n e ≡ sum_by (keeps_busy n) es + (if gone then 0 else keeps_busy n y)) → AreKept (left gone es k y) opened after j now
@@ -160,9 +160,9 @@ module _ (es : List Entry) (opened alive : ℕ) (i : Index) (busy : Counts) (k :
       marked_left false s noted =
           set_marked number_of marks_of (number_of e) i j pass 0 opened es k e y refl are.ascend is (subst (λ (n : ℕ). HoldsAll j n (marks_of y)) (sym (s refl)) (noted refl)) are.marked
 
--- ---- a call more
+-- ---- one more call
 
--- its marks are put in first, and its accounts too, where they are not taken out again
+-- its marks are inserted first, and its accounts too, unless they are removed again
 pub noted_kept : (es : List Entry) (opened alive : ℕ) (i j : Index) (busy now : Counts) (e : Entry) → AreKept es opened alive i busy → Written true (number_of e) (marks_of e) i j
     → ((n : ℕ) → calls_of now n ≡ calls_of busy n) → AreKept es opened alive j now
 noted_kept es opened alive i j busy now e are into same = record {
@@ -202,7 +202,7 @@ module _ (es : List Entry) (opened alive : ℕ) (i : Index) (busy : Counts) (e :
     counts = λ n. one_more n es e (calls_of busy n) (calls_of now n) (are.counts n) (more n);
   }
 
--- ---- the box at a place
+-- ---- the box at an index
 
 module _ {A : Type 0} (bs : List (Box Entry A)) (k : ℕ) where
   pub stands_at : (b : Box Entry A) (e : Entry) → k < length (unboxed bs) → b ≡ get_or bs k b → e ≡ b.value → slice_get (unboxed bs) k ≡ Some e
@@ -217,7 +217,7 @@ module _ {A : Type 0} (bs : List (Box Entry A)) (k : ℕ) where
   pub set_boxes : (b : Box Entry A) → unboxed (set bs k b) ≡ set (unboxed bs) k b.value
   set_boxes b = map-set (λ (x : Box Entry A). x.value) bs k b
 
--- ---- what a step does
+-- ---- the effect of a step
 
 pub not_gone : (heard : Result Bool NoMemory) (P : Type 0) → OnOk heard P → is_gone heard ≡ false → P
 not_gone (Ok settled) P p e = p
@@ -226,7 +226,7 @@ not_gone (Err fault) P p e = absurd (let f : true ≡ false = e in cc)
 pub recount : (r alive : ℕ) (b a p q : Bool) → b ≡ p → a ≡ q → r + one_if b ≡ alive + one_if a → r + one_if p ≡ alive + one_if q
 recount r alive b a p q e f h = sym (ap (λ (x : Bool). r + one_if x) e) ∙ (h ∙ ap (λ (x : Bool). alive + one_if x) f)
 
--- what was so of the step is so of it, counted again
+-- what held of the step still holds after the accounts were counted again
 pub still_on : (P : Type 0) (heard counted : Result Bool NoMemory) → IfOk counted (λ settled. heard ≡ Ok settled) → OnOk heard P → OnOk counted P
 still_on P heard (Ok settled) e p = subst (λ (r : Result Bool NoMemory). OnOk r P) e p
 still_on P heard (Err fault) e p = tt
@@ -241,7 +241,7 @@ pub left_put : (heard : Result Bool NoMemory) (gone : Bool) → gone ≡ is_gone
 left_put (Ok settled) gone g es k y z same is = ap (λ (b : Bool). left b es k y) (g ∙ is) ∙ ap (λ (x : Entry). left (is_settled z.call) es k x) same
 left_put (Err fault) gone g es k y z same is = tt
 
--- the table once its calls are these, as they come of the call at a place
+-- the table after its calls are these, as they result from the call at an index
 pub table_after : (t now : Table) → t ≡ now → (k : ℕ) (e : Entry) → slice_get t.entries k ≡ Some e → (G : Option Entry → List Entry → List Entry) (es : List Entry) → es ≡ G (Some e) t.entries
     → (let n : Table = record t { entries = es } in n) ≡ (let n : Table = record now { entries = G (slice_get now.entries k) now.entries } in n)
 table_after t now same k e is G es made =
@@ -249,7 +249,7 @@ table_after t now same k e is G es made =
     ∙ ap (λ (xs : List Entry). let n : Table = record now { entries = xs } in n)
     (made ∙ (ap (λ (o : Option Entry). G o t.entries) (sym is) ∙ ap (λ (x : Table). G (slice_get x.entries k) x.entries) same))
 
--- the same of what is said of them both
+-- the same of a claim on both
 pub said_after : {D : Type 0} (t now : Table) → t ≡ now → (k : ℕ) (e : Entry) → slice_get t.entries k ≡ Some e → (G : Option Entry → List Entry → D) → G (Some e) t.entries ≡ G (slice_get now.entries k) now.entries
 said_after t now same k e is G = ap (λ (o : Option Entry). G o t.entries) (sym is) ∙ ap (λ (x : Table). G (slice_get x.entries k) x.entries) same
 

@@ -1,4 +1,4 @@
--- What comes of a signal is what comes of the parts of its meaning.
+-- The result on a signal is the result of the parts of its meaning.
 use Rattle.std.proofs.Common.{◌≡◌, ◌<◌, ◌∷◌, [], ℕ, Bool, true, false, List, Some, length, position, refl, subst, sym}
 use Rattle.std.proofs.lemmas.List.Quantifiers.{position-Some}
 use Rattle.std.proofs.lemmas.Option.{none-some}
@@ -29,7 +29,7 @@ taken_by_meaning site at view number (signal.Silent branch method) es desk = ref
 taken_by_meaning site at view number (signal.Due call what) es desk = refl
 taken_by_meaning site at view number (signal.Over key) es desk = refl
 
--- ---- the place is one of the calls
+-- ---- the index is one of the calls
 
 within : (p : Entry → Bool) (es : List Entry) (n : ℕ) → position p es ≡ Some n → n < length es
 within p [] n is = absurd (none-some n is)
@@ -45,7 +45,7 @@ place_within (signal.Silent branch method) es n is = within (sent_it (invite_sil
 place_within (signal.Due call what) es n is = within (is_numbered call.0) es n is
 place_within (signal.Over key) es n is = within (heard_by key) es n is
 
--- ---- what opens a call, and what one hears
+-- ---- what opens a call, and what one receives
 
 abbrev IsOf : ℕ → Signal → Meaning → Type 0
 IsOf number s (Opens a) = (a.number.0 ≡ number) × (is_opening s ≡ true)

@@ -1,4 +1,4 @@
--- A call that opens has the number that it was given.
+-- A call that opens has the number that was passed to it.
 use Rattle.std.proofs.Common.{◌≡◌, [], ap}
 use Rattle.mmtel_desk.specs.declared.desks.Desk.{Desk}
 use Rattle.mmtel_precedence.specs.Calls.{Standing}

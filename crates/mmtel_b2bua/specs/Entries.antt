@@ -1,4 +1,4 @@
--- A call as it stands in the table of calls: whether it stays there, whose a signal is, and whom it keeps busy.
+-- A call in the table of calls: whether it stays there, to which call a signal belongs, and which accounts a call keeps busy.
 use Rattle.std.specs.Prelude.{ℕ, ◌==◌, not, Bool, false, if◌then◌else◌, Option, Some, None, List, [], ◌∷◌, ◌++◌, flat_map, option_to_list}
 use Rattle.std.specs.Option.{option_map}
 use Rattle.mmtel_call.specs.declared.calls.Phase.TheVariants.{Lent, Offered, Over, Stood}
@@ -9,32 +9,32 @@ use Rattle.mmtel_transaction.specs.declared.words.TKey.{TKey}
 use Rattle.mmtel_types.specs.declared.numbers.Account.{Account}
 use Rattle.mmtel_b2bua.specs.declared.entries.Entry.{Entry}
 
--- ---- which calls live, and which stay
+-- ---- which calls are live, and which stay
 
--- it is not over
+-- whether it is not over
 unfoldable pub is_live : Entry → Bool
 is_live e = not (is_over_in e.call.phase)
 
--- what stays of it: a call that is over stays as long as an INVITE of it may be heard of
+-- what stays of it: a call that is over stays as long as something may still be received for an INVITE of it
 abbrev pub kept : Entry → List Entry
 kept e = if is_settled e.call then [] else e ∷ []
 
--- ---- whose a signal is
+-- ---- to which call a signal belongs
 
--- the call has this number
+-- whether the call has this number
 unfoldable pub is_numbered : ℕ → Entry → Bool
 is_numbered number e = e.call.opening.number.0 == number
 
--- a request of it whose answer may come has this branch: an INVITE, or a PRACK or UPDATE that is in flight
+-- whether a request of it to which a response may still be received has this branch: an INVITE, or a PRACK or UPDATE that is in flight
 unfoldable pub sent_it : (branch : Option (List ℕ)) → Entry → Bool
 sent_it None e = false
 sent_it (Some branch) e = has_sent branch e.call
 
--- an INVITE of it had its answer by this client transaction
+-- whether an INVITE of it received its response in this client transaction
 unfoldable pub heard_by : TKey → Entry → Bool
 heard_by key e = has_heard key e.call
 
--- ---- whom it keeps busy, as long as it is not over: the account that is served as its caller, and that of its current attempt
+-- ---- the accounts that it keeps busy, as long as it is not over: the account that is served as its caller, and that of its current attempt
 
 abbrev pub origin_in : Phase → (origin : Option Account) → Option Account
 origin_in (Offered x) origin = origin
@@ -57,7 +57,7 @@ served_of e = served_in e.call.phase
 unfoldable pub accounts_of : Entry → List Account
 accounts_of e = option_to_list (origin_of e) ++ option_to_list (served_of e)
 
--- as a step of the call of this number sees it: of that call the caller's account alone
+-- the same, as a step of the call of this number sees it: of that call the caller's account alone
 unfoldable pub beside : ℕ → Entry → List Account
 beside number e = if is_numbered number e then option_to_list (origin_of e) else accounts_of e
 

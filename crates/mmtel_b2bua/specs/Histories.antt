@@ -1,4 +1,4 @@
--- A table of calls and all that was done on it. What a table is after deeds is told from the list of the deeds alone.
+-- A table of calls and all operations on it. The table after some operations is determined by the list of these operations alone.
 use Rattle.std.specs.Prelude.{ℕ, ◌≡◌, Bool, false, List, [], ◌∷◌, Option, drop}
 use Rattle.mmtel_call_decisions.specs.Site.{Site}
 use Rattle.mmtel_desk.specs.Desks.{fresh}
@@ -15,30 +15,30 @@ use Rattle.mmtel_b2bua.specs.Tables.{Moved, Table, no_calls, opened_after, taken
 use Rattle.mmtel_scan.specs.Numbers.{next_number}
 use Rattle.mmtel_b2bua.specs.declared.signals.Signal.{Signal}
 
--- what was heard: the moment, the records in force and the registrations, the tokens that were drawn before, and the signal
+-- what was received: the moment, the records in force and the registrations, the tokens that were drawn before, and the signal
 pub record Heard : Type 0 where
   pub at : ℕ
   pub view : InForce
   pub tokens : Drawn
   pub signal : Signal
 
--- what is done on a table of calls
+-- an operation on a table of calls
 pub data Deed : Type 0 where
-  -- a signal was heard
+  -- a signal was received
   Hears : (heard : Heard) → Deed
-  -- a leg of the call of this number was taken out, or put back
+  -- a leg of the call of this number was detached, or put back
   Releases : (number : ℕ) → (side : Side) → Deed
   Restores : (number : ℕ) → (away : Released) → Deed
-  -- that call was ended without it
+  -- that call was ended without the leg
   Finishes : (number at : ℕ) → (tokens : Drawn) → Deed
-  -- so many rows were handed over
+  -- this many CDRs were handed over
   Drops : (count : ℕ) → Deed
 
--- what a signal brings forth
+-- the table and the output after a signal
 abbrev pub heard_by : Site → Heard → Table → Moved
 heard_by site x table = taken site x.at x.view (next_number table.opened) x.signal table.entries (fresh x.tokens)
 
--- and what the end of a call without its leg brings forth
+-- the table and the output after the end of a call without its leg
 abbrev pub finished_by : Site → (number at : ℕ) → Drawn → Table → Moved
 finished_by site number at tokens table = ended site at number table.entries (fresh tokens)
 
@@ -49,7 +49,7 @@ did site (Restores number away) table = record table { entries = restored number
 did site (Finishes number at tokens) table = with_moved (finished_by site number at tokens table) table.opened table
 did site (Drops count) table = record table { rows = drop count table.rows }
 
--- the table after these deeds, the newest first
+-- the table after these operations, the newest first
 abbrev pub table_after : Site → List Deed → Table
 table_after site [] = no_calls
 table_after site (deed ∷ deeds) = did site deed (table_after site deeds)
@@ -65,10 +65,10 @@ pub record CallsView : Type 0 where
   pub timer : Bool
   pub mwi : Bool
   pub table : Table
-  -- memory was wanted in a step
+  -- whether memory ran out in a step
   pub has_failed : Bool
 
--- its configuration, with the peers and the accounts that each call on it is given
+-- its configuration, with the peers and the accounts that are the input of each call on it
 abbrev pub site_of : CallsView → Peers → List AccountIdentity → Site
 site_of calls peers accounts = record {
   sip = calls.sip;
@@ -82,16 +82,16 @@ site_of calls peers accounts = record {
   accounts = accounts;
 }
 
--- it stands for these deeds
+-- the value represents the table after these operations
 pub record Stands (peers : Peers) (accounts : List AccountIdentity) (calls : CallsView) (deeds : List Deed) : Type 0 where
   pub table : calls.table ≡ table_after (site_of calls peers accounts) deeds
   pub works : calls.has_failed ≡ false
 
--- what a signal brings forth, where these deeds were done before
+-- the table and the output after a signal, where these operations were done before
 abbrev pub hears_after : Site → List Deed → Heard → Moved
 hears_after site deeds x = heard_by site x (table_after site deeds)
 
--- the calls after a signal, and what it brings forth
+-- the calls after a signal, and the output of that step
 abbrev pub after_hearing : Peers → List AccountIdentity → Heard → CallsView → CallsView
 after_hearing peers accounts x calls =
     record calls { table = with_moved (heard_by (site_of calls peers accounts) x calls.table) (opened_after x.signal calls.table.opened) calls.table }
@@ -99,7 +99,7 @@ after_hearing peers accounts x calls =
 abbrev pub brought_forth : Peers → List AccountIdentity → Heard → CallsView → Desk
 brought_forth peers accounts x calls = (heard_by (site_of calls peers accounts) x calls.table).desk
 
--- and after the end of a call without its leg
+-- the calls after the end of a call without its leg
 abbrev pub after_finishing : Peers → List AccountIdentity → (number at : ℕ) → Drawn → CallsView → CallsView
 after_finishing peers accounts number at tokens calls =
     record calls { table = with_moved (finished_by (site_of calls peers accounts) number at tokens calls.table) calls.table.opened calls.table }

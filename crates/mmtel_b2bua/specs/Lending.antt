@@ -1,4 +1,4 @@
--- A leg of a talking call of the table is taken out, put back, or the call ends without it.
+-- A leg of a stable call of the table is detached, put back, or the call ends without it.
 use Rattle.std.specs.Prelude.{ℕ, Bool, false, Option, Some, None, List, [], position, slice_get, slice_set}
 use Rattle.mmtel_call_decisions.specs.Site.{Site}
 use Rattle.mmtel_call.specs.Closing.{Step}
@@ -10,7 +10,7 @@ use Rattle.mmtel_b2bua.specs.Entries.{is_numbered}
 use Rattle.mmtel_b2bua.specs.Tables.{Moved, moved_by, unmoved}
 use Rattle.mmtel_b2bua.specs.declared.entries.Entry.{Entry}
 
--- the place of the call of a number, and the call
+-- the index of the call of a number, and the call
 abbrev pub place_of : ℕ → List Entry → Option ℕ
 place_of number es = position (is_numbered number) es
 
@@ -21,13 +21,13 @@ entry_at (Some place) es = slice_get es place
 abbrev pub entry_of : ℕ → List Entry → Option Entry
 entry_of number es = entry_at (place_of number es) es
 
--- ---- taken out
+-- ---- detached
 
 abbrev pub leg_of_entry : Side → Option Entry → Option Released
 leg_of_entry side None = None
 leg_of_entry side (Some e) = taken_out_in e.call.phase side
 
--- the leg, where the call of this number talks
+-- the leg, if the call of this number is stable
 abbrev pub leg_out : ℕ → Side → List Entry → Option Released
 leg_out number side es = leg_of_entry side (entry_of number es)
 
@@ -79,7 +79,7 @@ ended site at number es desk = ended_by site at (place_of number es) es desk
 
 -- ---- when that may be done
 
--- the leg is of the side that is away
+-- whether the leg is of the side that is detached
 abbrev pub takes_back : Released → Option Entry → Bool
 takes_back away None = false
 takes_back away (Some e) = fits_in e.call.phase away

@@ -1,4 +1,4 @@
--- What public clauses cite: calls in a table, whose a signal is, the table after each deed, and what is asked of it.
+-- What public clauses cite: calls in a table, to which call a signal belongs, the table after each operation, and the queries on it.
 pub mod Entries
 pub mod Tables
 pub mod Lending

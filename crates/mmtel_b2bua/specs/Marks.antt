@@ -1,5 +1,5 @@
--- By what a call is found without asking each: numbers told from the branches of its requests whose answers it waits for and from the server's tags of its dialogs, and the
--- transactions of its INVITEs.
+-- The keys by which a call is found without examining each one: numbers computed from the branches of its requests to which a response may still be received and from the server's
+-- tags of its dialogs, and the transactions of its INVITEs.
 use Rattle.std.specs.Prelude.{Bool, if◌then◌else◌, Option, Some, None, List, [], ◌∷◌, ◌++◌, flat_map}
 use Rattle.mmtel_call.specs.declared.calls.Flight.{Flight}
 use Rattle.mmtel_call.specs.declared.calls.Phase.TheVariants.{Lent, Offered, Over, Stood}
@@ -22,7 +22,7 @@ abbrev pub heard_marks : Option TKey → List Mark
 heard_marks None = []
 heard_marks (Some key) = Heard key.0 ∷ []
 
--- of an INVITE that was left, or had a 2xx
+-- of an INVITE that was abandoned, or had a 2xx
 abbrev pub invitation_marks : Invitation → List Mark
 invitation_marks i = Sent (told_of i.branch) ∷ heard_marks i.key
 
@@ -32,16 +32,16 @@ loose_marks l = invitation_marks l.invitation
 abbrev pub taken_marks : Taken → List Mark
 taken_marks t = invitation_marks t.invitation
 
--- of what is in flight
+-- of a request in flight
 abbrev pub flight_marks : Flight → List Mark
 flight_marks f = Sent (told_of f.asked.invitation.branch) ∷ []
 
--- of the one that the call waits on
+-- of the INVITE for which the call waits
 abbrev pub waiting_marks : Option Invitation → List Mark
 waiting_marks None = []
 waiting_marks (Some i) = Sent (told_of i.branch) ∷ []
 
--- of those that its sides sent
+-- of the INVITEs that its sides sent
 abbrev pub invite_marks : InviteKey → List Mark
 invite_marks invite = Asked invite.key.0 ∷ []
 

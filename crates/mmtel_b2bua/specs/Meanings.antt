@@ -1,4 +1,4 @@
--- A signal parted into the place of the call that it is of, the INVITE that this has more, and what it hears.
+-- A signal split into the index of the call to which it belongs, the INVITE that this call gets in addition, and the signal for that call.
 use Rattle.std.specs.Prelude.{ℕ, Option, None, List, [], position}
 use Rattle.mmtel_call_decisions.specs.Site.{Site}
 use Rattle.mmtel_call.specs.declared.signals.Signal.TheVariants as of_call
@@ -14,7 +14,7 @@ use Rattle.mmtel_b2bua.specs.declared.moves.Meaning.TheVariants.{Hears, Opens}
 use Rattle.mmtel_b2bua.specs.declared.signals.Signal.{Signal}
 use Rattle.mmtel_b2bua.specs.declared.signals.Signal.TheVariants as signal
 
--- the place of the call that it is of
+-- the index of the call to which it belongs
 abbrev pub place_of : Signal → List Entry → Option ℕ
 place_of (signal.Arrived key invite served registration identities) es = None
 place_of (signal.Request call side key request) es = position (is_numbered call.0) es
@@ -25,7 +25,7 @@ place_of (signal.Silent branch method) es = position (sent_it (invite_silent bra
 place_of (signal.Due call what) es = position (is_numbered call.0) es
 place_of (signal.Over key) es = position (heard_by key) es
 
--- the INVITE that the call has more
+-- the INVITE that the call gets in addition
 abbrev pub invites_of : Signal → List InviteKey
 invites_of (signal.Arrived key invite served registration identities) = []
 invites_of (signal.Request call side key request) = invites_by side key request
@@ -36,7 +36,7 @@ invites_of (signal.Silent branch method) = []
 invites_of (signal.Due call what) = []
 invites_of (signal.Over key) = []
 
--- what the call hears; or what opens one, with this number
+-- the signal that the call receives; or what opens a call, with this number
 abbrev pub meaning_of : (number : ℕ) → Signal → Meaning
 meaning_of number (signal.Arrived key invite served registration identities) =
     Opens (record { number = record { 0 = number }; key = key; invite = invite; served = served; registration = registration; identities = identities })
@@ -48,7 +48,7 @@ meaning_of number (signal.Silent branch method) = Hears (of_call.Silent branch m
 meaning_of number (signal.Due call what) = Hears (of_call.Due what)
 meaning_of number (signal.Over key) = Hears (of_call.Ended key)
 
--- what comes of a signal that is parted so
+-- the calls and the output after a signal that is split in this way
 abbrev pub after_meaning : Site → (at : ℕ) → InForce → Meaning → (invites : List InviteKey) → Option ℕ → List Entry → Desk → Moved
 after_meaning site at view (Opens arrival) invites place es desk = arrived site at view arrival es desk
 after_meaning site at view (Hears heard) invites place es desk = moved_in site at view heard invites place es desk

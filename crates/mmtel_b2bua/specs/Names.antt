@@ -1,5 +1,5 @@
--- What is asked of the table of calls: whose dialog a request names (RFC 3261 §12.2.2), whose INVITE opened a server transaction (§9.2), who a side is, and how many calls
--- an account has.
+-- Queries on the table of calls: to which dialog a request belongs (RFC 3261 §12.2.2), of which call an INVITE opened a server transaction (§9.2), the peer and the account of a
+-- side, and how many calls an account has.
 use Rattle.std.specs.Prelude.{ℕ, ◌==◌, ◌&&◌, Bool, if◌then◌else◌, Option, Some, None, List, flat_map, is_some, position, slice_get}
 use Rattle.std.specs.Option.{option_map}
 use Rattle.mmtel_call_decisions.specs.Site.{calls_among}
@@ -38,19 +38,19 @@ side_of side_in (Some e) = option_map (sided e) (side_in e)
 abbrev pub first_side : (side_in : Entry → Option Side) → List Entry → Option (CallNo × Side)
 first_side side_in es = side_of side_in (entry_at (position (has_side side_in) es) es)
 
--- ---- dialogs, by Call-ID, the server's tag and the other side's
+-- ---- dialogs, by Call-ID, the server's tag and the other side's tag
 
 abbrev pub side_by : (caller callee : Bool) → Option Side
 side_by caller callee = if caller then Some Caller else if callee then Some Callee else None
 
--- the caller's dialog stands from the opening on, that of a target from its first response with a tag
+-- the caller's dialog is confirmed from the opening on, that of a target exists from its first response with a tag
 abbrev pub named_offered : (call_id local remote : List ℕ) → Trial → Option Side
 named_offered call_id local remote x = side_by (has_name call_id local remote x.caller.dialogue) (x.callee.is_early && has_name call_id local remote x.callee.leg.dialogue)
 
 abbrev pub named_stood : (call_id local remote : List ℕ) → Pair → Option Side
 named_stood call_id local remote x = side_by (has_name call_id local remote x.caller.dialogue) (has_name call_id local remote x.callee.dialogue)
 
--- a leg that is away has no dialog here
+-- a detached leg has no dialog here
 abbrev pub named_left : (call_id local remote : List ℕ) → Released → Option Side
 named_left call_id local remote (released.Caller leg) = if has_name call_id local remote leg.dialogue then Some Caller else None
 named_left call_id local remote (released.Callee leg) = if has_name call_id local remote leg.dialogue then Some Callee else None
@@ -80,7 +80,7 @@ side_at (Some place) invites = side_of_invite (slice_get invites place)
 abbrev pub side_that_asked : TKey → List InviteKey → Option Side
 side_that_asked key invites = side_at (position (is_key key) invites) invites
 
--- of a call that lives
+-- of a live call
 unfoldable pub side_asking : TKey → Entry → Option Side
 side_asking key e = if is_live e then side_that_asked key e.invites else None
 
@@ -114,7 +114,7 @@ party_of side (Some e) = party_in e.call.opening.served.origin side e.call.phase
 abbrev pub party : ℕ → Side → List Entry → Option (Peer × Option Account)
 party number side es = party_of side (entry_of number es)
 
--- ---- how many calls an account has: once for each that it makes, and once for each that is offered to it or that it answered
+-- ---- how many calls an account has: one for each that it makes, and one for each that is offered to it or that it answered
 
 abbrev pub live : ℕ → List Entry → ℕ
 live account es = calls_among (flat_map accounts_of es) account

@@ -1,4 +1,4 @@
--- The table of calls: a signal is of one call, which takes its step; an INVITE opens a call.
+-- The table of calls: a signal belongs to one call, which takes its step; an INVITE opens a call.
 use Rattle.std.specs.Prelude.{ℕ, nat_le, Bool, true, false, if◌then◌else◌, Option, Some, None, List, [], ◌∷◌, ◌++◌, count_by, option_to_list, position, remove, slice_get}
 use Rattle.std.specs.Prelude.{slice_set}
 use Rattle.mmtel_answers.specs.Said.{Said}
@@ -28,25 +28,25 @@ use Rattle.mmtel_b2bua.specs.declared.signals.Signal.{Signal}
 use Rattle.mmtel_b2bua.specs.declared.signals.Signal.TheVariants as signal
 
 pub record Table : Type 0 where
-  -- the calls of which something may still be heard, in the order in which they were opened
+  -- the calls for which something may still be received, in the order in which they were opened
   pub entries : List Entry
   -- the number of the call that was opened last
   pub opened : ℕ
-  -- the rows that were closed, and wait
+  -- the CDRs that were closed and not yet handed over
   pub rows : List Row
 
 abbrev pub no_calls : Table
 no_calls = record { entries = []; opened = 0; rows = [] }
 
--- ---- how things stand
+-- ---- the current state
 
--- at a moment, for a call that keeps this account busy beside the others: the records in force, the registrations, and whom the calls keep busy
+-- at a moment, for a call that keeps these accounts busy beside the others: the records in force, the registrations, and the accounts that the calls keep busy
 abbrev pub standing : (at : ℕ) → InForce → (busy : List Account) → Standing
 standing at view busy = record { at = at; sheets = sheet_in view; ends = end_in view; live = calls_among busy }
 
 -- ---- a signal of a call
 
--- the calls after a signal, and what the step brought forth
+-- the calls after a signal, and the output of the step
 pub record Moved : Type 0 where
   pub entries : List Entry
   pub desk : Desk
@@ -54,21 +54,21 @@ pub record Moved : Type 0 where
 abbrev pub unmoved : List Entry → Desk → Moved
 unmoved es desk = record { entries = es; desk = desk }
 
--- what comes of the step of a call
+-- the call and the output after the step of a call
 unfoldable pub step_of : Site → (at : ℕ) → InForce → (busy : List Account) → calls.Signal → Desk → Entry → Step
 step_of site at view busy heard desk e = step site (standing at view busy) heard e.call desk
 
 abbrev pub entry_after : (invites : List InviteKey) → Step → Entry → Entry
 entry_after invites s e = record { call = s.call; invites = e.invites ++ invites }
 
--- the call at this place stands so now, and leaves the table once nothing may be heard of it
+-- the call at this index is replaced by this one, and leaves the table once nothing more may be received for it
 abbrev pub put_at : (place : ℕ) → Entry → List Entry → List Entry
 put_at place e es = if is_settled e.call then remove (slice_set es place e) place else slice_set es place e
 
 abbrev pub moved_by : (place : ℕ) → (invites : List InviteKey) → Entry → Step → List Entry → Moved
 moved_by place invites e s es = record { entries = put_at place (entry_after invites s e) es; desk = s.desk }
 
--- the call at this place takes the step, and has these INVITEs more
+-- the call at this index takes the step, and gets these INVITEs in addition
 abbrev pub moved_at : Site → (at : ℕ) → InForce → calls.Signal → (invites : List InviteKey) → (place : ℕ) → Option Entry → List Entry → Desk → Moved
 moved_at site at view heard invites place None es desk = unmoved es desk
 moved_at site at view heard invites place (Some e) es desk = moved_by place invites e (step_of site at view (busy_beside e.call.opening.number.0 es) heard desk e) es
@@ -77,13 +77,13 @@ abbrev pub moved_in : Site → (at : ℕ) → InForce → calls.Signal → (invi
 moved_in site at view heard invites None es desk = unmoved es desk
 moved_in site at view heard invites (Some place) es desk = moved_at site at view heard invites place (slice_get es place) es desk
 
--- the first call that passes takes it, if one does
+-- the first call that satisfies the predicate takes it, if there is one
 abbrev pub heard : Site → (at : ℕ) → InForce → (whose : Entry → Bool) → calls.Signal → (invites : List InviteKey) → List Entry → Desk → Moved
 heard site at view whose s invites es desk = moved_in site at view s invites (position whose es) es desk
 
 -- ---- an INVITE that opens a call
 
--- whom the calls keep busy, where this one is opened
+-- the accounts that the calls keep busy, where this one is opened
 abbrev pub busy_with : Arrival → List Entry → List Account
 busy_with a es = option_to_list a.served.origin ++ busy_beside a.number.0 es
 
@@ -102,11 +102,11 @@ arrived site at view a es desk = opened_by a.key (open_of site at view (busy_wit
 
 -- ---- any signal
 
--- the server transaction of a request, if that is an INVITE
+-- the server transaction of a request, if the request is an INVITE
 abbrev pub invites_by : Side → TKey → Said → List InviteKey
 invites_by side key m = if is_invite m then record { key = key; side = side } ∷ [] else []
 
--- where a call that is opened has this number
+-- where a call that is opened gets this number
 unfoldable pub taken : Site → (at : ℕ) → InForce → (number : ℕ) → Signal → List Entry → Desk → Moved
 taken site at view number (signal.Arrived key invite served registration identities) es desk =
     arrived site at view (record { number = record { 0 = number }; key = key; invite = invite; served = served; registration = registration; identities = identities }) es desk
@@ -133,13 +133,13 @@ is_opening (signal.Over key) = false
 abbrev pub opened_after : Signal → ℕ → ℕ
 opened_after s n = if is_opening s then next_number n else n
 
--- the table after calls moved: the rows that were closed wait with the others
+-- the table after such a step: the CDRs that were closed are added to those that wait
 abbrev pub with_moved : Moved → (opened : ℕ) → Table → Table
 with_moved moved opened table = record { entries = moved.entries; opened = opened; rows = table.rows ++ moved.desk.rows }
 
 -- ---- too many calls
 
--- so many may live at once
+-- this many may be live at once
 abbrev pub most_calls : ℕ
 most_calls = 4096
 

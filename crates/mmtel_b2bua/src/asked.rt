@@ -1,4 +1,4 @@
-//! What is asked of the calls: whose dialog a request names, whose INVITE opened a server transaction, and who a side is.
+//! Queries on the calls: to which dialog a request belongs, of which call an INVITE opened a server transaction, and the peer and the account of a side.
 ghost use Rattle.std.specs.Prelude.{◌≡◌, Some, position};
 ghost use Rattle.std.specs.Option.{option_map};
 ghost use Rattle.mmtel_b2bua.specs.Names.{first_side, has_side, is_key, named_left, named_offered, named_stood, party, party_left, party_of, party_offered};
@@ -13,7 +13,7 @@ use mmtel_leg::{DialogName, Released};
 use mmtel_transaction::{TKey, told};
 use mmtel_types::{Account, CallNo, Peer, Side};
 
-/// The side of a call that is offered whose dialog has this name.
+/// The side of an offered call whose dialog has this name.
 fn side_offered(name: DialogName<'_>, x: &Trial) -> Option<Side>
     ensures { result ≡ named_offered name.entry.call_id.now name.entry.local.now name.entry.remote.now x.now }
 {
@@ -32,7 +32,7 @@ fn side_offered(name: DialogName<'_>, x: &Trial) -> Option<Side>
     }
 }
 
-/// That of an answered call.
+/// The same for an answered call.
 fn side_stood(name: DialogName<'_>, x: &Pair) -> Option<Side>
     ensures { result ≡ named_stood name.entry.call_id.now name.entry.local.now name.entry.remote.now x.now }
 {
@@ -45,7 +45,7 @@ fn side_stood(name: DialogName<'_>, x: &Pair) -> Option<Side>
     None
 }
 
-/// That of the leg that is left, where the other is away.
+/// The same for the remaining leg, where the other one is detached.
 fn side_left(name: DialogName<'_>, left: &Released) -> Option<Side>
     ensures { result ≡ named_left name.entry.call_id.now name.entry.local.now name.entry.remote.now left.now }
 {
@@ -80,7 +80,7 @@ fn side_in(name: DialogName<'_>, entry: &Entry) -> Option<Side>
     }
 }
 
-/// The place of the box of the call whose dialog has this name.
+/// The index of the block of the call whose dialog has this name.
 fn named_in(entries: &[Box<Entry>], name: DialogName<'_>) -> Option<usize>
     ensures { result ≡ position (λ b. has_side (side_named name.entry.call_id.now name.entry.local.now name.entry.remote.now) b.value) entries.now }
 {
@@ -89,7 +89,7 @@ fn named_in(entries: &[Box<Entry>], name: DialogName<'_>) -> Option<usize>
         .position(|entry| side_in(name, entry).is_some())
 }
 
-/// The place of the call whose dialog has this name.
+/// The index of the call whose dialog has this name.
 fn place_named(table: &CallTable, name: DialogName<'_>) -> Option<usize>
     ensures { result ≡ position (has_side (side_named name.entry.call_id.now name.entry.local.now name.entry.remote.now)) table.now.entries }
 {
@@ -111,7 +111,7 @@ pub fn find(table: &CallTable, name: DialogName<'_>) -> Option<(CallNo, Side)>
     }
 }
 
-/// The place of the INVITE of this server transaction.
+/// The index of the INVITE of this server transaction.
 fn place_of_invite(invites: &[InviteKey], key: TKey) -> Option<usize>
     ensures { result ≡ position (is_key key) invites.now }
 {
@@ -132,7 +132,7 @@ fn side_that_asked(invites: &[InviteKey], key: TKey) -> Option<Side>
 }
 
 impl Entry {
-    /// The call and its side, where there is one.
+    /// The call and its side, if there is one.
     fn sided(&self, side: Option<Side>) -> Option<(CallNo, Side)>
         ensures { result ≡ option_map (sided self.now) side }
     {
@@ -142,7 +142,7 @@ impl Entry {
         }
     }
 
-    /// The same of a call that lives.
+    /// The same for a live call.
     #[tactic(auto, unfolding(crate::specs::Names::side_asking))]
     fn side_asking(&self, key: TKey) -> Option<Side>
         ensures { result ≡ side_asking key self.now }
@@ -153,7 +153,7 @@ impl Entry {
         None
     }
 
-    /// Who a side of the call is: the peer of its leg, and the account that is served there.
+    /// The peer of a side's leg, and the account that is served there.
     fn party(&self, side: Side) -> Option<(Peer, Option<Account>)>
         ensures { result ≡ party_of side (Some self.now) }
     {
@@ -169,7 +169,7 @@ impl Entry {
     }
 }
 
-/// A side of a call that is offered.
+/// The same for a side of an offered call.
 fn party_offered(origin: Option<Account>, side: Side, x: &Trial) -> (Peer, Option<Account>)
     ensures { result ≡ party_offered origin side x.now }
 {
@@ -185,7 +185,7 @@ fn party_offered(origin: Option<Account>, side: Side, x: &Trial) -> (Peer, Optio
     }
 }
 
-/// A side of an answered call.
+/// The same for a side of an answered call.
 fn party_stood(origin: Option<Account>, side: Side, x: &Pair) -> (Peer, Option<Account>)
     ensures { result ≡ party_stood origin side x.now }
 {
@@ -195,7 +195,7 @@ fn party_stood(origin: Option<Account>, side: Side, x: &Pair) -> (Peer, Option<A
     }
 }
 
-/// A side of a call, one leg of which is away.
+/// The same for a side of a call of which one leg is detached.
 fn party_left(
     origin: Option<Account>,
     served: Option<Account>,
@@ -216,7 +216,7 @@ fn party_left(
     }
 }
 
-/// The place of the box of the call that lives whose INVITE opened this server transaction.
+/// The index of the block of the live call whose INVITE opened this server transaction.
 fn asking_in(entries: &[Box<Entry>], key: TKey) -> Option<usize>
     ensures { result ≡ position (λ b. has_side (side_asking key) b.value) entries.now }
 {
@@ -225,7 +225,7 @@ fn asking_in(entries: &[Box<Entry>], key: TKey) -> Option<usize>
         .position(|entry| entry.side_asking(key).is_some())
 }
 
-/// The place of the call that lives whose INVITE opened this server transaction.
+/// The index of the live call whose INVITE opened this server transaction.
 fn place_asking(table: &CallTable, key: TKey) -> Option<usize>
     ensures { result ≡ position (has_side (side_asking key)) table.now.entries }
 {
@@ -247,7 +247,7 @@ pub fn asked_by(table: &CallTable, key: TKey) -> Option<(CallNo, Side)>
     }
 }
 
-/// Who a side of the call of this number is.
+/// The peer of a side of the call of this number, and the account that is served there.
 pub fn party(table: &CallTable, number: CallNo, side: Side) -> Option<(Peer, Option<Account>)>
     ensures { result ≡ party number.0 side table.now.entries }
 {

@@ -1,4 +1,4 @@
-//! Whom the calls keep busy.
+//! Which accounts the calls keep busy.
 ghost use Rattle.std.specs.Prelude.{◌≡◌, ◌+◌, ◌-◌, ℕ, IfOk, OnErr, OnOk, Ok, if◌then◌else◌};
 ghost use Rattle.std.specs.Option.{option_copied, option_map};
 ghost use Rattle.mmtel_call_decisions.specs.Busy.{calls_of};
@@ -12,7 +12,7 @@ use mmtel_call_decisions::{Busy, Service};
 use mmtel_scan::NoMemory;
 use mmtel_types::Account;
 
-/// The account that is served, where one is.
+/// The served account, if there is one.
 pub fn account_of(service: Option<&Service>) -> Option<Account>
     ensures { result ≡ option_map account_in (option_copied service.entry) }
 {
@@ -22,7 +22,7 @@ pub fn account_of(service: Option<&Service>) -> Option<Account>
     }
 }
 
-/// One call more keeps this account busy, where there is one.
+/// Adds one call that keeps this account busy, if there is one.
 pub fn add(busy: &mut Busy, account: Option<Account>) -> Result<(), NoMemory>
     ensures more { OnOk result ((number : ℕ) → calls_of busy.new number
         ≡ calls_of busy.old number + often account number) }
@@ -34,7 +34,7 @@ pub fn add(busy: &mut Busy, account: Option<Account>) -> Result<(), NoMemory>
     }
 }
 
-/// One call less keeps it busy.
+/// Removes one call that keeps it busy, if there is one.
 pub fn take(busy: &mut Busy, account: Option<Account>)
     ensures { (number : ℕ) → calls_of busy.new number ≡ calls_of busy.old number - often account number }
 {
@@ -54,7 +54,7 @@ pub fn is_gone(heard: &Result<bool, NoMemory>) -> bool
     }
 }
 
-/// A call that stays after its step is counted again with the accounts that it keeps busy then. Where memory is short for that, it does not stay.
+/// Counts the accounts again that a call keeps busy which stays after its step. If memory runs out for that, the call does not stay.
 pub fn count_again(
     busy: &mut Busy,
     entry: &Entry,
@@ -100,7 +100,7 @@ impl Entry {
         }
     }
 
-    /// The call keeps its accounts busy from now on.
+    /// Adds the call to the counts of its accounts.
     pub fn add_to(&self, busy: &mut Busy) -> Result<(), NoMemory>
         ensures more { OnOk result ((number : ℕ) → calls_of busy.new number
             ≡ calls_of busy.old number + keeps_busy number self.now) }
@@ -117,7 +117,7 @@ impl Entry {
         }
     }
 
-    /// It keeps them busy no more.
+    /// Removes it from these counts.
     pub fn take_from(&self, busy: &mut Busy)
         ensures { (number : ℕ) → calls_of busy.new number ≡ calls_of busy.old number - keeps_busy number self.now }
     {

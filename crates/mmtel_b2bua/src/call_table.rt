@@ -1,5 +1,5 @@
-//! The table of calls as it is kept: each call in a box of its own, so that little moves when one leaves; in the order of their numbers; those that live are counted, and of
-//! each account the calls that keep it busy; each is found by its marks.
+//! The table of calls as it is kept: each call in a block of its own on the heap, so that little moves when one leaves; in ascending order of their numbers; with the number of
+//! live calls, and for each account the number of calls that keep it busy; each is found by its marks.
 ghost use Rattle.std.specs.Prelude.{◌≡◌, ◌<◌, ◌≤◌, ◌+◌, ◌^◌, ◌++◌, true, false, None, IfOk, IfSome, OnOk, MatchResult, Some, if◌then◌else◌};
 ghost use Rattle.std.specs.Prelude.{count_by, drop, length, nat_le, nat_lt, option_to_list, remove, slice_get, take, ℕ};
 ghost use Rattle.std.specs.Option.{option_copied, option_map};
@@ -29,10 +29,10 @@ use mmtel_types::{Account, CallNo, Moment, Side};
 use std::alloc::Global;
 use std::marker::Model;
 
-/// So many calls may live at once.
+/// This many calls may be live at once.
 const MOST_CALLS: usize = 4_096;
 
-/// The calls of which something may still be heard, and the rows that wait. They must be spent.
+/// The calls for which something may still be received, and the CDRs that wait. They must be spent.
 pub struct CallTable {
     entries: Vec<Box<Entry>>,
     opened: u64,
@@ -54,7 +54,7 @@ impl Model for CallTable {
     ghost invariant = { λ t. AreKept (unboxed t.entries.items) t.opened t.alive t.index t.busy };
 }
 
-/// So many calls live, where one of them did or did not before, and does or does not now.
+/// The number of live calls after one of them, which was live before or not, is live now or not.
 fn recounted(alive: usize, before: bool, after: bool) -> usize
     requires there { one_if before ≤ alive }
     requires room { alive + one_if after < 2 ^ 64 + one_if before }
@@ -67,14 +67,14 @@ fn recounted(alive: usize, before: bool, after: bool) -> usize
     }
 }
 
-/// Spends a call and its place.
+/// Spends a call and its entry.
 fn give_up_entry(entry: Entry, at: Moment) {
     let Entry { call, invites } = entry;
     drop(invites);
     call.give_up(at);
 }
 
-/// Spends these calls and their places.
+/// Spends these calls and their entries.
 fn give_up_all(entries: Vec<Box<Entry>>) {
     let mut entries = entries;
     'given: while let Some(entry) = entries.pop() {
@@ -83,7 +83,7 @@ fn give_up_all(entries: Vec<Box<Entry>>) {
     entries.destroy_empty();
 }
 
-/// The first of all moments: of rows that nobody keeps.
+/// The moment zero, for CDRs that nobody keeps.
 fn beginning() -> Moment {
     match Moment::new(0) {
         Some(moment) => moment,
@@ -91,7 +91,7 @@ fn beginning() -> Moment {
     }
 }
 
-/// A call in a box of its own.
+/// A call in a block of its own on the heap.
 fn boxed(alloc: Global, entry: Entry, at: Moment) -> Result<Box<Entry>, NoMemory>
     ensures { IfOk result (λ b. b.value ≡ entry) }
 {
@@ -104,7 +104,7 @@ fn boxed(alloc: Global, entry: Entry, at: Moment) -> Result<Box<Entry>, NoMemory
     }
 }
 
-/// The place of the call of this number.
+/// The index of the call of this number.
 fn place_in(entries: &[Box<Entry>], number: CallNo) -> Option<usize>
     requires { IsNonDecreasingBy (λ b. number_of b.value) entries.now }
     ensures { result ≡ place_of number.0 (unboxed entries.now) }
@@ -120,7 +120,7 @@ fn place_in(entries: &[Box<Entry>], number: CallNo) -> Option<usize>
     }
 }
 
-/// From which place on no call has a lower number.
+/// The index from which on no call has a lower number.
 fn below(entries: &[Box<Entry>], number: u64) -> usize
     requires { IsNonDecreasingBy (λ b. number_of b.value) entries.now }
     ensures within { result ≤ length (unboxed entries.now) }
@@ -129,7 +129,7 @@ fn below(entries: &[Box<Entry>], number: u64) -> usize
     first_from(entries, number)
 }
 
-/// The place of the first call whose number is not lower, or else how many there are.
+/// The index of the first call whose number is not lower, or the count of calls if there is none.
 fn first_from(entries: &[Box<Entry>], number: u64) -> usize
     requires { IsNonDecreasingBy (λ b. number_of b.value) entries.now }
     ensures parted { IsPartitionPoint (λ b. nat_lt (number_of b.value) number ≡ true) (λ b. nat_lt (number_of b.value) number ≡ false) entries.now result }
@@ -141,7 +141,8 @@ fn first_from(entries: &[Box<Entry>], number: u64) -> usize
     }
 }
 
-/// The same, if one stands before it and no later call has left: as far from the last one as the number is below that one's. So a young call is found by few looks.
+/// The same, if a call precedes it and no later call has left: as far from the last one as the number is below that one's. So a call that was opened recently is found by few
+/// comparisons.
 fn first_near_end(entries: &[Box<Entry>], number: u64) -> Option<usize>
     requires { IsNonDecreasingBy (λ b. number_of b.value) entries.now }
     ensures parted { IfSome result (λ place. IsPartitionPoint (λ b. nat_lt (number_of b.value) number ≡ true) (λ b. nat_lt (number_of b.value) number ≡ false) entries.now place) }
@@ -173,7 +174,7 @@ fn first_near_end(entries: &[Box<Entry>], number: u64) -> Option<usize>
     }
 }
 
-/// So many places after another one, where so many calls are kept.
+/// This many indices after another one, where this many calls are kept.
 fn after(from: usize, places: usize, count: usize) -> Option<usize>
     requires { from + places < count }
     ensures { result ≡ Some (from + places) }
@@ -182,7 +183,7 @@ fn after(from: usize, places: usize, count: usize) -> Option<usize>
     if place < count { Some(place) } else { None }
 }
 
-/// The call at this place stays or leaves. Whether it stays, and lives.
+/// Keeps or removes the call at this index. Returns whether it stays and is live.
 fn keep_at(entries: &mut Vec<Box<Entry>>, place: usize, gone: bool, at: Moment) -> bool
     requires { place < length entries.old.items }
     ensures entries { entries.new.items ≡ (if gone then remove entries.old.items place else entries.old.items) }
@@ -196,7 +197,7 @@ fn keep_at(entries: &mut Vec<Box<Entry>>, place: usize, gone: bool, at: Moment) 
 }
 
 impl CallTable {
-    /// No calls yet. It takes no memory.
+    /// No calls yet. It allocates nothing.
     pub fn new(alloc: Global) -> CallTable
         ensures { result ≡ no_calls }
     {
@@ -217,7 +218,7 @@ impl CallTable {
         CallNo(self.opened.saturating_add(1))
     }
 
-    /// Whether as many calls live as may.
+    /// Whether as many calls are live as may be.
     pub fn is_full(&self) -> bool
         ensures { result ≡ nat_le most_calls (count_by is_live self.now.entries) }
     {
@@ -231,14 +232,14 @@ impl CallTable {
         self.busy.live(account)
     }
 
-    /// The place of the call of this number.
+    /// The index of the call of this number.
     pub fn place_of(&self, number: CallNo) -> Option<usize>
         ensures { result ≡ place_of number.0 self.now.entries }
     {
         place_in(&self.entries, number)
     }
 
-    /// From which place on a call may have this mark.
+    /// The index from which on a call may have this mark.
     pub fn from(&self, mark: Mark) -> usize
         ensures within { result ≤ length self.now.entries }
         ensures none { Unmarked marks_of mark (take result self.now.entries) }
@@ -249,7 +250,7 @@ impl CallTable {
         }
     }
 
-    /// The calls from this place on.
+    /// The calls from this index on.
     pub fn entries_from(&self, from: usize) -> &[Box<Entry>]
         requires { from ≤ length self.now.entries }
         ensures { unboxed result.now ≡ drop from self.now.entries }
@@ -258,7 +259,7 @@ impl CallTable {
         &entries[from..]
     }
 
-    /// The place of a call that stands at this one among those from another place on.
+    /// The index, in the whole table, of a call with this index among those from another index on.
     pub fn later(&self, from: usize, place: Option<usize>) -> Option<usize>
         requires { (n : ℕ) → place ≡ Some n → from + n < length self.now.entries }
         ensures { result ≡ option_map (λ n. from + n) place }
@@ -269,7 +270,7 @@ impl CallTable {
         }
     }
 
-    /// The call at this place.
+    /// The call at this index.
     pub fn get(&self, place: usize) -> Option<&Entry>
         ensures { option_copied result ≡ slice_get self.now.entries place }
     {
@@ -279,11 +280,11 @@ impl CallTable {
         }
     }
 
-    /// Keeps a call that was opened, as long as something may be heard of it. It has the next number.
+    /// Keeps a call that was opened, as long as something may be received for it. It has the next number.
     ///
     /// # Errors
     ///
-    /// Want of memory alone, for its place or for its number: 2^64 - 1 are opened in all.
+    /// Out of memory only, for its entry or because the numbers are exhausted: 2^64 - 1 are opened in all.
     pub fn add(&mut self, alloc: Global, entry: Entry, at: Moment) -> Result<(), NoMemory>
         requires { number_of entry ≡ next_number self.old.opened }
         ensures { OnOk result (self.new ≡ record self.old { entries = self.old.entries ++ kept entry; opened = next_number self.old.opened }) }
@@ -322,11 +323,11 @@ impl CallTable {
         }
     }
 
-    /// The call that an INVITE opens beside these, in a block of its own.
+    /// The call that an INVITE opens beside these, in a block of its own on the heap.
     ///
     /// # Errors
     ///
-    /// Want of memory alone, also for its number: 2^64 - 1 are opened in all.
+    /// Out of memory only, also because the numbers are exhausted: 2^64 - 1 are opened in all.
     pub fn open(
         &mut self,
         step: &Step<'_>,
@@ -367,11 +368,11 @@ impl CallTable {
         }
     }
 
-    /// The call at this place takes a step, and has this INVITE more; it leaves once nothing may be heard of it any more.
+    /// The call at this index takes a step, and gets this INVITE in addition; it leaves once nothing more may be received for it.
     ///
     /// # Errors
     ///
-    /// Want of memory alone; the call has left then.
+    /// Out of memory only; the call has left then.
     pub fn hear_at(
         &mut self,
         step: &Step<'_>,
@@ -414,11 +415,11 @@ impl CallTable {
         }
     }
 
-    /// The call at this place, whose leg is away, ends; it leaves once nothing may be heard of it any more.
+    /// The call at this index, whose leg is detached, ends; it leaves once nothing more may be received for it.
     ///
     /// # Errors
     ///
-    /// Want of memory alone; the call has left then.
+    /// Out of memory only; the call has left then.
     pub fn finish_at(
         &mut self,
         alloc: Global,
@@ -450,7 +451,7 @@ impl CallTable {
         }
     }
 
-    /// Takes a leg out of the call at this place.
+    /// Detaches a leg of the call at this index.
     pub fn release_at(&mut self, place: usize, side: Side) -> Result<Released, NotTalking>
         requires { place < length self.old.entries }
         ensures table { self.new ≡ record self.old { entries = lent_at side place (slice_get self.old.entries place) self.old.entries } }
@@ -465,7 +466,7 @@ impl CallTable {
         leg
     }
 
-    /// Puts a leg back into the call at this place.
+    /// Puts a leg back into the call at this index.
     pub fn restore_at(&mut self, place: usize, away: Released)
         requires place { place < length self.old.entries }
         requires fits { takes_back away (slice_get self.old.entries place) ≡ true }
@@ -479,14 +480,14 @@ impl CallTable {
         put_call(&mut self.index, entry, number, true);
     }
 
-    /// The rows that wait, in the order in which they were closed.
+    /// The CDRs that wait, in the order in which they were closed.
     pub fn rows(&self) -> &[Row]
         ensures { result.now ≡ self.now.rows }
     {
         self.rows.items()
     }
 
-    /// Keeps the rows that were closed, until they are handed over.
+    /// Keeps the CDRs that were closed, until they are handed over.
     pub fn keep_rows(&mut self, alloc: Global, rows: List<Row>) -> Result<(), NoMemory>
         ensures { OnOk result (self.new ≡ record self.old { rows = self.old.rows ++ rows }) }
     {
@@ -499,7 +500,7 @@ impl CallTable {
         }
     }
 
-    /// So many of the rows that wait were handed over.
+    /// Removes this many of the CDRs that wait: they were handed over.
     pub fn drop_rows(&mut self, count: usize)
         requires { count ≤ length self.old.rows }
         ensures { self.new ≡ record self.old { rows = drop count self.old.rows } }
@@ -507,7 +508,7 @@ impl CallTable {
         drop_first(&mut self.rows, count);
     }
 
-    /// Spends all calls, without rows. It takes no memory.
+    /// Spends all calls, without CDRs. It allocates nothing.
     pub fn give_up(self) {
         let CallTable {
             entries,

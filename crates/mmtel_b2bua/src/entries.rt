@@ -1,4 +1,4 @@
-//! A call as it stands in the table of calls.
+//! A call in the table of calls.
 ghost use Rattle.std.specs.Prelude.{◌≡◌};
 ghost use Rattle.std.specs.Option.{option_copied};
 ghost use Rattle.mmtel_b2bua.specs.Entries.{heard_by, is_live, is_numbered, sent_it};
@@ -53,7 +53,7 @@ impl Entry {
         self.call.opening.number.0 == number.0
     }
 
-    /// Whether a request of the call whose answer may come has this branch: an INVITE, or a PRACK or UPDATE that is in flight.
+    /// Whether a request of the call to which a response may still be received has this branch: an INVITE, or a PRACK or UPDATE that is in flight.
     #[tactic(auto, unfolding(crate::specs::Entries::sent_it))]
     pub fn sent(&self, branch: Option<&[u8]>) -> bool
         ensures { result ≡ sent_it (option_copied branch.entry) self.now }
@@ -64,7 +64,7 @@ impl Entry {
         }
     }
 
-    /// Whether an INVITE of the call had its answer by this client transaction.
+    /// Whether an INVITE of the call received its response in this client transaction.
     #[tactic(auto, unfolding(crate::specs::Entries::heard_by))]
     pub fn heard_by(&self, key: TKey) -> bool
         ensures { result ≡ heard_by key self.now }

@@ -1,4 +1,4 @@
-//! A leg of a talking call is taken out, put back, or the call ends without it.
+//! A leg of a stable call is detached, put back, or the call ends without it.
 ghost use Rattle.std.specs.Prelude.{◌≡◌, [], true, None, IfOk, OnOk, MatchResult, Some};
 ghost use Rattle.mmtel_call.specs.Lending.{is_lent};
 ghost use Rattle.mmtel_call.specs.Settled.{is_settled};
@@ -17,7 +17,7 @@ use mmtel_scan::NoMemory;
 use mmtel_types::{CallNo, Moment, Side};
 use std::alloc::Global;
 
-/// Takes a leg out of the call of this number.
+/// Detaches a leg of the call of this number.
 #[tactic(auto, unfolding(crate::specs::Lending::released))]
 pub fn release(table: &mut CallTable, number: CallNo, side: Side) -> Result<Released, NotTalking>
     ensures table { table.new ≡ record table.old { entries = released number.0 side table.old.entries } }
@@ -44,7 +44,7 @@ pub fn restore(table: &mut CallTable, number: CallNo, away: Released)
 }
 
 impl Entry {
-    /// Ends a call whose leg is away. Tells whether nothing may be heard of it any more.
+    /// Ends a call whose leg is detached. Returns whether nothing more may be received for it.
     #[tactic(auto, unfolding(crate::specs::Lending::end_of))]
     pub fn finish(
         &mut self,
@@ -64,7 +64,7 @@ impl Entry {
     }
 }
 
-/// Ends the call of this number, whose leg is away.
+/// Ends the call of this number, whose leg is detached.
 #[tactic(auto, unfolding(crate::specs::Lending::ended))]
 pub fn finish(
     table: &mut CallTable,

@@ -1,4 +1,4 @@
-//! The calls of a back-to-back user agent (RFC 3261 §6): the table of calls, in which each signal is of one call.
+//! The calls of a back-to-back user agent (RFC 3261 §6): the table of calls, in which each signal belongs to one call.
 #![tactic(auto)]
 
 mod asked;

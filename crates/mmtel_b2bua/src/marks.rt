@@ -1,4 +1,5 @@
-//! By what a call is found: the branches of its requests whose answers it waits for, the transactions of its INVITEs, and the server's tags of its dialogs.
+//! The keys by which a call is found: the branches of its requests to which a response may still be received, the transactions of its INVITEs, and the server's tags of its
+//! dialogs.
 ghost use Rattle.std.specs.Prelude.{◌≡◌, ◌∷◌, [], flat_map};
 ghost use Rattle.std.specs.Option.{option_copied};
 ghost use Rattle.mmtel_call.specs.Table.{current};
@@ -14,7 +15,7 @@ use mmtel_leg::Dialogue;
 use mmtel_transaction::{TKey, told};
 use mmtel_types::CallNo;
 
-/// The call of this number is found by the client transaction of an INVITE, once that is known, from now on, or no more.
+/// From now on the call of this number is found, or not found any more, by the client transaction of an INVITE, if that is known.
 fn put_key(index: &mut Index, key: Option<TKey>, call: CallNo, stays: bool)
     ensures { Written stays call.0 (heard_marks key) index.old index.new }
 {
@@ -24,7 +25,7 @@ fn put_key(index: &mut Index, key: Option<TKey>, call: CallNo, stays: bool)
     }
 }
 
-/// The same of an INVITE that was left, or had a 2xx.
+/// The same for an INVITE that was abandoned, or had a 2xx.
 fn put_invitation(index: &mut Index, invitation: &Invitation, call: CallNo, stays: bool)
     ensures { Written stays call.0 (invitation_marks invitation.now) index.old index.new }
 {
@@ -32,7 +33,7 @@ fn put_invitation(index: &mut Index, invitation: &Invitation, call: CallNo, stay
     put_key(index, invitation.key, call, stays);
 }
 
-/// Of those that were left.
+/// The same for those that were abandoned.
 fn put_loose(index: &mut Index, loose: &[Loose], call: CallNo, stays: bool)
     ensures { Written stays call.0 (flat_map loose_marks loose.now) index.old index.new }
 {
@@ -41,7 +42,7 @@ fn put_loose(index: &mut Index, loose: &[Loose], call: CallNo, stays: bool)
     }
 }
 
-/// Of those that had a 2xx.
+/// The same for those that had a 2xx.
 fn put_taken(index: &mut Index, all: &[Taken], call: CallNo, stays: bool)
     ensures { Written stays call.0 (flat_map taken_marks all.now) index.old index.new }
 {
@@ -50,7 +51,7 @@ fn put_taken(index: &mut Index, all: &[Taken], call: CallNo, stays: bool)
     }
 }
 
-/// Of a request that is in flight.
+/// The same for a request that is in flight.
 fn put_flight(index: &mut Index, flight: &Flight, call: CallNo, stays: bool)
     ensures { Written stays call.0 (flight_marks flight.now) index.old index.new }
 {
@@ -58,7 +59,7 @@ fn put_flight(index: &mut Index, flight: &Flight, call: CallNo, stays: bool)
     index.put(Mark::Sent(told(branch.bytes())), call.0, stays);
 }
 
-/// Of all that are.
+/// The same for all that are in flight.
 fn put_flights(index: &mut Index, flights: &[Flight], call: CallNo, stays: bool)
     ensures { Written stays call.0 (flat_map flight_marks flights.now) index.old index.new }
 {
@@ -67,7 +68,7 @@ fn put_flights(index: &mut Index, flights: &[Flight], call: CallNo, stays: bool)
     }
 }
 
-/// Of those that its sides sent.
+/// The same for the INVITEs that its sides sent.
 fn put_invites(index: &mut Index, invites: &[InviteKey], call: CallNo, stays: bool)
     ensures { Written stays call.0 (flat_map invite_marks invites.now) index.old index.new }
 {
@@ -76,7 +77,7 @@ fn put_invites(index: &mut Index, invites: &[InviteKey], call: CallNo, stays: bo
     }
 }
 
-/// Of a call that lives.
+/// The same for those of a live call.
 fn put_asked(index: &mut Index, entry: &Entry, call: CallNo, stays: bool)
     ensures { Written stays call.0 (asked_marks (is_live entry.now) entry.now.invites) index.old index.new }
 {
@@ -86,7 +87,7 @@ fn put_asked(index: &mut Index, entry: &Entry, call: CallNo, stays: bool)
     put_invites(index, entry.invites.items(), call, stays);
 }
 
-/// Of the one that the call waits on.
+/// The same for the INVITE for which the call waits.
 fn put_waiting(index: &mut Index, phase: &Phase, call: CallNo, stays: bool)
     ensures { Written stays call.0 (waiting_marks (current phase.now)) index.old index.new }
 {
@@ -98,14 +99,14 @@ fn put_waiting(index: &mut Index, phase: &Phase, call: CallNo, stays: bool)
     }
 }
 
-/// Of a dialog.
+/// The same for a dialog.
 fn put_dialog(index: &mut Index, dialogue: &Dialogue, call: CallNo, stays: bool)
     ensures { Written stays call.0 (dialog_mark dialogue.now ∷ []) index.old index.new }
 {
     index.put(Mark::Named(told(dialogue.local_tag.bytes())), call.0, stays);
 }
 
-/// Of two dialogs.
+/// The same for two dialogs.
 fn put_both(index: &mut Index, caller: &Dialogue, callee: &Dialogue, call: CallNo, stays: bool)
     ensures { Written stays call.0 (dialog_mark caller.now ∷ dialog_mark callee.now ∷ []) index.old index.new }
 {
@@ -113,7 +114,7 @@ fn put_both(index: &mut Index, caller: &Dialogue, callee: &Dialogue, call: CallN
     put_dialog(index, callee, call, stays);
 }
 
-/// Of the dialogs of a call.
+/// The same for the dialogs of a call.
 fn put_dialogs(index: &mut Index, phase: &Phase, call: CallNo, stays: bool)
     ensures { Written stays call.0 (dialog_marks phase.now) index.old index.new }
 {
@@ -135,7 +136,7 @@ fn put_dialogs(index: &mut Index, phase: &Phase, call: CallNo, stays: bool)
     }
 }
 
-/// This call, of this number, is found by its marks from now on, or no more.
+/// From now on this call, of this number, is found by its marks, or not found any more.
 pub fn put_call(index: &mut Index, entry: &Entry, call: CallNo, stays: bool)
     ensures { Written stays call.0 (marks_of entry.now) index.old index.new }
 {
@@ -147,7 +148,7 @@ pub fn put_call(index: &mut Index, entry: &Entry, call: CallNo, stays: bool)
     put_dialogs(index, &entry.call.phase, call, stays);
 }
 
-/// The INVITE that a call waits on.
+/// The INVITE for which a call waits.
 fn waits_on(phase: &Phase) -> Option<&Invitation>
     ensures { option_copied result ≡ current phase.now }
 {

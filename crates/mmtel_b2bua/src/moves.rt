@@ -1,4 +1,4 @@
-//! A signal moves the calls: the one that it is of takes its step, or one is opened.
+//! The transition of the calls on a signal: the one to which it belongs takes its step, or one is opened.
 ghost use Rattle.std.specs.Prelude.{◌≡◌, ◌<◌, ◌++◌, ◌∷◌, [], ℕ, IfOk, OnOk, Some, length, option_to_list, position};
 ghost use Rattle.std.specs.Option.{option_copied};
 ghost use Rattle.mmtel_desk.specs.Invites.{invite_answered, invite_silent};
@@ -28,7 +28,7 @@ use mmtel_types::{CallNo, Moment, Side};
 use std::alloc::Global;
 
 impl Entry {
-    /// The call has this INVITE more, if there is one.
+    /// Adds this INVITE to those of the call, if there is one.
     fn add_invite(&mut self, alloc: Global, invite: Option<InviteKey>) -> Result<(), NoMemory>
         ensures { OnOk result (self.new ≡ record self.old { invites = self.old.invites ++ option_to_list invite }) }
     {
@@ -38,7 +38,7 @@ impl Entry {
         }
     }
 
-    /// The call takes a step, and has this INVITE more. Tells whether nothing may be heard of it any more.
+    /// The call takes a step, and gets this INVITE in addition. Returns whether nothing more may be received for it.
     pub fn hear(
         &mut self,
         alloc: Global,
@@ -63,7 +63,7 @@ impl Entry {
     }
 }
 
-/// The call at a place takes its step, if there is one.
+/// The call at an index takes its step, if there is one.
 fn hear(
     table: &mut CallTable,
     step: &Step<'_>,
@@ -115,7 +115,7 @@ fn open(
     keep_call(table, step.alloc, call, key, step.at)
 }
 
-/// The INVITE of the caller that this server transaction heard, as the first of its call.
+/// The INVITE of the caller that was received in this server transaction, as the first of its call.
 fn first_invite(alloc: Global, key: TKey) -> Result<List<InviteKey>, NoMemory>
     ensures { IfOk result (λ invites. invites ≡ record { key = key; side = Caller } ∷ []) }
 {
@@ -130,7 +130,7 @@ fn first_invite(alloc: Global, key: TKey) -> Result<List<InviteKey>, NoMemory>
     }
 }
 
-/// Keeps a call that this server transaction opened, as long as something may be heard of it.
+/// Keeps a call that was opened in this server transaction, as long as something may be received for it.
 fn keep_call(
     table: &mut CallTable,
     alloc: Global,
@@ -156,7 +156,7 @@ fn keep_call(
     }
 }
 
-/// The server transaction of a request, if that is an INVITE.
+/// The server transaction of a request, if the request is an INVITE.
 fn invite_by(side: Side, key: TKey, request: &Hearing) -> Option<InviteKey>
     ensures { option_to_list result ≡ invites_by side key request.now }
 {
@@ -166,14 +166,14 @@ fn invite_by(side: Side, key: TKey, request: &Hearing) -> Option<InviteKey>
     None
 }
 
-/// The place of the box of the call of which a request whose answer may come has this branch.
+/// The index of the block of the call of which a request to which a response may still be received has this branch.
 fn sent_in(entries: &[Box<Entry>], branch: Option<&[u8]>) -> Option<usize>
     ensures { result ≡ position (λ b. sent_it (option_copied branch.entry) b.value) entries.now }
 {
     entries.iter().position(|entry| entry.sent(branch))
 }
 
-/// The place of the call of which a request whose answer may come has this branch.
+/// The index of the call of which a request to which a response may still be received has this branch.
 pub fn place_sent(table: &CallTable, branch: Option<&[u8]>) -> Option<usize>
     ensures { result ≡ position (sent_it (option_copied branch.entry)) table.now.entries }
 {
@@ -187,14 +187,14 @@ pub fn place_sent(table: &CallTable, branch: Option<&[u8]>) -> Option<usize>
     }
 }
 
-/// The place of the box of the call of which an INVITE had its answer by this client transaction.
+/// The index of the block of the call of which an INVITE received its response in this client transaction.
 fn heard_in(entries: &[Box<Entry>], key: TKey) -> Option<usize>
     ensures { result ≡ position (λ b. heard_by key b.value) entries.now }
 {
     entries.iter().position(|entry| entry.heard_by(key))
 }
 
-/// The place of the call of which an INVITE had its answer by this client transaction.
+/// The index of the call of which an INVITE received its response in this client transaction.
 pub fn place_heard(table: &CallTable, key: TKey) -> Option<usize>
     ensures { result ≡ position (heard_by key) table.now.entries }
 {
@@ -203,7 +203,7 @@ pub fn place_heard(table: &CallTable, key: TKey) -> Option<usize>
     table.later(start, place)
 }
 
-/// The bytes of a text, where there is one.
+/// The bytes of a text, if there is one.
 fn bytes_of(text: &Option<Text>) -> Option<&[u8]>
     ensures { option_copied result ≡ text.now }
 {
@@ -213,7 +213,7 @@ fn bytes_of(text: &Option<Text>) -> Option<&[u8]>
     }
 }
 
-/// The place of the call of which this answers a request.
+/// The index of the call to whose request this is a response.
 fn place_answered(
     table: &CallTable,
     alloc: Global,
@@ -227,7 +227,7 @@ fn place_answered(
     Ok(place)
 }
 
-/// The place of the call that a signal is of.
+/// The index of the call to which a signal belongs.
 fn place_of(table: &CallTable, alloc: Global, signal: &Signal) -> Result<Option<usize>, NoMemory>
     ensures { IfOk result (λ place. place ≡ place_of signal.now table.now.entries) }
 {
@@ -245,7 +245,7 @@ fn place_of(table: &CallTable, alloc: Global, signal: &Signal) -> Result<Option<
     }
 }
 
-/// The INVITE that the call of a signal has more, if it is one.
+/// The INVITE that the call of a signal gets in addition, if the signal is one.
 fn invite_of(signal: &Signal) -> Option<InviteKey>
     ensures { option_to_list result ≡ invites_of signal.now }
 {
@@ -260,16 +260,16 @@ fn invite_of(signal: &Signal) -> Option<InviteKey>
     }
 }
 
-/// What a signal is for the calls.
+/// A signal as the table of calls uses it.
 #[derive(Drop)]
 pub enum Meaning {
-    /// It opens one.
+    /// It opens a call.
     Opens(Arrival),
-    /// One of them hears it.
+    /// One of the calls receives it.
     Hears(CallSignal),
 }
 
-/// What a signal is for the calls, where the next that is opened has this number.
+/// A signal as the table of calls uses it, where the next call that is opened gets this number.
 fn meaning_of(number: CallNo, signal: Signal) -> Meaning
     ensures { result ≡ meaning_of number.0 signal }
 {
@@ -312,7 +312,7 @@ fn meaning_of(number: CallNo, signal: Signal) -> Meaning
     }
 }
 
-/// The calls once they heard a signal; one that is opened has the next number.
+/// The calls receive a signal; one that is opened gets the next number.
 #[tactic(auto, using(crate::proofs::Meanings::taken_by_meaning, crate::proofs::Meanings::place_within, crate::proofs::Meanings::opens, crate::proofs::Meanings::hears))]
 pub fn take(
     table: &mut CallTable,

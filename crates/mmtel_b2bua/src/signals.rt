@@ -1,4 +1,4 @@
-//! What the calls hear.
+//! The signals that the calls receive.
 
 use mmtel_answers::Hearing;
 use mmtel_rules::Identities2;
@@ -7,7 +7,7 @@ use mmtel_targets::{RegistrationState, Served};
 use mmtel_transaction::{DueWord, TKey};
 use mmtel_types::{CallNo, Side};
 
-/// What the calls hear. The peer from which a message was heard stands with it.
+/// A signal that the calls receive. A received message contains the peer from which it came.
 #[derive(Drop)]
 pub enum Signal {
     /// An INVITE without To tag, with what was read of its parties (RFC 5502 §6): it opens a call.
@@ -25,7 +25,7 @@ pub enum Signal {
         key: TKey,
         request: Hearing,
     },
-    /// An ACK of a side that is of a 2xx.
+    /// An ACK of a side for a 2xx.
     Ack {
         call: CallNo,
         side: Side,
@@ -38,32 +38,32 @@ pub enum Signal {
         cancel: Hearing,
         invite: TKey,
     },
-    /// A response that this client transaction heard; it is known by the branch and the CSeq method of what it answers.
+    /// A response that was received in this client transaction; the request to which it belongs is identified by the branch and the CSeq method.
     Answer {
         key: TKey,
         response: Hearing,
     },
-    /// A request had no response at all and was given up: its branch, with the cookie, and its method.
+    /// A request timed out without any response: its branch, with the cookie, and its method.
     Silent {
         branch: Text,
         method: Text,
     },
-    /// A deadline of a call came.
+    /// A deadline of a call fired.
     Due {
         call: CallNo,
         what: DueWord,
     },
-    /// The client transaction of a request that was answered has ended.
+    /// The client transaction of a request that got its final response has ended.
     Over {
         key: TKey,
     },
 }
 
-/// Why a signal is not taken.
+/// Why a signal is refused.
 #[derive(Drop)]
 pub enum CallFault {
-    /// So many calls live that no more is opened; the signal is handed back.
+    /// The maximum number of calls is live; no call is opened, and the signal is handed back.
     Full(Signal),
-    /// Want of memory.
+    /// Memory ran out.
     NoMemory,
 }

@@ -1,11 +1,11 @@
-//! What each step of the table reads.
+//! The input of each step of the table.
 
 use mmtel_call_decisions::Setting;
 use mmtel_sheet_values::SheetView;
 use mmtel_types::Moment;
 use std::alloc::Global;
 
-/// What a step of the table reads; whom the calls keep busy, the table adds itself.
+/// The input of a step of the table; the table itself adds which accounts the calls keep busy.
 #[derive(Clone, Copy)]
 pub struct Step<'a> {
     /// The allocator.

@@ -33,7 +33,7 @@ use std::alloc::Global;
 use std::marker::Model;
 use std::mem;
 
-/// What is configured of calls.
+/// The configuration for calls.
 #[derive(Drop)]
 struct Configuration {
     sip: Addr,
@@ -83,7 +83,7 @@ fn is_full(signal: &Signal, table: &CallTable) -> bool
     }
 }
 
-/// What each step is given: the configuration, the peers and the accounts.
+/// The input of each step: the configuration, the peers and the accounts.
 fn setting_of<'a>(
     configuration: &'a Configuration,
     peers: &'a PeerTable,
@@ -115,7 +115,7 @@ fn setting_of<'a>(
     }
 }
 
-/// Keeps the rows that a step closed, and gives what goes out.
+/// Keeps the CDRs that a step closed, and returns what is sent.
 fn settle(table: &mut CallTable, alloc: Global, desk: Desk) -> Result<Emits, NoMemory>
     ensures kept { OnOk result (table.new ≡ record table.old { rows = table.old.rows ++ desk.rows }) }
     ensures emits { IfOk result (λ out. out ≡ desk.out) }
@@ -131,7 +131,7 @@ fn settle(table: &mut CallTable, alloc: Global, desk: Desk) -> Result<Emits, NoM
     }
 }
 
-/// The calls hear a signal, and keep the rows that it closed; these tokens are drawn from.
+/// The calls receive a signal, and keep the CDRs that its step closed; tokens are drawn from these.
 fn hear(
     table: &mut CallTable,
     step: &Step<'_>,
@@ -163,7 +163,7 @@ fn hear(
     }
 }
 
-/// The call of this number, whose leg is away, ends, and its rows are kept; these tokens are drawn from.
+/// The call of this number, whose leg is detached, ends, and its CDRs are kept; tokens are drawn from these.
 fn finish(
     table: &mut CallTable,
     alloc: Global,
@@ -191,12 +191,12 @@ fn finish(
 }
 
 impl Calls {
-    /// No calls yet, for the home domain, the server's address, the bound on the diversions of a call (TS 24.604 §4.5.2.6), the digits of the home country, where they are
-    /// known, and whether provisional answers are relayed reliably (RFC 3262) and sessions have timers (RFC 4028).
+    /// No calls yet, for the home domain, the server's address, the bound on the diversions of a call (TS 24.604 §4.5.2.6), the digits of the home country, if configured, and
+    /// whether provisional responses are relayed reliably (RFC 3262) and sessions have timers (RFC 4028).
     ///
     /// # Errors
     ///
-    /// Want of memory alone.
+    /// Out of memory only.
     pub fn new(
         alloc: Global,
         home: Text,
@@ -234,7 +234,8 @@ impl Calls {
         })
     }
 
-    /// The same calls, of a server that tells of waiting messages (RFC 3842) or of one that does not, as it is before: who asks by OPTIONS is told that it knows SUBSCRIBE.
+    /// The same calls, of a server that notifies subscribers of waiting messages (RFC 3842) or of one that does not, as it is by default: the response to OPTIONS lists SUBSCRIBE
+    /// if it does.
     pub fn with_mwi(self, mwi: bool) -> Calls
         ensures { result ≡ record self { mwi = mwi } }
     {
@@ -243,12 +244,12 @@ impl Calls {
         calls
     }
 
-    /// The calls hear a signal: the call that it is of takes its step by the step table of a call, or one is opened (RFC 3261 §12 to §15, TS 24.604 §4.5.2.6).
+    /// The calls receive a signal: the call to which it belongs takes its step by the step table of a call, or one is opened (RFC 3261 §12 to §15, TS 24.604 §4.5.2.6).
     ///
     /// # Errors
     ///
-    /// `Full` exactly where an INVITE would open a call and 4,096 live; the signal is handed back, and nothing has changed. `NoMemory` for want of memory: the calls have
-    /// failed then, and each later signal answers it and changes nothing; of the tokens nothing is said then.
+    /// `Full` exactly if an INVITE would open a call and 4,096 are live; the signal is handed back, and nothing has changed. `NoMemory` if memory ran out: the calls have failed
+    /// then, and each later signal gets it and changes nothing; nothing is claimed of the tokens then.
     pub fn signal(
         &mut self,
         alloc: Global,
@@ -301,7 +302,7 @@ impl Calls {
         }
     }
 
-    /// How many calls the account has: once for each that it makes, and once for each that is offered to it or that it answered.
+    /// How many calls the account has: one for each that it makes, and one for each that is offered to it or that it answered.
     pub fn live(&self, account: Account) -> u32
         ensures { (peers : Peers) (accounts : List AccountIdentity) (deeds : List Deed) →
             Stands peers accounts self.now deeds →
@@ -310,7 +311,7 @@ impl Calls {
         self.table.live(account)
     }
 
-    /// Whether as many calls live as may, so that an INVITE opens none and is handed back.
+    /// Whether as many calls are live as may be, so that an INVITE opens none and is handed back.
     pub fn is_full(&self) -> bool
         ensures { result ≡ nat_le most_calls (count_by is_live self.now.table.entries) }
     {
@@ -332,7 +333,7 @@ impl Calls {
         asked::find(&self.table, name)
     }
 
-    /// The call that lives and the side whose INVITE opened this server transaction (RFC 3261 §9.2).
+    /// The live call and the side whose INVITE opened this server transaction (RFC 3261 §9.2).
     pub fn asked_by(&self, invite: TKey) -> Option<(CallNo, Side)>
         ensures { (peers : Peers) (accounts : List AccountIdentity) (deeds : List Deed) →
             Stands peers accounts self.now deeds →
@@ -341,21 +342,21 @@ impl Calls {
         asked::asked_by(&self.table, invite)
     }
 
-    /// Whether a request of some call whose answer may come has this branch, so that what answers it, or its silence, is of that call (RFC 3261 §17.1.3).
+    /// Whether a request of some call to which a response may still be received has this branch, so that the response, or the timeout, belongs to that call (RFC 3261 §17.1.3).
     pub fn has_sent(&self, branch: Option<&[u8]>) -> bool
         ensures { result ≡ is_some (position (sent_it (option_copied branch.entry)) self.now.table.entries) }
     {
         place_sent(&self.table, branch).is_some()
     }
 
-    /// Whether an INVITE of some call had its answer by this client transaction.
+    /// Whether an INVITE of some call received its response in this client transaction.
     pub fn has_heard(&self, key: TKey) -> bool
         ensures { result ≡ is_some (position (had_answer_by key) self.now.table.entries) }
     {
         place_heard(&self.table, key).is_some()
     }
 
-    /// The peer of a side's leg, and the account that is served there; None exactly where the call does not live or that side has no leg.
+    /// The peer of a side's leg, and the account that is served there; None exactly if the call is not live or that side has no leg.
     pub fn party(&self, call: CallNo, side: Side) -> Option<(Peer, Option<Account>)>
         ensures { (peers : Peers) (accounts : List AccountIdentity) (deeds : List Deed) →
             Stands peers accounts self.now deeds →
@@ -364,7 +365,7 @@ impl Calls {
         asked::party(&self.table, call, side)
     }
 
-    /// The rows of calls that are over and that were not handed over, in the order in which they were closed.
+    /// The CDRs of calls that are over that were not handed over, in the order in which they were closed.
     pub fn rows_waiting(&self) -> &[Row]
         ensures rows { (peers : Peers) (accounts : List AccountIdentity) (deeds : List Deed) →
             Stands peers accounts self.now deeds →
@@ -374,7 +375,7 @@ impl Calls {
         self.table.rows()
     }
 
-    /// So many of the rows that wait were handed over.
+    /// Removes this many of the CDRs that wait: they were handed over.
     pub fn drop_rows(&mut self, count: usize)
         requires { count ≤ length self.old.table.rows }
         ensures done { (peers : Peers) (accounts : List AccountIdentity) (deeds : List Deed) →
@@ -386,11 +387,11 @@ impl Calls {
         self.table.drop_rows(count);
     }
 
-    /// Takes the standing leg of a side out of a talking call; its meter stays with the call (RFC 4579 §5.6). It takes no memory.
+    /// Detaches the confirmed leg of a side from a stable call; its meter stays with the call (RFC 4579 §5.6). It allocates nothing.
     ///
     /// # Errors
     ///
-    /// `NotTalking` exactly where the call does not talk, or a leg of it is away.
+    /// `NotTalking` exactly if the call is not stable, or a leg of it is detached.
     #[tactic(auto, using(crate::proofs::Away::without_meter))]
     pub fn release(&mut self, call: CallNo, side: Side) -> Result<Released, NotTalking>
         ensures done { (peers : Peers) (accounts : List AccountIdentity) (deeds : List Deed) →
@@ -407,7 +408,7 @@ impl Calls {
         lending::release(&mut self.table, call, side)
     }
 
-    /// Puts a leg back that was taken out of this call. It takes no memory.
+    /// Puts back a leg that was detached from this call. It allocates nothing.
     pub fn restore(&mut self, call: CallNo, away: Released)
         requires fits { takes_back away (entry_of call.0 self.old.table.entries) ≡ true }
         requires meter { (released_leg away).meter ≡ None }
@@ -420,11 +421,11 @@ impl Calls {
         lending::restore(&mut self.table, call, away);
     }
 
-    /// Ends a call whose leg is away: BYE to the leg that is left, and its rows are closed; the tokens have drawn what that took.
+    /// Ends a call whose leg is detached: BYE to the remaining leg, and its CDRs are closed; the tokens are those after what that drew.
     ///
     /// # Errors
     ///
-    /// Want of memory alone: the calls have failed then, and each later signal answers it and changes nothing. Of the tokens nothing is said then, but that they stay where
+    /// Out of memory only: the calls have failed then, and each later signal gets it and changes nothing. Nothing is claimed of the tokens then, except that they are unchanged if
     /// the calls had failed before; so the layer above draws no more from them.
     pub fn finish(
         &mut self,
@@ -461,7 +462,7 @@ impl Calls {
         finished
     }
 
-    /// Spends all calls, without rows. It takes no memory.
+    /// Spends all calls, without CDRs. It allocates nothing.
     pub fn give_up(self) {
         let Calls {
             configuration,

@@ -1,4 +1,4 @@
--- What is asked of alike tables has the same answers.
+-- Queries on indistinguishable tables have the same results.
 use Rattle.std.proofs.Common.{◌≡◌, ℕ, Bool, false, List, refl, ap, sym, ◌∙◌, cond, Option, Some, None}
 use Rattle.std.specs.Prelude.{count_by, is_some, nat_le, position}
 use Rattle.std.specs.Option.{option_map}
@@ -70,7 +70,7 @@ module _ (laws : OfCalls) (records : List Sheet) (known : Peer → Bool) where
       ap (λ (b : Bool). cond b (side_that_asked key e.invites) None) (live-same laws.tell records known e f a)
       ∙ ap (λ (l : List InviteKey). cond (is_live f) (side_that_asked key l) None) a.invites
 
-  -- ---- who a side is
+  -- ---- the peer and the account of a side
 
   party_left_told : (origin served : Option Account) (side : Side) (left : Released) → party_left origin served side (public_released known left) ≡ party_left origin served side left
   party_left_told origin served Caller (released.Caller leg) = refl
@@ -92,7 +92,7 @@ module _ (laws : OfCalls) (records : List Sheet) (known : Peer → Bool) where
   party-at side (Some e) None a = absurd a
   party-at side (Some e) (Some f) a = through laws.tell records known (λ (c : Call). party_in c.opening.served.origin side c.phase) (λ c. party_told c.opening.served.origin side c.phase) e f a
 
-  -- ---- a leg that is away
+  -- ---- a leg that is detached
 
   lent_told : (p : Phase) → is_lent (public_phase known p) ≡ is_lent p
   lent_told (Offered x) = refl

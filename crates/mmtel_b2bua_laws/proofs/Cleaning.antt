@@ -1,4 +1,4 @@
--- What goes out of a table of calls is clean.
+-- What a table of calls sends is clean.
 use Rattle.std.proofs.Common.{◌≡◌, ℕ, zero, suc, Bool, true, false, List, [], ◌∷◌, ◌++◌, Option, Some, None, length, drop, refl, ap, sym, subst}
 use Rattle.std.proofs.lemmas.Option.{none-some}
 use Rattle.std.specs.Prelude.{if◌then◌else◌}
@@ -30,7 +30,7 @@ use Rattle.mmtel_b2bua_laws.specs.Lives as lives
 use Rattle.mmtel_b2bua_laws.specs.Lives.{Event, Life, call_after, emits_after}
 use Rattle.mmtel_b2bua_laws.proofs.Tabling.{bring_own}
 
--- ---- a life is given what the deeds are given
+-- ---- the input of a call's trace is that of the operations
 
 abbrev IsCleanEvent : (acks : List Acked) → Event → Type 0
 IsCleanEvent acks (lives.Hears x) = IsCleanHeard acks x
@@ -117,7 +117,7 @@ life-clean acks site (deed ∷ earlier) n life home given h =
         (table_after site earlier).entries event given.0 came) all h
     go false h same all = same h
 
--- ---- a life of signals is a story
+-- ---- a trace of signals alone
 
 plain-call : (s : Start) (heard : List story.Heard) → call_after s (signals heard) ≡ story.call_after s heard
 unfolding call_after story.call_after
@@ -137,11 +137,11 @@ each-drop P zero xs h = h
 each-drop P (suc n) [] h = tt
 each-drop P (suc n) (x ∷ xs) h = each-drop P n xs h.1
 
--- what a step with a desk of its own brought forth
+-- the output of a step whose output was empty before
 own-added : (P : Emit → Type 0) (before after : List Emit) → before ≡ [] → Each P after → Each P (added before after)
 own-added P before after e h = subst (Each P) (ap (λ (l : List Emit). drop (length l) after) (sym e)) h
 
--- so is each that goes out of a story, in which each ACK that was heard is one of these
+-- so is each that is sent in a trace, in which each ACK that was received is one of these
 abbrev OfStories : (acks : List Acked) → (Emit → Type 0) → Type 0
 OfStories acks P = (s : Start) (heard : List story.Heard) → IsCleanStart acks s → Each (IsCleanHeard acks) heard → AreAmong (acked_after s heard) acks → Each P (desk_after s heard).out
 

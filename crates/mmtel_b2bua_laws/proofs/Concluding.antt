@@ -1,4 +1,4 @@
--- What every life comes to.
+-- The result of every trace.
 use Rattle.std.proofs.Common.{◌≡◌, ℕ, ◌+◌, true, false, List, [], ◌++◌, Option, Some, None, refl, ap, sym, ◌∙◌}
 use Rattle.std.specs.Prelude.{is_some, option_to_list}
 use Rattle.mmtel_charging.specs.Meters.{Noted}
@@ -25,7 +25,7 @@ use Rattle.mmtel_b2bua_laws.specs.Laws.{LivesAreCharged, LivesAreCounted, LivesC
 use Rattle.mmtel_b2bua_laws.specs.Lives.{Event, call_after, over_at, rows_after}
 use Rattle.mmtel_b2bua_laws.proofs.Living.{Gone, Later, Lived, Place, Runs, Same, lived}
 
--- ---- the same is known, and it comes to the same
+-- ---- the same is known, and the result is the same
 
 pub known-same : (s : Start) (events : List Event) (heard : List Heard) → Lived s events heard → known_after s events ≡ story_known.known_after s heard
 known-same s events heard l = λ i. known_as s.site s.now (opening_in s) (λ k. l.stood k i)
@@ -33,7 +33,7 @@ known-same s events heard l = λ i. known_as s.site s.now (opening_in s) (λ k. 
 pub outcome-same : (s : Start) (events : List Event) (heard : List Heard) → Lived s events heard → outcome_after s events ≡ story_known.outcome_after s heard
 outcome-same s events heard l = λ i. outcome (known_as s.site s.now (opening_in s) (λ k. l.stood k i)) (l.endings i)
 
--- what stays of the story's call
+-- what does not change of the trace's call
 stays-same : (s : Start) (events : List Event) (heard : List Heard) → Place s events heard → StaysSame (story.call_after s heard) (call_after s events)
 stays-same s events heard (Same is rows over) = record {
   opening = ap (λ (c : Call). c.opening) is;
@@ -75,7 +75,7 @@ lives_come law charged comes s events =
     let (heard, l) = lived law charged s events in
     result-same law s events heard l.place ∙ comes s heard ∙ ap (λ (o : precedence.Outcome). o.result) (sym (outcome-same s events heard l))
 
--- ---- what goes out
+-- ---- what is sent
 
 pub lives_show : CallsGoOn → ChargingIsExact → ShowsItsOutcome → LivesShowTheirOutcome
 lives_show law charged shows s events others desks =

@@ -1,4 +1,4 @@
--- Of all rows those of a call are the rows of its deeds.
+-- Among all CDRs those of a call are the CDRs of its operations.
 use Rattle.std.proofs.Common.{◌≡◌, ◌≢◌, ℕ, suc, Bool, true, false, List, [], ◌∷◌, ◌++◌, Option, Some, None, inl, inr, map, refl, ap, sym, cond, subst, ◌∙◌}
 use Rattle.std.proofs.lemmas.List.Elements.{filter-append}
 use Rattle.std.proofs.lemmas.Option.{none-some}
@@ -32,7 +32,7 @@ use Rattle.mmtel_b2bua_laws.proofs.Moving.{ComesTo, Effect, Nobodys, Opens, effe
 use Rattle.mmtel_b2bua_laws.proofs.Own.{Holds, all-stay, begins, earlier-numbers, entry-lives, goes-so, holds_after, number-differs, number-is, told-apart}
 use Rattle.mmtel_b2bua_laws.proofs.Tabling.{nothing_of_nobody}
 
--- ---- rows and parts of one call
+-- ---- CDRs and parts of one call
 
 abbrev AllOf : (n : ℕ) → List Row → Type 0
 AllOf n [] = Unit {0}
@@ -95,7 +95,7 @@ charges-all end call number targets =
     (past-all number.0 end (past_parts call number 0 None targets) (past-parts-all call number 0 None targets)))
     (last-all number.0 end (option_to_list (last_part call number 0 targets)) (last-part-all call number 0 targets))
 
--- ---- the rows of a call
+-- ---- the CDRs of a call
 
 over-cause : (phase : Phase) → is_over phase ≡ true → (cause : Cause) × (phase ≡ Over cause)
 over-cause (Offered x) h = absurd (let e : false ≡ true = h in cc)
@@ -123,9 +123,9 @@ call-all law charged site deeds n life few back is =
         (subst (λ m. AllOf m (charges_after life.start life.events cause)) numbered (charges-all (ended_by life.start life.events cause)
         (known_after life.start life.events) life.start.arrival.number (outcome_after life.start life.events).targets))
 
--- ---- the rows of a deed
+-- ---- the CDRs of an operation
 
--- the call that it is of has a life then
+-- the call to which it belongs has a trace then
 there : (site : Site) (deed : Deed) (earlier : List Deed) (m : ℕ) → Holds site earlier → call_of site deed (table_after site earlier) ≡ Some m →
     Effect site deed (table_after site earlier) → (life : Life) × (life_of site m (deed ∷ earlier) ≡ Some life)
 there site deed earlier m holds call (Opens s o) =
@@ -156,7 +156,7 @@ deed-all law charged site deed earlier m few back call =
     all-behind m (rows_of site m earlier) rows
     (subst (λ b. AllOf m (rows_of site m earlier ++ (if b then rows else []))) its (call-all law charged site (deed ∷ earlier) m life few back is))
 
--- ---- all rows
+-- ---- all CDRs
 
 kept-all : (n : ℕ) (rows : List Row) → AllOf n rows → filter (is_row_of n) rows ≡ rows
 kept-all n [] h = refl

@@ -1,4 +1,4 @@
--- Of each deed what goes out is clean, since each call of the table is; and so is a leg that is taken out of one.
+-- What each operation sends is clean, because what each call of the table sends is; and so is a leg that is detached from one.
 use Rattle.std.proofs.Common.{ℕ, zero, suc, Bool, true, false, List, [], ◌∷◌, Option, Some, None, take, drop}
 use Rattle.std.specs.Prelude.{IfSome, if◌then◌else◌, position, remove, slice_get, slice_set}
 use Rattle.mmtel_desk.specs.Desks.{fresh}
@@ -77,7 +77,7 @@ moved-clean acks place invites e s es all is = record { entries_in = put-clean a
 good : (site : Site) (at : ℕ) (view : InForce) (busy : List Rattle.mmtel_types.specs.declared.numbers.Account.Account) → IsClean site.home → AreCleanRecords view → IsGood site (standing at view busy)
 good site at view busy home records = record { home_in = home; sheets_in = records }
 
--- the ACK that a call hears is one of these
+-- the ACK that a call receives is one of these
 abbrev AckIsAmong : (acks : List Acked) → Site → calls.Signal → Entry → Type 0
 AckIsAmong acks site s e = AreAmong (of_story.acked_by site s e.call) acks
 
@@ -181,7 +181,7 @@ ended-clean : (acks : List Acked) (site : Site) (at : ℕ) (o : Option ℕ) (es 
 ended-clean acks site at None es desk had all = record { entries_in = all; out_in = had.out_in }
 ended-clean acks site at (Some place) es desk had all = end-clean acks site at place (slice_get es place) es desk had all (each_get (IsCleanEntry acks) es place all)
 
--- the leg that is taken out
+-- the leg that is detached
 leg-clean : (acks : List Acked) (side : Side) (o : Option Entry) → IfSome o (IsCleanEntry acks) → IfSome (leg_of_entry side o) IsCleanLeg
 leg-clean acks side None is = tt
 leg-clean acks side (Some e) is = taken_out_clean acks e.call.phase side is.phase
@@ -190,7 +190,7 @@ found-clean : (acks : List Acked) (o : Option ℕ) (es : List Entry) → Each (I
 found-clean acks None es all = tt
 found-clean acks (Some place) es all = each_get (IsCleanEntry acks) es place all
 
--- ---- each deed
+-- ---- each operation
 
 hears-clean : (acks : List Acked) (site : Site) (x : Heard) (table : Table) → IsClean site.home → IsGivenClean (Hears x) → AreAmong (acked_by site (Hears x) table.entries) acks → Each (IsCleanEntry acks) table.entries → IsCleanMoved acks (histories.heard_by site x table)
 hears-clean acks site x table home given among all =

@@ -1,4 +1,4 @@
--- A table keeps what holds of each of its calls, whatever is done on it.
+-- A table keeps the invariant of each of its calls, whatever the operation.
 use Rattle.std.proofs.Common.{◌≡◌, ℕ, Bool, true, false, List, [], ◌∷◌, refl, cond, Option, Some, None}
 use Rattle.std.specs.Prelude.{position, remove, slice_get, slice_set}
 use Rattle.mmtel_desk.specs.Desks.{fresh}
@@ -124,7 +124,7 @@ module _ (keep : CallsKeep) (records : List Sheet) (t : Trust) where
   unfolding ended
   ended-kept site at number es desk k = ended_by-kept site at (place_of number es) es desk k
 
-  -- ---- any deed
+  -- ---- any operation
 
   pub did-kept : (site : Site) (deed : Deed) (table : Table) → DoesWell records t deed → AreKept records t table.entries → AreKept records t (did site deed table).entries
   did-kept site (Hears x) table well k = taken-kept site x.at x.view well.0 x.signal (next_number table.opened) table.entries (fresh x.tokens) well.1 k

@@ -21,7 +21,7 @@ use Rattle.mmtel_b2bua_laws.specs.Lives.{Event, Life}
 some-same : {A : Type 0} (x y : A) → Some x ≡ Some y → x ≡ y
 some-same x y h = cc
 
--- ---- a server transaction by which no call was opened
+-- ---- a server transaction in which no call was opened
 
 abbrev Differs : TKey → Start → Type 0
 Differs key s = (key.0 == s.arrival.key.0) ≡ false
@@ -67,7 +67,7 @@ life-differs site (deed ∷ earlier) n key life given h =
         (λ s opens. deed-differs site deed (table_after site earlier) key s given.0 opens) before h
     go false h before = before life h
 
--- ---- what comes to a call
+-- ---- events of a call
 
 signal-others : (site : Site) (earlier : List Deed) (n : ℕ) (life : Life) → life_of site n earlier ≡ Some life →
     (at : ℕ) (view : InForce) (tokens : Drawn) (heard : Signal) (es : List Entry) (event : Event) → HasOwnKey heard earlier →
@@ -104,7 +104,7 @@ goes-others None None (Some earlier) life event before h = subst HasOthers (some
 goes-others None (Some x) (Some earlier) life event before h = subst HasOthers (some-same (record earlier { events = x ∷ earlier.events }) life h)
     (event earlier x refl refl, before earlier refl)
 
--- ---- every life
+-- ---- every trace
 
 pub life_others : (site : Site) (deeds : List Deed) (n : ℕ) (life : Life) → HaveOwnKeys deeds → life_of site n deeds ≡ Some life → HasOthers life
 unfolding life_of

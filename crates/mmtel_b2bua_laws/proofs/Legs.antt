@@ -1,4 +1,4 @@
--- A leg that was taken out of a call fits where it was, and put back it leaves the calls as they were.
+-- A leg that was detached from a call may be put back where it was, and then the calls are as they were before.
 use Rattle.std.proofs.Common.{◌≡◌, ℕ, zero, suc, ◌==◌, true, List, [], ◌∷◌, Option, Some, None, length, cond, refl, ap, sym, subst, ◌∙◌}
 use Rattle.std.proofs.Math.Seq.{lt-length-set}
 use Rattle.std.proofs.lemmas.List.{get_or-set_same, length-set}
@@ -55,7 +55,7 @@ lent_number : (number : ℕ) (side : Side) (e : Entry) → is_numbered number (l
 unfolding is_numbered
 lent_number number side e = ap (λ n. n == number) (same_number e.call.phase side e.call)
 
--- ---- a call of a list, at its place
+-- ---- a call of a list, at its index
 
 found_stays : (p : Entry → Bool) (es : List Entry) (k : ℕ) (e y : Entry) → slice_get es k ≡ Some e → p y ≡ p e →
     cond (nat_lt (position_or_len p (slice_set es k y)) (length (slice_set es k y))) (Some (position_or_len p (slice_set es k y))) None

@@ -1,4 +1,4 @@
--- A leg that is taken out of a call of two alike tables, that is put back, and the end of a call without it.
+-- A leg that is detached from a call of two indistinguishable tables, that is put back, and the end of a call without it.
 use Rattle.std.proofs.Common.{◌≡◌, ℕ, Bool, List, [], refl, subst, Option, Some, None}
 use Rattle.std.specs.Prelude.{slice_get}
 use Rattle.std.specs.Option.{option_map}
@@ -32,7 +32,7 @@ module _ (laws : OfCalls) (records : List Sheet) (known : Peer → Bool) where
   pub place-same : (number : ℕ) (es fs : List Entry) → AlikeEntries records known es fs → place_of number es ≡ place_of number fs
   place-same number es fs a = position-same records known (is_numbered number) (is_numbered number) (λ e f b. numbered-same laws.tell records known number e f b) es fs a
 
-  -- both or neither table has a call of this number, and they are alike
+  -- both tables have a call of this number or neither has, and the calls are indistinguishable
   pub entry-at : (place : Option ℕ) (es fs : List Entry) → AlikeEntries records known es fs → AlikeAt records known (entry_at place es) (entry_at place fs)
   entry-at None es fs a = tt
   entry-at (Some place) es fs a = get-alike records known es fs a place
@@ -50,7 +50,7 @@ module _ (laws : OfCalls) (records : List Sheet) (known : Peer → Bool) where
   pub legs-alike : (number : ℕ) (side : Side) (t u : Table) → AlikeTables records known t u → option_map (public_released known) (leg_out number side t.entries) ≡ option_map (public_released known) (leg_out number side u.entries)
   legs-alike number side t u a = leg_of side (entry_of number t.entries) (entry_of number u.entries) (entry-alike number t.entries u.entries a.entries)
 
-  -- ---- taken out
+  -- ---- detached
 
   lent_at-alike : (side : Side) (place : ℕ) (g h : Option Entry) (es fs : List Entry) → AlikeAt records known g h → AlikeEntries records known es fs → AlikeEntries records known (lent_at side place g es) (lent_at side place h fs)
   lent_at-alike side place None None es fs b a = a
@@ -107,7 +107,7 @@ module _ (laws : OfCalls) (records : List Sheet) (site far : Site) (keys : TKey 
   end-stays at e f one other b d =
       subst (λ (s : Step). AlikeCalls records known2 (finished site at e.call one).call s.call) (laws.ends site far at f.call other configured.equal) (laws.lending.ended records site keys at e.call f.call one other b.calls d)
 
-  -- where one is there, what is asked of a call of a table holds of it
+  -- if there is one, the premises on a call of a table hold of it
   abbrev KeptAt : Option Entry → Type 0
   KeptAt g = (e : Entry) → g ≡ Some e → IsKept records T e.call
 

@@ -1,4 +1,4 @@
--- What each call of a table comes to:
+-- The result of each call of a table:
 mod Tables
 mod Moving
 pub mod Living
@@ -13,7 +13,7 @@ mod Replies
 mod Legs
 mod Filing
 mod Keys
--- What nobody may learn from a table:
+-- What nobody may learn from a table (noninterference):
 mod Places
 mod Told
 mod Keeping

@@ -1,5 +1,5 @@
--- A life and a story of signals alone that comes to the same.
--- Once a leg of the call was taken out the call was answered, and whatever it hears then changes nothing of its Outcome.
+-- A trace of a call and a trace of signals alone that has the same result.
+-- When a leg of the call was detached the call had been answered, and whatever it receives then changes nothing of its Outcome.
 use Rattle.std.proofs.Common.{◌≡◌, ℕ, ◌-◌, Bool, true, false, List, [], ◌∷◌, ◌++◌, Option, Some, None, length, drop, refl, ap, sym, subst, ◌∙◌}
 use Rattle.std.proofs.lemmas.List.{append-nil, drop_at}
 use Rattle.std.specs.Prelude.{if◌then◌else◌, nat_lt, not, option_to_list}
@@ -41,9 +41,9 @@ use Rattle.mmtel_b2bua_laws.specs.Known.{AreFitting, AreOthers, HaveOwnDesks, Is
 use Rattle.mmtel_b2bua_laws.specs.Lives.{Event, Finishes, Hears, Releases, Restores, call_after}
 use Rattle.mmtel_b2bua_laws.specs.Lives.{call_by, emits_by, emits_while_offered, moment_by, over_at, rows_after, rows_by as filed_by}
 
--- ---- a step of a call that stands
+-- ---- a step of an established call
 
--- what is the same where an event comes to a call that stands, or where it leaves it as it is
+-- what is the same where an event happens to an established call, or where the event does not change it
 data Turns (P : Type 0) (at : ℕ) (c d : Call) (filed : List Row) : Type 0 where
   Keeps : d ≡ c → filed ≡ [] → Turns P at c d filed
   Stays : stands_in c.phase ≡ true → StaysSame c d → stands_in d.phase ≡ true → (P → parts_now d ≡ parts_now c) → filed ≡ [] → Turns P at c d filed
@@ -63,7 +63,7 @@ lent-turns (Stood x (Asking asking q)) side c at = Keeps refl refl
 lent-turns (Lent loan) side c at = Keeps refl refl
 lent-turns (Over cause) side c at = Keeps refl refl
 
--- by the leg that comes back and the one that was left
+-- by the leg that is put back and the one that remained
 back-parts : (away left : Released) (loan : Loan) (c : Call) → loan.left ≡ left → fits_in (Lent loan) away ≡ true →
     parts_now (put_back_in (Lent loan) away (record c { phase = Lent loan })) ≡ parts_now (record c { phase = Lent loan })
 back-parts (released.Caller leg) (released.Caller other) loan c is fits = absurd (let e : false
@@ -88,14 +88,14 @@ ended_so : (answered : Option ℕ) → cause_by answered causes.Ended ≡ causes
 ended_so None = refl
 ended_so (Some at) = refl
 
--- what a step brought forth
+-- the output of a step
 added-none : {A : Type 0} (before : List A) → added before before ≡ []
 added-none before = ap (λ l. drop (length before) l) (sym (append-nil before)) ∙ drop_at before [] (length before) refl
 
 added-is : {A : Type 0} (before behind after : List A) → after ≡ before ++ behind → added before after ≡ behind
 added-is before behind after e = ap (λ l. drop (length before) l) e ∙ drop_at before behind (length before) refl
 
--- what is in flight has its answers, and no row is filed
+-- requests in flight get their final responses, and no CDR is filed
 each_rows : (site : Site) (c : Call) (flights : List Flight) (desk : Desk) → (dismissed_each site c flights desk).rows ≡ desk.rows
 each_rows site c [] desk = refl
 each_rows site c (flight ∷ flights) desk = each_rows site c flights (dismissed_flight site c flight desk)
@@ -121,7 +121,7 @@ finished-turns (Lent loan) site at c desk =
     (last_of loan.left loan.meter))))
 finished-turns (Over cause) site at c desk = Keeps refl (added-none desk.rows)
 
--- a signal that comes to a call that stands
+-- a signal that an established call receives
 heard-turns : CallsGoOn → (site : Site) (x : Heard) (c : Call) → stands_in c.phase ≡ true →
     let s = step site x.now x.signal c x.desk in Turns (Unit {0}) x.now.at c s.call (added x.desk.rows s.desk.rows)
 heard-turns law site x c stands =
@@ -131,7 +131,7 @@ heard-turns law site x c stands =
       | going.Leaves r ↦ Leaves stands r.same r.over r.past r.flights (added-is x.desk.rows _ s.desk.rows r.filed)
     ]
 
--- ---- a call of which a leg was taken out once, beside the call of a story that talks
+-- ---- a call of which a leg was detached once, beside the call of a trace of signals, which is stable
 
 pub data After (P : Type 0) (at : ℕ) (d c : Call) (rows : List Row) : Type 0 where
   Runs : stands_in c.phase ≡ true → (P → (parts_now c ≡ parts_now d)) → rows ≡ [] → After P at d c rows
@@ -235,7 +235,7 @@ no-end x c h = go c.phase h
     go (Lent loan) h = refl
     go (Over cause) h = refl
 
--- ---- a life beside a story
+-- ---- a trace beside one of signals
 
 pub data Place (s : Start) (events : List Event) (heard : List Heard) : Type 0 where
   Same : call_after s events ≡ story.call_after s heard → rows_after s events ≡ story.rows_after s heard → (is_over (story.call_after s heard).phase ≡ true →
@@ -252,7 +252,7 @@ pub record Lived (s : Start) (events : List Event) (heard : List Heard) : Type 0
 
 -- ---- an event that is no signal
 
--- it goes on from a story's call that stands
+-- it continues from the established call of a trace of signals
 stood-same : (law : ChargingIsExact) (s : Start) (earlier : List Event) (heard : List Heard) (c : Call) → c ≡ story.call_after s heard →
     rows_after s earlier ≡ story.rows_after s heard → stands_in c.phase ≡ true →
     After (AreFitting s earlier) (over_at s earlier) (story.call_after s heard) c (rows_after s earlier)
@@ -309,7 +309,7 @@ no-signal law s x earlier heard turns ends stands out l = record {
   place = place-of law s x earlier heard turns l.place;
 }
 
--- while it is offered it is not ended so
+-- while it is offered it does not end in this way
 finished-out : (phase : Phase) (site : Site) (at : ℕ) (c : Call) (desk : Desk) →
     (if is_offered phase then added desk.out (finished_in phase site at (record c { phase = phase }) desk).desk.out else []) ≡ []
 finished-out (Offered x) site at c desk = added-none desk.out
@@ -319,7 +319,7 @@ finished-out (Over cause) site at c desk = refl
 
 -- ---- a signal
 
--- a signal that says nothing
+-- a signal without effect
 abbrev pub quiet : Heard → Heard
 quiet x = record { now = x.now; signal = of_call.Silent [] []; desk = x.desk }
 
@@ -378,12 +378,12 @@ signal-later law s x earlier heard stands kept after l =
           (after-heard law (AreFitting s earlier) (over_at s earlier) d c (rows_after s earlier) s.site x after);
     }
 
--- what else is told of a life beside its story, step by step
+-- what else is observed of a trace beside one of signals, step by step
 pub record Beside (s : Start) (R : List Event → List Heard → Type 0) : Type 0 where
   pub opens : R [] []
-  -- the call is that of the story
+  -- the call is that of the trace of signals
   pub same : (x : Heard) (earlier : List Event) (heard : List Heard) → call_after s earlier ≡ story.call_after s heard → R earlier heard → R (Hears x ∷ earlier) (x ∷ heard)
-  -- a leg of it was taken out once, and the story has a signal that says nothing
+  -- a leg of it was detached once, and the trace of signals has a signal without effect
   pub later : (x : Heard) (earlier : List Event) (heard : List Heard) → stands_in (story.call_after s heard).phase ≡ true → is_offered (call_after s earlier).phase ≡ false →
       R earlier heard → R (Hears x ∷ earlier) (quiet x ∷ heard)
   -- what is no signal
@@ -403,7 +403,7 @@ signal-lives law s R b x earlier heard (Later stands kept after) l r = (
   b.later x earlier heard stands (after-offered (AreFitting s earlier) (over_at s earlier) (story.call_after s heard) (call_after s earlier) (rows_after s earlier) after) r,
 )
 
--- ---- every life
+-- ---- every trace
 
 pub lived_beside : CallsGoOn → ChargingIsExact → (s : Start) (R : List Event → List Heard → Type 0) → Beside s R → (events : List Event) → LivedBeside s R events
 unfolding call_after rows_after over_at endings_after stood_after emits_while_offered story.call_after story.rows_after story.over_at story_endings.endings_after
@@ -432,7 +432,7 @@ lived_beside law charged s R b (Finishes at desk ∷ earlier) =
       b.finishes at desk earlier heard r,
     )
 
--- of which nothing else is told
+-- of which nothing else is observed
 nothing-beside : (s : Start) → Beside s (λ events heard. Unit {0})
 nothing-beside s = record {
   opens = tt;

@@ -1,4 +1,4 @@
--- What a deed does to the table: it opens a call, comes to the call that it is of, or does nothing.
+-- The effect of an operation on the table: it opens a call, changes the call to which it belongs, or does nothing.
 use Rattle.std.proofs.Common.{◌≡◌, ℕ, Bool, false, List, [], ◌++◌, Some, None, refl, ap, sym, ◌∙◌}
 use Rattle.std.proofs.lemmas.List.{append-nil}
 use Rattle.std.specs.Prelude.{if◌then◌else◌, find, position, slice_get, slice_set, remove}
@@ -35,11 +35,11 @@ use Rattle.mmtel_b2bua_laws.specs.Lives as lives
 use Rattle.mmtel_b2bua_laws.specs.Lives.{Event, call_by, emits_by}
 use Rattle.mmtel_b2bua_laws.proofs.Tables.{Finds, Found, Lost, changed, finds, left, put, put-is}
 
--- nothing may be heard of it any more
+-- nothing more may be received for it
 abbrev pub gone : Entry → Bool
 gone e = is_settled e.call
 
--- the call at this place stands so now
+-- the call at this index is replaced by this one
 placed : (p : Entry → Bool) (es : List Entry) (place : ℕ) (e z : Entry) → position_or_len p es ≡ place → slice_get es place ≡ Some e →
     put gone place z es ≡ changed p (λ x. left gone z) es
 placed p es place e z at is = put-is gone p (λ x. z) es place e at is
@@ -48,9 +48,9 @@ placed p es place e z at is = put-is gone p (λ x. z) es place e at is
 set-stays : (es : List Entry) (place : ℕ) (z : Entry) → is_settled z.call ≡ false → slice_set es place z ≡ put gone place z es
 set-stays es place z h = ap (λ b. if b then remove (slice_set es place z) place else slice_set es place z) (sym h)
 
--- ---- what comes of a deed
+-- ---- the result of an operation
 
--- something comes to a call that stands in the table
+-- an event of a call that is in the table
 pub record Comes (site : Site) (deed : Deed) (table : Table) (p : Entry → Bool) (e z : Entry) (event : Event) : Type 0 where
   pub opens : opening_by site deed table ≡ None
   pub met : met_by deed table.entries ≡ Some e
@@ -65,7 +65,7 @@ pub record Comes (site : Site) (deed : Deed) (table : Table) (p : Entry → Bool
   pub own : HasOwnDesk event
   pub fits : IsPutBack deed table → IsFitting event e.call
 
--- nothing comes to any call
+-- no call has an event
 pub record IsNobodys (site : Site) (deed : Deed) (table : Table) : Type 0 where
   pub opens : opening_by site deed table ≡ None
   pub met : met_by deed table.entries ≡ None
@@ -98,7 +98,7 @@ pub data Effect (site : Site) (deed : Deed) (table : Table) : Type 0 where
 abbrev of_signal : (at : ℕ) → InForce → Drawn → Signal → Deed
 of_signal at view tokens s = Hears (record { at = at; view = view; tokens = tokens; signal = s })
 
--- as all signals but an INVITE without To tag are taken
+-- as all signals except an INVITE without To tag are processed
 record IsTaken (site : Site) (at : ℕ) (view : InForce) (tokens : Drawn) (s : Signal) (table : Table) (whose : Entry → Bool) (heard : calls.Signal) : Type 0 where
   pub opens : opening_by site (of_signal at view tokens s) table ≡ None
   pub met : met_by (of_signal at view tokens s) table.entries ≡ find whose table.entries
@@ -190,9 +190,9 @@ hears-effect site at view tokens (signal.Over key) table =
     signal-effect site at view tokens _ table (heard_by key) (of_call.Ended key) (record { opens = refl; met = refl; came = λ n. refl; opened = refl; moved = refl })
     (finds _ table.entries)
 
--- ---- legs that are taken out
+-- ---- legs that are detached
 
--- each call of the table may be heard of
+-- for each call of the table something may still be received
 abbrev pub AllStay : List Entry → Type 0
 AllStay es = (p : Entry → Bool) (e : Entry) → find p es ≡ Some e → is_settled e.call ≡ false
 
@@ -299,7 +299,7 @@ finished-effect site number at tokens table (Lost lost none) =
           (m : Moved). m.desk.rows) moved;
     })
 
--- ---- any deed
+-- ---- any operation
 
 pub effect : (site : Site) (deed : Deed) (table : Table) → AllStay table.entries → Effect site deed table
 effect site (Hears x) table stay = hears-effect site x.at x.view x.tokens x.signal table

@@ -1,4 +1,4 @@
--- A signal leaves alike tables alike, and the same is seen of what it brings forth.
+-- A signal leaves indistinguishable tables indistinguishable, and the observable part of its output is the same.
 use Rattle.std.proofs.Common.{◌≡◌, ℕ, Bool, true, false, List, [], ◌∷◌, ◌++◌, refl, ap, sym, ◌∙◌, cond, subst, Option, Some, None}
 use Rattle.std.specs.Prelude.{option_to_list, position, remove, slice_get, slice_set}
 use Rattle.mmtel_answers.specs.Said.{Said}
@@ -63,7 +63,7 @@ pub record OfCalls : Type 0 where
 
 -- ---- a signal of a call, and one that opens a call
 
--- which call hears it
+-- which call receives it
 data Whose : Type 0 where
   Numbered : (number : ℕ) → Whose
   Sent : (branch : Option (List ℕ)) → Whose
@@ -140,9 +140,9 @@ taken_as (signal.Silent branch method) site at view number es desk = refl
 taken_as (signal.Due call what) site at view number es desk = refl
 taken_as (signal.Over key) site at view number es desk = refl
 
--- ---- what holds of it
+-- ---- the premises on it
 
--- an INVITE is asked by its own peer, and has the role of an opening
+-- an INVITE was sent by its own peer, and has the role of an opening
 record IsOpening (t : Trust) (now : Standing) (key : TKey) (invite : Said) (served : Served) (role : Role) : Type 0 where
   pub asked : IsAsked t key invite
   pub role_is : role ≡ opening_role (is_caller_restricted invite.heard.wants (origin_sheet now served))
@@ -217,7 +217,7 @@ opens_public role (OfCall whose x invites) = refl
 kinds_same : (role second : Role) (x y : Signal) → public_signal role x ≡ public_signal second y → public_kind role (kind_of x) ≡ public_kind second (kind_of y)
 kinds_same role second x y e = sym (kind_public role x) ∙ (ap kind_of e ∙ kind_public second y)
 
--- one that opens a call is alike one that does
+-- one that opens a call is indistinguishable from one that does
 pub opening-same : (role second : Role) (x y : Signal) → public_signal role x ≡ public_signal second y → is_opening x ≡ is_opening y
 opening-same role second x y e =
     sym (opens_told x) ∙ (sym (opens_public role (kind_of x)) ∙ (ap opens_kind (kinds_same role second x y e) ∙ (opens_public second (kind_of y) ∙ opens_told y)))
@@ -240,7 +240,7 @@ module _ (laws : OfCalls) (records : List Sheet) (site far : Site) (keys : TKey 
   whose-same (Sent branch) e f a = sent-same laws.tell records known branch e f a
   whose-same (Asked key) e f a = heard-same laws.tell records known key e f a
 
-  -- the call at a place stands so now, or leaves the table
+  -- the call at an index is replaced by this one, or leaves the table
   put_if : (b c : Bool) (at : ℕ) (es fs : List Entry) → b ≡ c → AlikeEntries records known es fs → AlikeEntries records known (cond b (remove es at) es) (cond c (remove fs at) fs)
   put_if true true at es fs same a = remove-alike records known es fs a at
   put_if true false at es fs same a = absurd cc
@@ -355,7 +355,7 @@ module _ (laws : OfCalls) (records : List Sheet) (site far : Site) (keys : TKey 
   pub same_desk : (desk : Desk) → AlikeDesks T desk desk
   same_desk desk = record { tokens = refl; rows = refl; out = refl }
 
-  -- the other signal, as if it came at the moment of the first
+  -- the other signal, as if it were received at the moment of the first
   abbrev beside : Told → Told → Heard
   beside one other = record other.heard { at = one.heard.at; view = one.heard.view; tokens = one.heard.tokens }
 
@@ -378,7 +378,7 @@ module _ (laws : OfCalls) (records : List Sheet) (site far : Site) (keys : TKey 
       (taken-alike x.at x.view hear.stand one.role other.role x.signal other.heard.signal (next_number t.opened) t.entries u.entries (fresh x.tokens) (fresh x.tokens)
       hear.said hear.callers hear.looks a.alike.entries first then (same_desk (fresh x.tokens))))
 
-  -- ---- the table after calls moved
+  -- ---- the table after a step of its calls
 
   pub with-alike : (p q : Moved) (n m : ℕ) (t u : Table) → n ≡ m → AlikeMoves p q → AlikeTables records known t u → AlikeTables records known (with_moved p n t) (with_moved q m u)
   with-alike p q n m t u same moves a = record {

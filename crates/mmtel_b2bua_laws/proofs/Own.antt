@@ -1,4 +1,4 @@
--- Each call of a table takes just the steps of its own signals.
+-- Each call of a table takes exactly the steps of its own signals.
 use Rattle.std.proofs.Common.{◌≡◌, ◌≢◌, ℕ, ◌+◌, ◌<◌, ◌≤◌, ◌==◌, Bool, true, false, List, [], ◌∷◌, ◌++◌, Option, Some, None, inl, inr, refl, ap, sym, subst, ◌∙◌, arith}
 use Rattle.std.proofs.lemmas.Bool.Decides.{nat_tests}
 use Rattle.std.proofs.lemmas.List.{append-nil}
@@ -24,7 +24,7 @@ use Rattle.mmtel_b2bua_laws.proofs.Moving.{AllStay, Comes, ComesTo, Effect, IsNo
 use Rattle.mmtel_b2bua_laws.proofs.Tables.{Rising, changed, changed-found, changed-others, changed-rising, found-bounded, found-by-number}
 use Rattle.mmtel_b2bua_laws.proofs.Tables.{left, left-found, left-others, left-rising, more-found, more-others, more-rising, none-above}
 
--- a call stays the one that was opened
+-- a call remains the one that was opened
 abbrev pub Stay : Type 0
 Stay = (s : Start) (events : List Event) → (call_after s events).opening ≡ opening_in s
 
@@ -64,7 +64,7 @@ earlier-numbers site (Restores number away) earlier h = h
 earlier-numbers site (Finishes number at tokens) earlier h = h
 earlier-numbers site (Drops count) earlier h = h
 
--- ---- what holds of a table after deeds
+-- ---- what holds of a table after operations
 
 pub record Holds (site : Site) (deeds : List Deed) : Type 0 where
   pub rising : Rising 0 (table_after site deeds).entries (table_after site deeds).opened
@@ -73,7 +73,7 @@ pub record Holds (site : Site) (deeds : List Deed) : Type 0 where
   pub brings : (n : ℕ) (life : Life) → life_of site n deeds ≡ Some life → BringForthTheirOwn site deeds n life
   pub fits : ArePutBack site deeds → (n : ℕ) (life : Life) → life_of site n deeds ≡ Some life → AreFitting life.start life.events
 
--- the life of an entry
+-- the trace of an entry
 pub record IsLived (l : Option Life) (e : Entry) (life : Life) : Type 0 where
   pub is : l ≡ Some life
   pub stays : is_settled (call_after life.start life.events) ≡ false
@@ -97,7 +97,7 @@ pub all-stay : (site : Site) (deeds : List Deed) → Holds site deeds → AllSta
 all-stay site deeds holds p e h =
     let (life, l) = entry-lives site deeds p e holds h in ap (λ (e : Entry). is_settled e.call) (sym l.entry) ∙ l.stays
 
--- ---- a deed of nobody, or of another call, leaves a life as it is
+-- ---- an operation of no call, or of another call, does not change a trace
 
 abbrev at_number : {A : Type 0} → (n : ℕ) → Option ℕ → List A → List A
 at_number n call xs = if is_number n call then xs else []
@@ -122,7 +122,7 @@ passed-brings : (site : Site) (deed : Deed) (earlier : List Deed) (n : ℕ) (lif
 passed-brings site deed earlier n life holds p is =
     let b = holds.brings n life (sym p.life ∙ is) in record { opening = b.opening; desks = b.desks; emits = p.emits ∙ b.emits; rows = p.rows ∙ b.rows }
 
--- ---- a deed of nobody
+-- ---- an operation of no call
 
 nobody-holds : (site : Site) (deed : Deed) (earlier : List Deed) → Holds site earlier → IsNobodys site deed (table_after site earlier) → Holds site (deed ∷ earlier)
 nobody-holds site deed earlier holds o =
@@ -218,7 +218,7 @@ opened-holds stay site deed earlier s few holds o =
           ];
     }
 
--- ---- something comes to a call
+-- ---- an event of a call
 
 pub record GoesOn (site : Site) (deed : Deed) (earlier : List Deed) (n : ℕ) (life : Life) (event : Event) : Type 0 where
   pub is : life_of site n (deed ∷ earlier) ≡ Some (record life { events = event ∷ life.events })
@@ -328,7 +328,7 @@ come-holds stay site deed earlier p e z event holds c =
           ];
     }
 
--- ---- every list of deeds
+-- ---- every list of operations
 
 after-effect : Stay → (site : Site) (deed : Deed) (earlier : List Deed) → HasNumbers site (deed ∷ earlier) → Holds site earlier → Effect site deed (table_after site earlier) →
     Holds site (deed ∷ earlier)

@@ -1,4 +1,4 @@
--- What stands at the places of two alike lists of calls.
+-- The calls at the indices of two indistinguishable lists of calls.
 use Rattle.std.proofs.Common.{◌≡◌, ℕ, zero, suc, ◌+◌, Bool, not, List, [], ◌∷◌, ◌++◌, refl, ap, ◌∙◌, cond, length, subst, take, drop, Option, Some, None}
 use Rattle.std.specs.Prelude.{count_by, flat_map, fold, nat_lt, position, remove, slice_get, slice_set}
 use Rattle.std.specs.List.{prefix_len}
@@ -10,7 +10,7 @@ use Rattle.mmtel_call_laws.specs.Secret.Kept.{IsKept}
 use Rattle.mmtel_call_laws.specs.Secret.Seen.{Trust}
 use Rattle.mmtel_b2bua_laws.specs.Alike.{AlikeEntries, AlikeEntry, AreKept}
 
--- where one is found, if so many are tried of so many
+-- where one is found, after this many of this many were examined
 abbrev found_at : (tried long : ℕ) → Option ℕ
 found_at tried long = cond (nat_lt tried long) (Some tried) None
 
@@ -21,7 +21,7 @@ module _ (records : List Sheet) (known : Peer → Bool) where
   abbrev pub Alike : (es fs : List Entry) → Type 0
   Alike = λ es fs. AlikeEntries records known es fs
 
-  -- both or neither stands there, and they are alike
+  -- both or neither is there, and they are indistinguishable
   abbrev pub AlikeAt : (one other : Option Entry) → Type 0
   AlikeAt None None = Unit {0}
   AlikeAt None (Some f) = ⊥
@@ -65,7 +65,7 @@ module _ (records : List Sheet) (known : Peer → Bool) where
   pub remove-alike : (es fs : List Entry) → Alike es fs → (at : ℕ) → Alike (remove es at) (remove fs at)
   remove-alike es fs a at = append-alike (take at es) (take at fs) (drop (suc at) es) (drop (suc at) fs) (take-alike at es fs a) (drop-alike (suc at) es fs a)
 
-  -- ---- a test that alike calls pass alike
+  -- ---- a test with the same result on indistinguishable calls
 
   abbrev pub TestsAlike : {A : Type 0} → (p q : Entry → A) → Type 0
   TestsAlike p q = (e f : Entry) → AlikeEntry records known e f → p e ≡ q f
@@ -105,7 +105,7 @@ module _ (records : List Sheet) (known : Peer → Bool) where
   pub count-same : (p q : Entry → Bool) → TestsAlike p q → (es fs : List Entry) → Alike es fs → count_by p es ≡ count_by q fs
   count-same p q same es fs a = counted p q same 0 es fs a
 
--- ---- of one list, whose calls all keep what holds of them
+-- ---- of one list, whose calls all keep the invariant
 
 module _ (records : List Sheet) (t : Trust) where
   pub get-kept : (es : List Entry) → AreKept records t es → (at : ℕ) (e : Entry) → slice_get es at ≡ Some e → IsKept records t e.call

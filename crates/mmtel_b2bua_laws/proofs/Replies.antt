@@ -1,4 +1,4 @@
--- Calls reply in the server transactions of their own requests, whatever comes to them.
+-- Calls reply in the server transactions of their own requests, whatever happens to them.
 use Rattle.std.proofs.Common.{◌≡◌, true, ℕ, Bool, List, [], ◌∷◌, length, subst, sym}
 use Rattle.mmtel_call_decisions.specs.Site.{Site}
 use Rattle.mmtel_call.specs.declared.calls.Call.{Call}

@@ -1,4 +1,4 @@
--- A life keeps its session as a story does, and ends by it.
+-- A trace with detached legs keeps its session as a trace of signals does, and ends by it.
 use Rattle.std.proofs.Common.{◌≡◌, List, [], ◌∷◌, None, sym, ap, subst}
 use Rattle.mmtel_call_decisions.specs.declared.openings.Opening.{Opening}
 use Rattle.mmtel_call.specs.Lending.{finished}

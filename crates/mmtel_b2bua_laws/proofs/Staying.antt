@@ -1,4 +1,4 @@
--- Whatever is done on alike tables leaves them alike.
+-- Any operation on indistinguishable tables leaves them indistinguishable.
 use Rattle.std.proofs.Common.{ℕ, Bool, List, [], ◌∷◌, refl, ap, drop, subst}
 use Rattle.mmtel_charging.specs.declared.rows.Row.{Row}
 use Rattle.mmtel_sheet_values.specs.declared.values.Sheet.{Sheet}
@@ -29,7 +29,7 @@ module _ (laws : OfCalls) (records : List Sheet) (site far : Site) (keys : TKey 
       with-alike laws records site far keys configured (finished_by site number at tokens t) (finished_by far number at tokens u) t.opened u.opened t u a.alike.opened (finishing-alike laws records site far keys configured number at tokens t u a) a.alike
   did-alike (BothDrop count) t u a alike = record { entries = a.alike.entries; opened = a.alike.opened; rows = ap (λ (l : List Row). drop count l) a.alike.rows }
 
-  -- ---- what holds of each call stays
+  -- ---- the invariant of each call remains
 
   one_well : (both : Both) (t u : Table) → AreAlike records site far keys both t u → DoesWell records (trust_of site keys) (one_of both)
   one_well (BothHear one other) t u alike = (alike.stand, alike.asks)

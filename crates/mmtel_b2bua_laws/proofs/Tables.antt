@@ -1,4 +1,4 @@
--- Tables as lists of calls with rising numbers: the first that passes changes, and is found by its number.
+-- Tables as lists of calls with rising numbers: the first that satisfies a predicate changes, and is found by its number.
 use Rattle.std.proofs.Common.{◌≡◌, ◌≢◌, ℕ, zero, suc, ◌+◌, ◌<◌, ◌≤◌, Bool, true, false, List, [], ◌∷◌}
 use Rattle.std.proofs.Common.{◌++◌, Some, None, inl, inr, not, length, refl, ap, sym, cond, subst, ◌∙◌, arith}
 use Rattle.std.proofs.lemmas.Bool.Decides.{nat_tests}
@@ -10,7 +10,7 @@ use Rattle.mmtel_b2bua.specs.Entries.{is_numbered}
 use Rattle.mmtel_b2bua.specs.declared.entries.Entry.{Entry}
 use Rattle.mmtel_b2bua_laws.specs.Deeds.{number_of}
 
--- ---- the first that passes, by its place
+-- ---- the first that satisfies it, by its index
 
 pub data Finds (p : Entry → Bool) (es : List Entry) : Type 0 where
   Found : (place : ℕ) → (e : Entry) → position p es ≡ Some place → position_or_len p es ≡ place → slice_get es place ≡ Some e → find p es ≡ Some e → Finds p es
@@ -30,9 +30,9 @@ finds p es =
       | inr lost ↦ Lost (ap (λ b. cond b (Some k) None) (past k (length es) lost.0)) (find_at p es ∙ lost.1)
     ]
 
--- ---- the first that passes changes
+-- ---- the first that satisfies it changes
 
--- what is left of a call that stands so now
+-- what remains of a call that is now this one
 abbrev pub left : (gone : Entry → Bool) → Entry → List Entry
 left gone e = if gone e then [] else e ∷ []
 
@@ -40,7 +40,7 @@ abbrev pub changed : (p : Entry → Bool) (f : Entry → List Entry) → List En
 changed p f [] = []
 changed p f (e ∷ es) = cond (p e) (f e ++ es) (e ∷ changed p f es)
 
--- the call at this place stands so now, and leaves where it is gone
+-- the call at this index is replaced by this one, and is removed if it is gone
 abbrev pub put : (gone : Entry → Bool) → (place : ℕ) → Entry → List Entry → List Entry
 put gone place e es = if gone e then remove (slice_set es place e) place else slice_set es place e
 
@@ -88,7 +88,7 @@ pub has-other : (n : ℕ) (e : Entry) → number_of e ≢ n → is_numbered n e 
 unfolding is_numbered
 has-other n e h = grind (arith, nat_tests)
 
--- none has the number of one that stands before
+-- none has the number of one before it
 none-below : (low high n : ℕ) (es : List Entry) → n ≤ low → Rising low es high → find (is_numbered n) es ≡ None
 none-below low high n [] e r = refl
 none-below low high n (x ∷ es) e r =
@@ -99,14 +99,14 @@ bounded : (low high : ℕ) (es : List Entry) → Rising low es high → low ≤ 
 bounded low high [] r = r
 bounded low high (x ∷ es) r = let h = r.0 in let g = bounded (number_of x) high es r.1 in omega arith
 
--- nor a number above all
+-- nor a number greater than all
 pub none-above : (low high n : ℕ) (es : List Entry) → high < n → Rising low es high → find (is_numbered n) es ≡ None
 none-above low high n [] e r = refl
 none-above low high n (x ∷ es) e r =
     let h = bounded (number_of x) high es r.1 in
     ap (λ b. cond b (Some x) (find (is_numbered n) es)) (has-other n x (omega arith)) ∙ none-above (number_of x) high n es e r.1
 
--- one that is found stands above
+-- one that is found has a number above the lower bound
 above : (p : Entry → Bool) (low high : ℕ) (es : List Entry) (e : Entry) → Rising low es high → find p es ≡ Some e → low < number_of e
 above p low high [] e r h = absurd (none-some e h)
 above p low high (x ∷ es) e r h = go (λ h. above p (number_of x) high es e r.1 h) (p x) h
@@ -131,7 +131,7 @@ found-by-number p low high (x ∷ es) e r h = go (λ h. found-by-number p (numbe
 
 -- ---- what a change does
 
--- where none passes nothing changes
+-- where none satisfies it nothing changes
 pub changed-none : (p : Entry → Bool) (f : Entry → List Entry) (es : List Entry) → find p es ≡ None → changed p f es ≡ es
 changed-none p f [] h = refl
 changed-none p f (x ∷ es) h = go (changed-none p f es) (p x) h
@@ -220,7 +220,7 @@ pub more-others : (n : ℕ) (es more : List Entry) → find (is_numbered n) more
 more-others n [] more h = h
 more-others n (x ∷ es) more h = ap (λ l. cond (is_numbered n x) (Some x) l) (more-others n es more h)
 
--- the numbers of those that are found are not above all
+-- the numbers of those that are found are not greater than all
 pub found-bounded : (p : Entry → Bool) (low high : ℕ) (es : List Entry) (e : Entry) → Rising low es high → find p es ≡ Some e → number_of e ≤ high
 found-bounded p low high [] e r h = absurd (none-some e h)
 found-bounded p low high (x ∷ es) e r h = go (found-bounded p (number_of x) high es e r.1) (p x) h

@@ -1,4 +1,4 @@
--- What is said of every table, put together.
+-- The claims on every table, put together.
 use Rattle.std.proofs.Common.{◌≡◌, ℕ, List, [], ◌∷◌, ◌++◌, None, take, drop, refl, ap, subst, sym, ◌∙◌, append_assoc}
 use Rattle.std.proofs.lemmas.List.{append-nil, take-append-drop}
 use Rattle.std.proofs.lemmas.Option.{none-some}
@@ -22,7 +22,7 @@ use Rattle.mmtel_b2bua_laws.proofs.Tables.{finds}
 use Rattle.mmtel_b2bua_laws.proofs.Sessions.{lives_expire, lives_keep}
 use Rattle.mmtel_b2bua_laws.proofs.Watching.{lives_end_as_seen, lives_show_throughout, lives_watched}
 
--- ---- a deed of nobody
+-- ---- an operation of no call
 
 abbrev BringsNothing : Site → Deed → Table → Type 0
 BringsNothing site deed table = (out_by site deed table ≡ []) × (rows_by site deed table ≡ [])
@@ -43,7 +43,7 @@ nothing_of_nobody site (Finishes number at tokens) earlier none =
     (table_after site earlier).entries))
 nothing_of_nobody site (Drops count) earlier none = (refl, refl)
 
--- ---- rows
+-- ---- CDRs
 
 -- nothing is handed over, and these are filed
 more-filed : (handed rows all filed : List Row) → handed ++ rows ≡ all → (handed ++ []) ++ (rows ++ filed) ≡ all ++ filed

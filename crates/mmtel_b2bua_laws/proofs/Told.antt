@@ -1,4 +1,4 @@
--- What the table asks of a call is told by its public part.
+-- The results of the table's queries on a call are determined by its public part.
 use Rattle.std.proofs.Common.{◌≡◌, ℕ, ◌==◌, Bool, true, false, not, List, [], ◌∷◌, ◌++◌, refl, ap, sym, ◌∙◌, cond, Option, Some, None}
 use Rattle.std.specs.Prelude.{option_to_list}
 use Rattle.mmtel_sheet_values.specs.declared.values.Sheet.{Sheet}
@@ -17,7 +17,7 @@ use Rattle.mmtel_b2bua_laws.specs.Alike.{AlikeEntries, AlikeEntry}
 use Rattle.mmtel_b2bua_laws.proofs.Places.{gathered-same}
 
 module _ (tell : PublicPartsTell) (records : List Sheet) (known : Peer → Bool) where
-  -- alike calls answer alike what their public parts answer
+  -- queries on indistinguishable calls have the results that their public parts determine
   pub through : {A : Type 0} (ask : Call → A) → ((c : Call) → ask (public_part known c) ≡ ask c) → (e f : Entry) → AlikeEntry records known e f → ask e.call ≡ ask f.call
   through ask told e f a = sym (told e.call) ∙ (ap ask a.calls.same ∙ told f.call)
 
@@ -47,7 +47,7 @@ module _ (tell : PublicPartsTell) (records : List Sheet) (known : Peer → Bool)
   unfolding heard_by
   heard-same key e f a = through (has_heard key) (λ c. tell.heard known nobody key c) e f a
 
-  -- ---- whom they keep busy
+  -- ---- the accounts that they keep busy
 
   origin_told : (p : Phase) (origin : Option Account) → origin_in (public_phase known p) origin ≡ origin_in p origin
   origin_told (Offered x) origin = refl
@@ -85,7 +85,7 @@ module _ (tell : PublicPartsTell) (records : List Sheet) (known : Peer → Bool)
   pub busy-same : (number : ℕ) (es fs : List Entry) → AlikeEntries records known es fs → busy_beside number es ≡ busy_beside number fs
   busy-same number es fs a = gathered-same records known (beside number) (beside number) (λ e f b. beside-same number e f b) es fs a
 
-  -- ---- what stays of one
+  -- ---- what remains of one
 
   kept_if : (b c : Bool) (e f : Entry) → b ≡ c → AlikeEntry records known e f → AlikeEntries records known (cond b [] (e ∷ [])) (cond c [] (f ∷ []))
   kept_if true true e f same a = tt

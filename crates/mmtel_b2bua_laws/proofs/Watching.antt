@@ -1,4 +1,4 @@
--- What is seen of a life from outside: its attempts, and what it shows.
+-- What is observed of the trace of a call from outside: its attempts, its INVITEs and its final responses.
 use Rattle.std.proofs.Common.{◌≡◌, ℕ, Bool, true, false, List, [], ◌∷◌, ◌++◌, Option, Some, None, refl, ap, sym, subst, ◌∙◌}
 use Rattle.std.proofs.lemmas.List.{append-nil}
 use Rattle.std.proofs.lemmas.Option.{none-some}
@@ -38,7 +38,7 @@ use Rattle.mmtel_b2bua_laws.specs.Watched.{endings_seen, last_after, no_reply_af
 use Rattle.mmtel_b2bua_laws.proofs.Concluding.{known-same, lives_show, outcome-same}
 use Rattle.mmtel_b2bua_laws.proofs.Living.{Beside, Later, Lived, Place, Same, after-offered, lived_beside, quiet}
 
--- ---- a step, where both have the same number of the caller as long as an attempt is on its way
+-- ---- a step, where both have the same CSeq number of the caller as long as an attempt is current
 
 abbrev SameLast : Watch → (one other : Option ℕ) → Type 0
 SameLast w one other = (g : Going) → w.going ≡ Some g → one ≡ other
@@ -58,7 +58,7 @@ ends-next : (w : Watch) (going : Option Going) (key : TKey) (one other : Option 
 ends-next w None key one other heard is same = refl
 ends-next w (Some g) key one other heard is same = ap (λ last. ends_in key last (Some g) w.acks heard) (same g is)
 
--- none is on its way, and so none comes
+-- none is current, and so none follows
 none-next : (site : Site) (o : Opening) (now : ℕ) (w : Watch) (last : Option ℕ) (heard : Signal) (marks : List Mark) → w.going ≡ None → watched_next site o now w last heard marks ≡ w
 none-next site o now w last heard marks none = ap (λ going. watched_from site o now w going last heard marks) none
 
@@ -71,7 +71,7 @@ stands-none bound time c (Stood x stage) w stands seen = seen
 stands-none bound time c (Lent loan) w stands seen = seen
 stands-none bound time c (Over cause) w stands seen = seen
 
--- ---- a life beside its story
+-- ---- a trace beside one of signals
 
 record SeenAlike (s : Start) (events : List Event) (heard : List Heard) : Type 0 where
   watch : watch_after s events ≡ story_seen.watch_after s heard
@@ -79,7 +79,7 @@ record SeenAlike (s : Start) (events : List Event) (heard : List Heard) : Type 0
   seen : endings_seen s events ≡ story_seen.endings_seen s heard
 
 module _ (attempts : AttemptsAreSeen) (s : Start) where
-  -- of a signal that the story has too
+  -- of a signal that the trace of signals has too
   same-seen : (x : Heard) (earlier : List Event) (heard : List Heard) → call_after s earlier ≡ story.call_after s heard → SeenAlike s earlier heard → SeenAlike s (Hears x ∷ earlier) (x ∷ heard)
   unfolding watch_after last_after endings_seen story_seen.watch_after story_seen.last_after_all story_seen.endings_seen
   same-seen x earlier heard is r =
@@ -98,7 +98,7 @@ module _ (attempts : AttemptsAreSeen) (s : Start) where
             ∙ (λ i. r.seen i ++ option_to_list (option_map (ended_at x.now.at) (ends_watched key other (r.watch i) x.signal)));
       }
 
-  -- once a leg was taken out
+  -- after a leg was detached
   later-seen : (x : Heard) (earlier : List Event) (heard : List Heard) → stands_in (story.call_after s heard).phase ≡ true → SeenAlike s earlier heard → SeenAlike s (Hears x ∷ earlier) (quiet x ∷ heard)
   unfolding watch_after last_after endings_seen story_seen.watch_after story_seen.last_after_all story_seen.endings_seen
   later-seen x earlier heard stands r =
@@ -138,7 +138,7 @@ lives_end_as_seen law charged attempts endings s events =
     let (heard, l, r) = lived_beside law charged s (SeenAlike s) (seen-beside attempts s) events in
     l.endings ∙ endings s heard ∙ sym r.seen
 
--- ---- the attempt that is on its way
+-- ---- the current attempt
 
 unoffered : (bound : ℕ) (time : Option ℕ) (c : Call) (phase : Phase) (w : Watch) → is_offered phase ≡ false → w.going ≡ None → IsSeen bound time c.acks phase w
 unoffered bound time c (Offered x) w h none = absurd (let e : true ≡ false = h in cc)
@@ -166,7 +166,7 @@ lives_watched law charged attempts s events =
     let (heard, l, r) = lived_beside law charged s (SeenAlike s) (seen-beside attempts s) events in
     watched-at attempts s events heard l r l.place
 
--- ---- what it shows in its whole life
+-- ---- what is observed in its whole trace
 
 lent-asks : (key : TKey) (phase : Phase) (side : Side) (c : Call) → AsksOthers key phase → AsksOthers key (lent_in phase side (record c { phase = phase })).phase
 lent-asks key (Offered x) side c a = tt
@@ -189,7 +189,7 @@ finished-asks key (Stood x stage) site at c desk a = a
 finished-asks key (Lent loan) site at c desk a = tt
 finished-asks key (Over cause) site at c desk a = tt
 
--- what is in flight stays as a leg is taken out or put back, and is answered as the call ends without it
+-- the requests in flight do not change as a leg is detached or put back, and get their final responses as the call ends without it
 lent-flies : (key : TKey) (phase : Phase) (side : Side) (c : Call) → FlyOthers key c.flights → FlyOthers key (lent_in phase side (record c { phase = phase })).flights
 lent-flies key (Offered x) side c f = f
 lent-flies key (Stood x (Answered waiting success)) side c f = f
@@ -229,7 +229,7 @@ waits-after law s (Finishes at desk ∷ earlier) others =
     let w = waits-after law s earlier others.1 in
     (finished-asks s.arrival.key c.phase s.site at c desk w.0, finished-flies s.arrival.key c.phase s.site at c desk w.1)
 
--- all that it shows it shows while it is offered
+-- everything that is observed of it is observed while it is offered
 if-none : (key : TKey) (b : Bool) (out : List Emit) → signs_of key out ≡ [] → signs_of key out ≡ signs_of key (if b then out else [])
 if-none key true out none = refl
 if-none key false out none = none

@@ -1,4 +1,4 @@
--- The ACKs of a 2xx that the calls of a table pass on: each that was heard in a call, with the dialog of its other side as it stood then (RFC 3261 §13.2.2.4).
+-- The ACKs of a 2xx that the calls of a table relay: each that was received in a call, with the dialog of its other side as it was then (RFC 3261 §13.2.2.4).
 use Rattle.std.specs.Prelude.{Option, Some, None, List, [], ◌∷◌, ◌++◌}
 use Rattle.mmtel_answers.specs.Said.{Said}
 use Rattle.mmtel_b2bua.specs.Histories.{Deed, Drops, Finishes, Hears, Releases, Restores, table_after}
@@ -32,7 +32,7 @@ acked_by site (Restores number away) es = []
 acked_by site (Finishes number at tokens) es = []
 acked_by site (Drops count) es = []
 
--- in all deeds, the newest first
+-- in all operations, the newest first
 abbrev pub acked_after : Site → List Deed → List Acked
 acked_after site [] = []
 acked_after site (deed ∷ earlier) = acked_by site deed (table_after site earlier).entries ++ acked_after site earlier

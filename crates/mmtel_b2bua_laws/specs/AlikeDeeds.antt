@@ -1,4 +1,4 @@
--- Whatever is done on two tables of calls, the same but for private places, leaves them alike, and the same is seen of what it brings forth.
+-- Any operation on two tables of calls, the same but for private places, leaves them indistinguishable, and the observable part of its output is the same.
 use Rattle.std.specs.Prelude.{◌≡◌, ℕ, Bool, List, [], ◌∷◌, map}
 use Rattle.std.specs.Option.{option_map}
 use Rattle.mmtel_leg.specs.declared.legs.Released.{Released}
@@ -26,13 +26,13 @@ use Rattle.mmtel_b2bua_laws.specs.Signals.{AsksWell, CallersAlike, LooksAlike, T
 abbrev pub AllStand : (records : List Sheet) → Heard → Type 0
 AllStand records heard = (busy : List Account) → AreAsked records (standing heard.at heard.view busy)
 
--- what one table hears, and the role that the message has
+-- what one table receives, and the role of that message
 pub record Told : Type 0 where
   pub heard : Heard
   pub role : Role
 
--- they come at one moment, with the same records and registrations and as many tokens drawn, and are the same but for private places; the callers are decided alike, and
--- accounts are looked up alike
+-- they are received at one moment, with the same records and registrations and as many tokens drawn, and are the same but for private places; the same is decided on the callers,
+-- and account look-ups have the same results
 pub record HearAlike (records : List Sheet) (site far : Site) (keys : TKey → Bool) (one other : Told) (t u : Table) : Type 0 where
   pub at : one.heard.at ≡ other.heard.at
   pub view : one.heard.view ≡ other.heard.view
@@ -40,25 +40,25 @@ pub record HearAlike (records : List Sheet) (site far : Site) (keys : TKey → B
   pub said : public_signal one.role one.heard.signal ≡ public_signal other.role other.heard.signal
   pub callers : CallersAlike records one.heard.signal other.heard.signal
   pub looks : LooksAlike site far other.role other.heard.signal
-  -- the records in force are among those that the callers are asked by
+  -- the records in force are among those whose rules are evaluated on the callers
   pub stand : AllStand records one.heard
-  -- and each is asked as it should be of the table that hears it
+  -- and each fulfils the premises of the table that receives it
   pub first : TableHears (trust_of site keys) (standing one.heard.at one.heard.view []) one.role one.heard.signal t.entries
   pub second : TableHears (trust_of site keys) (standing other.heard.at other.heard.view []) other.role other.heard.signal u.entries
   pub asks : AsksWell (trust_of site keys) one.heard.signal
   pub asks_too : AsksWell (trust_of site keys) other.heard.signal
 
--- ---- two deeds side by side
+-- ---- two operations side by side
 
 pub data Both : Type 0 where
-  -- signals are heard
+  -- signals are received
   BothHear : (one other : Told) → Both
-  -- a leg of the call of this number is taken out, or put back
+  -- a leg of the call of this number is detached, or put back
   BothRelease : (number : ℕ) → (side : Side) → Both
   BothRestore : (number : ℕ) → (one other : Released) → Both
-  -- that call ends without it
+  -- that call ends without the leg
   BothFinish : (number at : ℕ) → (tokens : Drawn) → Both
-  -- so many rows are handed over
+  -- this many CDRs are handed over
   BothDrop : (count : ℕ) → Both
 
 abbrev pub one_of : Both → Deed
@@ -75,7 +75,7 @@ other_of (BothRestore number one other) = Restores number other
 other_of (BothFinish number at tokens) = Finishes number at tokens
 other_of (BothDrop count) = Drops count
 
--- they are alike: so are the signals, and the legs that are put back have one public part
+-- they are indistinguishable: so are the signals, and the legs that are put back have the same public part
 abbrev pub AreAlike : (records : List Sheet) → (site far : Site) → (keys : TKey → Bool) → Both → (t u : Table) → Type 0
 AreAlike records site far keys (BothHear one other) t u = HearAlike records site far keys one other t u
 AreAlike records site far keys (BothRelease number side) t u = Unit {0}
@@ -83,7 +83,7 @@ AreAlike records site far keys (BothRestore number one other) t u = public_relea
 AreAlike records site far keys (BothFinish number at tokens) t u = Unit {0}
 AreAlike records site far keys (BothDrop count) t u = Unit {0}
 
--- ---- the tables after all that: the last deed stands first
+-- ---- the tables after all that: the last operation is first in the list
 
 abbrev pub one_after : Site → List Both → Table
 one_after site both = table_after site (map one_of both)
@@ -95,14 +95,14 @@ abbrev pub AllAlike : (records : List Sheet) → (site far : Site) → (keys : T
 AllAlike records site far keys [] = Unit {0}
 AllAlike records site far keys (both ∷ earlier) = AreAlike records site far keys both (one_after site earlier) (other_after far earlier) × AllAlike records site far keys earlier
 
--- ---- the laws
+-- ---- the theorems
 
--- two configurations that are equal but for the URIs of accounts, where the accounts to which records divert calls are looked up alike
+-- two configurations that are equal but for the URIs of accounts, where look-ups of the accounts to which records divert calls have the same results
 pub record Configured (records : List Sheet) (one other : Site) : Type 0 where
   pub equal : EqualButForAccounts one other
   pub lead : RecordsLeadAlike records one other
 
--- what is asked of a deed, so that the table keeps what holds of each call
+-- the premises on an operation under which the table keeps the invariant of each call
 abbrev pub DoesWell : (records : List Sheet) → Trust → Deed → Type 0
 DoesWell records t (Hears heard) = AllStand records heard × AsksWell t heard.signal
 DoesWell records t (Releases number side) = Unit {0}
@@ -110,31 +110,31 @@ DoesWell records t (Restores number away) = Unit {0}
 DoesWell records t (Finishes number at tokens) = Unit {0}
 DoesWell records t (Drops count) = Unit {0}
 
--- a table keeps what holds of each of its calls, whatever is done on it
+-- a table keeps the invariant of each of its calls, whatever the operation
 abbrev pub TablesKeep : Type 0
 TablesKeep = (records : List Sheet) (t : Trust) (site : Site) (deed : Deed) (table : Table) → DoesWell records t deed → AreKept records t table.entries →
     AreKept records t (did site deed table).entries
 
--- two tables of which this holds, and which are alike
+-- two indistinguishable tables for which the invariant holds
 pub record StandAlike (records : List Sheet) (site : Site) (keys : TKey → Bool) (t u : Table) : Type 0 where
   pub alike : AlikeTables records (trusts site) t u
   pub one : AreKept records (trust_of site keys) t.entries
   pub other : AreKept records (trust_of site keys) u.entries
 
 pub record TablesStayAlike : Type 0 where
-  -- each deed leaves alike tables alike
+  -- each operation leaves indistinguishable tables indistinguishable
   pub deeds : (records : List Sheet) (site far : Site) (keys : TKey → Bool) (both : Both) (t u : Table) → Configured records site far → StandAlike records site keys t u →
       AreAlike records site far keys both t u → StandAlike records site keys (did site (one_of both) t) (did far (other_of both) u)
-  -- so do two lists of deeds, of any length
+  -- so do two lists of operations, of any length
   pub stories : (records : List Sheet) (site far : Site) (keys : TKey → Bool) (both : List Both) → Configured records site far → AllAlike records site far keys both →
       StandAlike records site keys (one_after site both) (other_after far both)
-  -- of what a signal brings forth the same is seen: untrusted peers see it whole, of what goes to trusted ones the heads, and tokens, rows and deadlines are the same
+  -- the observable output on a signal is the same: untrusted peers see theirs whole, of what is sent to trusted ones the heads, and tokens, CDRs and deadlines are the same
   pub signals : (records : List Sheet) (site far : Site) (keys : TKey → Bool) (one other : Told) (t u : Table) → Configured records site far → StandAlike records site keys t u →
       HearAlike records site far keys one other t u → AlikeDesks (trust_of site keys) (heard_by site one.heard t).desk (heard_by far other.heard u).desk
-  -- and of what the end of a call without its leg brings forth
+  -- and so is that at the end of a call without its leg
   pub ends : (records : List Sheet) (site far : Site) (keys : TKey → Bool) (number at : ℕ) (tokens : Drawn) (t u : Table) → Configured records site far →
       StandAlike records site keys t u →
       AlikeDesks (trust_of site keys) (finished_by site number at tokens t).desk (finished_by far number at tokens u).desk
-  -- the leg that is taken out is the same but for private places
+  -- the leg that is detached is the same but for private places
   pub legs : (records : List Sheet) (known : Peer → Bool) (number : ℕ) (side : Side) (t u : Table) → AlikeTables records known t u →
       option_map (public_released known) (leg_out number side t.entries) ≡ option_map (public_released known) (leg_out number side u.entries)

@@ -1,5 +1,5 @@
--- What is asked of alike tables of calls has the same answers: whose a dialog, an INVITE or a signal is, who a side is, how many calls an account has, and whether there is
--- room for one more (RFC 3261 §9.2, §12.2.2).
+-- Queries on indistinguishable tables of calls have the same results: to which call a dialog, an INVITE or a signal belongs, the peer and the account of a side, how many calls an
+-- account has, and whether one more call may be opened (RFC 3261 §9.2, §12.2.2).
 use Rattle.std.specs.Prelude.{◌≡◌, ℕ, Bool, Option, List, position}
 use Rattle.mmtel_sheet_values.specs.declared.values.Sheet.{Sheet}
 use Rattle.mmtel_transaction.specs.declared.words.TKey.{TKey}
@@ -17,12 +17,12 @@ use Rattle.mmtel_b2bua_laws.specs.Alike.{AlikeTables}
 use Rattle.mmtel_b2bua_laws.specs.Signals.{public_signal}
 
 pub record AlikeTablesAnswerAlike : Type 0 where
-  -- whose dialog this is, and whose INVITE opened this server transaction
+  -- to which call and side this dialog belongs, and the INVITE that opened this server transaction
   pub named : (records : List Sheet) (known : Peer → Bool) (call_id local remote : List ℕ) (t u : Table) → AlikeTables records known t u →
       first_side (side_named call_id local remote) t.entries ≡ first_side (side_named call_id local remote) u.entries
   pub asked : (records : List Sheet) (known : Peer → Bool) (key : TKey) (t u : Table) → AlikeTables records known t u →
       first_side (side_asking key) t.entries ≡ first_side (side_asking key) u.entries
-  -- the place of the call that sent this INVITE, and of that which heard this client transaction
+  -- the index of the call that sent this INVITE, and of the one that received a response in this client transaction
   pub sent : (records : List Sheet) (known : Peer → Bool) (branch : Option (List ℕ)) (t u : Table) → AlikeTables records known t u →
       position (sent_it branch) t.entries ≡ position (sent_it branch) u.entries
   pub heard : (records : List Sheet) (known : Peer → Bool) (key : TKey) (t u : Table) → AlikeTables records known t u →
@@ -31,10 +31,10 @@ pub record AlikeTablesAnswerAlike : Type 0 where
   pub sides : (records : List Sheet) (known : Peer → Bool) (number : ℕ) (side : Side) (t u : Table) → AlikeTables records known t u →
       party number side t.entries ≡ party number side u.entries
   pub lives : (records : List Sheet) (known : Peer → Bool) (account : ℕ) (t u : Table) → AlikeTables records known t u → live account t.entries ≡ live account u.entries
-  -- whether so many calls live that one more is refused
+  -- whether as many calls are live as may be, so that one more is refused
   pub full : (records : List Sheet) (known : Peer → Bool) (role second : Role) (x y : Signal) (t u : Table) → AlikeTables records known t u →
       public_signal role x ≡ public_signal second y → is_full x t.entries ≡ is_full y u.entries
-  -- whether a leg of the call of this number is away, and whether this one is of the side that is
+  -- whether a leg of the call of this number is detached, and whether this one is of the side that is
   pub away : (records : List Sheet) (known : Peer → Bool) (number : ℕ) (t u : Table) → AlikeTables records known t u →
       is_away (entry_of number t.entries) ≡ is_away (entry_of number u.entries)
   pub fits : (records : List Sheet) (known : Peer → Bool) (number : ℕ) (one other : Released) (t u : Table) → AlikeTables records known t u →

@@ -1,4 +1,4 @@
--- What goes out of a table of calls is clean, where what its calls are given is: messages of clean lines, records with clean URIs, tokens of a clean text.
+-- What a table of calls sends is clean (free of injected lines), if the input of its calls is: messages with clean header fields, records with clean URIs, tokens of a clean text.
 use Rattle.std.specs.Prelude.{◌≡◌, ℕ, List, ◌∷◌, Some, IfSome, map}
 use Rattle.mmtel_desk.specs.declared.desks.Desk.{Desk}
 use Rattle.mmtel_leg.specs.Dialogues.{request_uri}
@@ -21,9 +21,9 @@ use Rattle.mmtel_b2bua_laws.specs.Deeds.{HasNumbers, emits_of, life_of, out_by}
 use Rattle.mmtel_b2bua_laws.specs.Lives as lives
 use Rattle.mmtel_b2bua_laws.specs.Lives.{Event}
 
--- ---- what the table is given
+-- ---- the input of the table
 
--- each message that is heard is of a clean one; the Request-URI of an INVITE that opens a call is clean
+-- each message that is received was read from a clean one; the Request-URI of an INVITE that opens a call is clean
 abbrev pub IsCleanSignal : Signal → Type 0
 IsCleanSignal (signal.Arrived key invite served registration identities) = IsOfClean invite.heard × IsClean (request_uri invite.heard.start)
 IsCleanSignal (signal.Request call side key request) = IsOfClean request.heard
@@ -58,13 +58,14 @@ IsGivenClean (Restores number away) = IsCleanLeg away
 IsGivenClean (Finishes number at tokens) = IsClean tokens.token
 IsGivenClean (Drops count) = Unit {0}
 
--- ---- what goes out
+-- ---- what is sent
 
--- lives of signals alone
+-- traces of signals alone
 abbrev pub signals : List story.Heard → List Event
 signals heard = map lives.Hears heard
 
--- of a call of which no leg was taken out, and of one that ended in the deed after that; of an ACK of a 2xx no lines go out but those that are shown of an ACK that this call heard
+-- for a call of which no leg was detached, and for one that ended in the operation after that; an ACK of a 2xx has no header fields but those that are copied from an ACK that this
+-- call received
 pub record CallsSendCleanMessages : Type 0 where
   pub clean : (site : Site) (deeds : List Deed) (number : ℕ) (start : story.Start) (heard : List story.Heard) → HasNumbers site deeds → IsClean site.home →
       Each IsCleanDeed deeds →
@@ -77,12 +78,12 @@ pub record CallsSendCleanMessages : Type 0 where
       life_of site number deeds ≡ Some (record { start = start; events = lives.Finishes at desk ∷ lives.Releases side ∷ signals heard }) →
       Each (IsCleanEmit (of_story.acked_after start heard)) (emits_of site number deeds)
 
--- of each deed, whatever was done before; of an ACK of a 2xx no lines go out but those that are shown of an ACK that was heard in the call of its dialog
+-- for each operation, whatever was done before; an ACK of a 2xx has no header fields but those that are copied from an ACK that was received in the call of its dialog
 abbrev pub DeedsSendCleanMessages : Type 0
 DeedsSendCleanMessages = (site : Site) (deeds : List Deed) (deed : Deed) → IsClean site.home → Each IsGivenClean (deed ∷ deeds) →
     Each (IsCleanEmit (acked_after site (deed ∷ deeds))) (out_by site deed (table_after site deeds))
 
--- and the leg that is taken out of a call is clean
+-- and the leg that is detached from a call is clean
 abbrev pub LegsGoOutClean : Type 0
 LegsGoOutClean = (site : Site) (deeds : List Deed) (number : ℕ) (side : Side) → IsClean site.home → Each IsGivenClean deeds →
     IfSome (leg_out number side (table_after site deeds).entries) IsCleanLeg

@@ -1,4 +1,5 @@
--- Of which call of a table a deed is, and what the deeds of one call make of it: its life. All is told from the list of the deeds, the newest first.
+-- To which call of a table an operation belongs, and the trace of one call from the operations that belong to it. All is determined by the list of the operations, the newest
+-- first.
 use Rattle.std.specs.Prelude.{◌≡◌, ◌<◌, ◌-◌, ◌^◌, ℕ, ◌==◌, Bool, true, false, if◌then◌else◌, Option, Some, None, List, [], ◌∷◌, ◌++◌, find, take}
 use Rattle.std.specs.Option.{option_map}
 use Rattle.mmtel_charging.specs.declared.rows.Row.{Row}
@@ -26,7 +27,7 @@ use Rattle.mmtel_b2bua.specs.declared.signals.Signal.TheVariants as signal
 use Rattle.mmtel_b2bua_laws.specs.Lives as lives
 use Rattle.mmtel_b2bua_laws.specs.Lives.{Event, Life, call_after}
 
--- ---- a signal as a call hears it, and whether it is of a call
+-- ---- a signal as a call receives it, and whether it belongs to a call
 
 abbrev pub as_heard : Signal → Option calls.Signal
 as_heard (signal.Arrived key invite served registration identities) = None
@@ -38,7 +39,7 @@ as_heard (signal.Silent branch method) = Some (of_call.Silent branch method)
 as_heard (signal.Due call what) = Some (of_call.Due what)
 as_heard (signal.Over key) = Some (of_call.Ended key)
 
--- by the number that it names, by the INVITE that it answers or that was given up, by the answer whose client transaction ended
+-- by the number that it has, by the branch of the request to which it is a response or that timed out, by the client transaction that ended
 abbrev pub is_of : Signal → Entry → Bool
 is_of (signal.Arrived key invite served registration identities) e = false
 is_of (signal.Request call side key request) e = is_numbered call.0 e
@@ -62,7 +63,7 @@ arrival_of number (signal.Silent branch method) = None
 arrival_of number (signal.Due call what) = None
 arrival_of number (signal.Over key) = None
 
--- how it opens: how things stand, whom the calls keep busy with it, and the desk
+-- how it opens: the state, the accounts that the calls keep busy, and the output before
 abbrev pub start_by : Site → Heard → List Entry → Arrival → Start
 start_by site x es arrival = record { site = site; now = standing x.at x.view (busy_with arrival es); arrival = arrival; desk = fresh x.tokens }
 
@@ -73,9 +74,9 @@ opening_by site (Restores number away) table = None
 opening_by site (Finishes number at tokens) table = None
 opening_by site (Drops count) table = None
 
--- ---- what comes to a call that stands in the table
+-- ---- events of a call that is in the table
 
--- the call that a deed is of: the first that its signal is of, or that has its number
+-- the call to which an operation belongs: the first to which its signal belongs, or the one that has its number
 abbrev pub met_by : Deed → List Entry → Option Entry
 met_by (Hears x) es = find (is_of x.signal) es
 met_by (Releases number side) es = find (is_numbered number) es
@@ -83,7 +84,7 @@ met_by (Restores number away) es = find (is_numbered number) es
 met_by (Finishes number at tokens) es = find (is_numbered number) es
 met_by (Drops count) es = None
 
--- as the call of this number sees things: the records in force, the registrations, and whom the other calls keep busy
+-- the signal with the state as the call of this number sees it: the records in force, the registrations, and the accounts that the other calls keep busy
 abbrev pub event_heard : Heard → (number : ℕ) → List Entry → calls.Signal → Event
 event_heard x number es heard = lives.Hears (record { now = standing x.at x.view (busy_beside number es); signal = heard; desk = fresh x.tokens })
 
@@ -94,7 +95,7 @@ event_by (Restores call away) number es = Some (lives.Restores away)
 event_by (Finishes call at tokens) number es = Some (lives.Finishes at (fresh tokens))
 event_by (Drops count) number es = None
 
--- ---- the number of the call that a deed is of
+-- ---- the number of the call to which an operation belongs
 
 abbrev pub number_of : Entry → ℕ
 number_of e = e.call.opening.number.0
@@ -103,7 +104,7 @@ abbrev pub number_by : Option Start → Option Entry → Option ℕ
 number_by (Some start) met = Some start.arrival.number.0
 number_by None met = option_map number_of met
 
--- that of the call that it opens, or else of the one that it is of
+-- that of the call that it opens, or, if it opens none, of the one to which it belongs
 abbrev pub call_of : Site → Deed → Table → Option ℕ
 call_of site deed table = number_by (opening_by site deed table) (met_by deed table.entries)
 
@@ -111,7 +112,7 @@ abbrev pub is_number : ℕ → Option ℕ → Bool
 is_number number None = false
 is_number number (Some other) = other == number
 
--- ---- the life of the call of a number
+-- ---- the trace of the call of a number
 
 abbrev pub with_event : Option Event → Life → Life
 with_event None life = life
@@ -121,7 +122,7 @@ abbrev pub goes_on : Option Start → Option Event → Option Life → Option Li
 goes_on (Some start) event life = Some (record { start = start; events = [] })
 goes_on None event life = option_map (with_event event) life
 
--- after one deed more, where the table stood so before
+-- after one more operation, where this was the table before
 abbrev pub life_by : Site → (number : ℕ) → Deed → Table → Option Life → Option Life
 life_by site number deed table life =
     if is_number number (call_of site deed table) then goes_on (opening_by site deed table) (event_by deed number table.entries) life else life
@@ -130,7 +131,7 @@ unfoldable pub life_of : Site → (number : ℕ) → List Deed → Option Life
 life_of site number [] = None
 life_of site number (deed ∷ earlier) = life_by site number deed (table_after site earlier) (life_of site number earlier)
 
--- ---- the call of a life as it stands in the table
+-- ---- the call of a trace as it is in the table
 
 -- the INVITEs of its sides, by their server transactions
 abbrev pub invites_in : calls.Signal → List InviteKey
@@ -155,12 +156,12 @@ invites_after s (x ∷ earlier) = invites_after s earlier ++ invites_by_event x
 abbrev pub entry_after : Life → Entry
 entry_after life = record { call = call_after life.start life.events; invites = invites_after life.start life.events }
 
--- one of which nothing may be heard any more is not in the table
+-- one for which nothing more may be received is not in the table
 abbrev pub entry_in : Option Life → Option Entry
 entry_in None = None
 entry_in (Some life) = if is_settled (call_after life.start life.events) then None else Some (entry_after life)
 
--- ---- what the deeds bring forth, in order
+-- ---- the outputs of the operations, in order
 
 abbrev pub out_by : Site → Deed → Table → List Emit
 out_by site (Hears x) table = (brought_by site x table).desk.out
@@ -176,7 +177,7 @@ rows_by site (Restores number away) table = []
 rows_by site (Finishes number at tokens) table = (finished_by site number at tokens table).desk.rows
 rows_by site (Drops count) table = []
 
--- all rows that were filed, and those that were handed over
+-- all CDRs that were filed, and those that were handed over
 unfoldable pub rows_after : Site → List Deed → List Row
 rows_after site [] = []
 rows_after site (deed ∷ earlier) = rows_after site earlier ++ rows_by site deed (table_after site earlier)
@@ -192,7 +193,7 @@ unfoldable pub handed_after : Site → List Deed → List Row
 handed_after site [] = []
 handed_after site (deed ∷ earlier) = handed_after site earlier ++ handed_by deed (table_after site earlier).rows
 
--- what went out in the deeds that are of the call of a number, and the rows of these deeds
+-- what was sent in the operations that belong to the call of a number, and the CDRs of these operations
 unfoldable pub emits_of : Site → (number : ℕ) → List Deed → List Emit
 emits_of site number [] = []
 emits_of site number (deed ∷ earlier) =
@@ -211,7 +212,7 @@ HasNumbers site deeds = (table_after site deeds).opened < 2 ^ 64 - 1
 
 -- ---- legs that are put back
 
--- each is of the side that is away, as whoever puts it back has to see to
+-- each is of the side that is detached, which the layer that puts it back must ensure
 abbrev pub IsPutBack : Deed → Table → Type 0
 IsPutBack (Hears x) table = Unit {0}
 IsPutBack (Releases number side) table = Unit {0}
@@ -225,7 +226,7 @@ ArePutBack site (deed ∷ earlier) = IsPutBack deed (table_after site earlier) �
 
 -- ---- server transactions
 
--- no call was opened in it by this server transaction
+-- no call was opened in this server transaction by it
 abbrev pub OpensOther : TKey → Signal → Type 0
 OpensOther key (signal.Arrived other invite served registration identities) = (key.0 == other.0) ≡ false
 OpensOther key (signal.Request call side other request) = Unit {0}
@@ -243,7 +244,7 @@ IsOtherDeed key (Restores number away) = Unit {0}
 IsOtherDeed key (Finishes number at tokens) = Unit {0}
 IsOtherDeed key (Drops count) = Unit {0}
 
--- the server transaction of a request is none by which a call was opened before
+-- the server transaction of a request is none in which a call was opened before
 abbrev pub HasOwnKey : Signal → (earlier : List Deed) → Type 0
 HasOwnKey (signal.Arrived key invite served registration identities) earlier = Unit {0}
 HasOwnKey (signal.Request call side key request) earlier = Each (IsOtherDeed key) earlier

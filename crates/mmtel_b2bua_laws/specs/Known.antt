@@ -1,5 +1,5 @@
--- What a life comes to by the precedence of services: how its attempts ended, how things stood at its targets, and its Outcome (TS 24.604 §4.5.2.6).
--- Only a talking call has a leg taken out of it, so all this is told by signals alone.
+-- The Outcome of a trace by the precedence of services: how its attempts ended, the state at its targets, and its Outcome (TS 24.604 §4.5.2.6).
+-- A leg is only detached from a stable call, so all this is determined by signals alone.
 use Rattle.std.specs.Prelude.{◌≡◌, true, ℕ, nat_lt, if◌then◌else◌, List, [], ◌∷◌, ◌++◌}
 use Rattle.mmtel_charging.specs.Meters.{Noted}
 use Rattle.mmtel_charging.specs.declared.rows.Row.{Row}
@@ -30,9 +30,9 @@ unfoldable pub endings_after : Start → List Event → List Ended
 endings_after s [] = []
 endings_after s (x ∷ earlier) = endings_after s earlier ++ endings_by x (call_after s earlier)
 
--- ---- how things stood when it reached the target of its next diversion after k others
+-- ---- the state when it reached the target of its next diversion after k others
 
--- as things stand last, where nothing is known of it yet
+-- the last known state, if there is no later one yet
 abbrev pub standing_by : Event → (before : Standing) → Standing
 standing_by (Hears x) before = x.now
 standing_by (Releases side) before = before
@@ -43,7 +43,7 @@ unfoldable pub stood_after : Start → List Event → (k : ℕ) → Standing
 stood_after s [] k = s.now
 stood_after s (x ∷ earlier) k = if nat_lt k (made_in s (call_after s earlier)) then stood_after s earlier k else standing_by x (stood_after s earlier k)
 
--- ---- what it comes to
+-- ---- its Outcome
 
 abbrev pub known_after : Start → List Event → precedence.Call
 known_after s events = known_as s.site s.now (opening_in s) (stood_after s events)
@@ -57,17 +57,17 @@ outcome_after s events = outcome (known_after s events) (endings_after s events)
 abbrev pub parts_after : Start → List Event → List Noted
 parts_after s events = parts_of (known_after s events) s.arrival.number (outcome_after s events).targets
 
--- how it ended by this cause
+-- how it ended with this cause
 abbrev pub ended_by : Start → List Event → Cause → Ending
 ended_by s events cause = record { answered = (call_after s events).answered; at = over_at s events; holds = (call_after s events).hold.holds; cause = cause }
 
--- the rows of it
+-- their CDRs
 abbrev pub charges_after : Start → List Event → Cause → List Row
 charges_after s events cause = rows_of_parts (ended_by s events cause) (known_after s events) s.arrival.number (outcome_after s events).targets
 
--- ---- server transactions, and desks
+-- ---- server transactions, and outputs
 
--- a request that is heard later has another server transaction than the INVITE that opened the call
+-- a request that is received later has another server transaction than the INVITE that opened the call
 abbrev pub IsOthersEvent : (key : TKey) → Event → Type 0
 IsOthersEvent key (Hears x) = IsOthers key x.signal
 IsOthersEvent key (Releases side) = Unit {0}
@@ -78,7 +78,7 @@ abbrev pub AreOthers : (key : TKey) → List Event → Type 0
 AreOthers key [] = Unit {0}
 AreOthers key (x ∷ earlier) = IsOthersEvent key x × AreOthers key earlier
 
--- each step has a desk of its own, on which nothing lies
+-- each step has an empty output before it
 abbrev pub HasOwnDesk : Event → Type 0
 HasOwnDesk (Hears x) = x.desk.out ≡ []
 HasOwnDesk (Releases side) = Unit {0}
@@ -91,7 +91,7 @@ HaveOwnDesks s (x ∷ earlier) = HasOwnDesk x × HaveOwnDesks s earlier
 
 -- ---- legs that are put back
 
--- each is of the side that is away
+-- each is of the side that is detached
 abbrev pub IsFitting : Event → Call → Type 0
 IsFitting (Hears x) c = Unit {0}
 IsFitting (Releases side) c = Unit {0}

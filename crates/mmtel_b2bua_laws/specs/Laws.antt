@@ -1,4 +1,4 @@
--- What is said of every table of calls, in the subject's words.
+-- What is claimed of every table of calls, in the terms of SIP.
 use Rattle.std.specs.Prelude.{◌++◌, ◌≡◌, ◌+◌, ◌==◌, ℕ, Bool, false, true, List, [], ◌∷◌, Some, None, filter, find, is_some}
 use Rattle.mmtel_charging.specs.declared.rows.Row.{Row}
 use Rattle.mmtel_precedence.specs.Laws.{diversions_made}
@@ -24,36 +24,35 @@ use Rattle.mmtel_b2bua_laws.specs.Known.{AreFitting, AreOthers, HaveOwnDesks, ch
 use Rattle.mmtel_b2bua_laws.specs.Lives.{Event, Hears, Life, call_after, emits_after, emits_while_offered, rows_after}
 use Rattle.mmtel_b2bua_laws.specs.Watched.{endings_seen, no_reply_after, session_after, signs_after, watch_after}
 
--- ---- a life, as a story of its call
+-- ---- the trace of a call, with detached legs
 
 -- the result so far is that of Outcome
 abbrev pub LivesComeToTheirOutcome : Type 0
 LivesComeToTheirOutcome = (s : Start) (events : List Event) → result_of (call_after s events) ≡ (outcome_after s events).result
 
--- while it is offered the targets have the INVITEs that Outcome says, in order, and then the caller has one final, by the result
+-- while it is offered the targets get the INVITEs that Outcome gives, in order, and then the caller gets one final response, by the result
 abbrev pub LivesShowTheirOutcome : Type 0
 LivesShowTheirOutcome = (s : Start) (events : List Event) → AreOthers s.arrival.key events → HaveOwnDesks s events →
     signs_of s.arrival.key (emits_while_offered s events) ≡ signs_of_targets (opening_in s) (outcome_after s events).targets ++ sign_of_result (outcome_after s events).result
 
--- and in its whole life the targets have these INVITEs and no other, and the caller that final and no other, whatever comes to the call later
+-- and in its whole trace the targets get these INVITEs and no other, and the caller that final response and no other, whatever the call receives later
 abbrev pub LivesShowThroughout : Type 0
 LivesShowThroughout = (s : Start) (events : List Event) → AreOthers s.arrival.key events → HaveOwnDesks s events →
     signs_after s events ≡ signs_of_targets (opening_in s) (outcome_after s events).targets ++ sign_of_result (outcome_after s events).result
 
--- how its attempts ended is told by what went out and was heard alone
+-- how its attempts ended is determined by what was sent and received alone
 abbrev pub LivesEndAsIsSeen : Type 0
 LivesEndAsIsSeen = (s : Start) (events : List Event) → endings_after s events ≡ endings_seen s events
 
--- while it is offered its attempt is the one that is on its way, with its deadlines, each at its moment, and with the reliable answers that wait for their PRACK; and else
--- none is on its way
+-- while it is offered its attempt is the current one, with its deadlines, each at its moment, and with the reliable responses that wait for their PRACK; otherwise none is current
 abbrev pub LivesAreWatched : Type 0
 LivesAreWatched = (s : Start) (events : List Event) → IsSeen s.site.bound (no_reply_after s events) (call_after s events).acks (call_after s events).phase (watch_after s events)
 
--- the deadline of its session that counts is that of the last 2xx which it passed on
+-- the deadline of its session that counts is that of the last 2xx which it relayed
 abbrev pub LivesKeepTheirSession : Type 0
 LivesKeepTheirSession = (s : Start) (events : List Event) → IsSessionSeen s.site.timer (call_after s events) (session_after s events)
 
--- by that a call that talks or asks is over, and by none that went out before
+-- by that deadline a stable or reinviting call is over, and by none that was armed before
 abbrev pub ExpiresOn : Start → (earlier : List Event) → (x : Heard) → (number : ℕ) → Type 0
 ExpiresOn s earlier x number =
     ExpiresAsSeen (call_after s earlier) (session_after s earlier) number x.desk (step s.site x.now x.signal (call_after s earlier) x.desk)
@@ -61,32 +60,32 @@ ExpiresOn s earlier x number =
 abbrev pub LivesExpireAsSeen : Type 0
 LivesExpireAsSeen = (s : Start) (earlier : List Event) (x : Heard) (number : ℕ) → x.signal ≡ signal.Due (due.Expired number) → ExpiresOn s earlier x number
 
--- so many diversions are left as the bound leaves after those that the call came with and those that were made
+-- as many diversions are left as the bound leaves after those that the call came with and those that were made
 abbrev pub LivesAreCounted : Type 0
 LivesAreCounted = (s : Start) (events : List Event) → (call_after s events).diversions.left + diversions_made (outcome_after s events) ≡ left_at_first s
 
--- of a life in which each leg that is put back is of the side that is away
+-- for a trace in which each leg that is put back is of the side that is detached
 pub record LivesAreCharged : Type 0 where
   -- it was answered when an attempt was
   pub answered : (s : Start) (events : List Event) → (call_after s events).answered ≡ answer_in (endings_after s events)
-  -- while it is not over no row is filed, and what began runs
+  -- while it is not over no CDR is filed, and the parts that began run
   pub runs : (s : Start) (events : List Event) → AreFitting s events → is_over (call_after s events).phase ≡ false →
       (running (call_after s events) ≡ parts_after s events) × (rows_after s events ≡ [])
-  -- once it is over nothing runs, and of each part that began a row was filed, in the order begun
+  -- once it is over no part runs, and for each part that began a CDR was filed, in the order begun
   pub filed : (s : Start) (events : List Event) (cause : Cause) → AreFitting s events → (call_after s events).phase ≡ Over cause →
       (running (call_after s events) ≡ []) × (rows_after s events ≡ charges_after s events cause)
-  -- and where an attempt was answered, by this cause alone
+  -- and if an attempt was answered, with this cause alone
   pub ended : (s : Start) (events : List Event) (cause : Cause) → (call_after s events).phase ≡ Over cause → is_some (answer_in (endings_after s events)) ≡ true →
       cause ≡ Ended
 
 -- ---- a table
 
--- each call takes just the steps of its own signals: it stands in the table as its life has it, until nothing may be heard of it any more
+-- each call takes exactly the steps of its own signals: it is in the table as its trace determines, until nothing more may be received for it
 abbrev pub CallsTakeTheirSteps : Type 0
 CallsTakeTheirSteps = (site : Site) (deeds : List Deed) (number : ℕ) → HasNumbers site deeds →
     find (is_numbered number) (table_after site deeds).entries ≡ entry_in (life_of site number deeds)
 
--- what its deeds bring forth is what its life does
+-- the outputs of its operations are those of its trace
 pub record BringForthTheirOwn (site : Site) (deeds : List Deed) (number : ℕ) (life : Life) : Type 0 where
   pub opening : (life.start.site ≡ site) × (life.start.arrival.number.0 ≡ number)
   pub desks : HaveOwnDesks life.start life.events
@@ -97,27 +96,27 @@ abbrev pub CallsBringForthTheirOwn : Type 0
 CallsBringForthTheirOwn = (site : Site) (deeds : List Deed) (number : ℕ) (life : Life) → HasNumbers site deeds → life_of site number deeds ≡ Some life →
     BringForthTheirOwn site deeds number life
 
--- a deed that is of no call brings forth nothing
+-- an operation that belongs to no call has no output
 abbrev pub NothingIsOfNobody : Type 0
 NothingIsOfNobody = (site : Site) (deed : Deed) (earlier : List Deed) → call_of site deed (table_after site earlier) ≡ None →
     (out_by site deed (table_after site earlier) ≡ []) × (rows_by site deed (table_after site earlier) ≡ [])
 
--- the rows that were handed over and those that wait are all that were filed, in the order of the deeds
+-- the CDRs that were handed over and those that wait are all that were filed, in the order of the operations
 abbrev pub RowsAreInOrder : Type 0
 RowsAreInOrder = (site : Site) (deeds : List Deed) → handed_after site deeds ++ (table_after site deeds).rows ≡ rows_of_all site deeds
 
--- a row of the call of this number
+-- a CDR of the call of this number
 abbrev pub is_row_of : (number : ℕ) → Row → Bool
 is_row_of number row = row.call.0 == number
 
--- of all rows those of a call are the rows of its deeds
+-- among all CDRs those of a call are the CDRs of its operations
 abbrev pub RowsAreOfTheirCalls : Type 0
 RowsAreOfTheirCalls = (site : Site) (deeds : List Deed) (number : ℕ) → HasNumbers site deeds → ArePutBack site deeds →
     filter (is_row_of number) (rows_of_all site deeds) ≡ rows_of site number deeds
 
 -- ---- a call of a table
 
--- ready to become clauses of whatever holds a table: what the call of a number comes to, what its deeds show of it, and its rows
+-- in the form of clauses for a contract over a table: the result of the call of a number, what its operations send, and its CDRs
 pub record CallIsExact (site : Site) (deeds : List Deed) (number : ℕ) (life : Life) : Type 0 where
   pub stands : find (is_numbered number) (table_after site deeds).entries ≡ entry_in (Some life)
   pub result : result_of (call_after life.start life.events) ≡ (outcome_after life.start life.events).result

@@ -1,5 +1,5 @@
--- What the laws cite.
--- What each call of a table comes to:
+-- What the theorems cite.
+-- The result of each call of a table:
 pub mod Lives
 pub mod Known
 pub mod Watched
@@ -9,7 +9,7 @@ pub mod Acks
 pub mod Clean
 pub mod Legs
 pub mod Replies
--- What nobody may learn from a table:
+-- What nobody may learn from a table (noninterference):
 pub mod Signals
 pub mod Alike
 pub mod AlikeDeeds

@@ -1,4 +1,4 @@
--- What is private of what a table of calls hears, and what holds of it: whose a message is, and which role it has, is for the layer above to say.
+-- What is private in the signals of a table of calls, and the premises on them: to whom a message belongs, and which role it has, is determined by the layer above.
 use Rattle.std.specs.Prelude.{◌≡◌, ℕ, Bool, Option, Some, None, List, position, slice_get}
 use Rattle.mmtel_identity.specs.Restriction.{is_caller_restricted}
 use Rattle.mmtel_precedence.specs.Calls.{Standing}
@@ -20,7 +20,7 @@ use Rattle.mmtel_b2bua.specs.declared.entries.Entry.{Entry}
 use Rattle.mmtel_b2bua.specs.declared.signals.Signal.{Signal}
 use Rattle.mmtel_b2bua.specs.declared.signals.Signal.TheVariants as signal
 
--- a signal without what is private of its message, which has this role, and without who the caller is
+-- a signal without the private places of its message, which has this role, and without the identity of the caller
 abbrev pub public_signal : Role → Signal → Signal
 public_signal role (signal.Arrived key invite served registration identities) = signal.Arrived key (without_private role invite) served registration nobody
 public_signal role (signal.Request call side key request) = signal.Request call side key (without_private role request)
@@ -31,7 +31,7 @@ public_signal role (signal.Silent branch method) = signal.Silent branch method
 public_signal role (signal.Due call what) = signal.Due call what
 public_signal role (signal.Over key) = signal.Over key
 
--- ---- who the caller is stands apart
+-- ---- the identity of the caller is treated separately
 
 abbrev pub caller_in : Signal → Option Identities2
 caller_in (signal.Arrived key invite served registration identities) = Some identities
@@ -43,11 +43,11 @@ caller_in (signal.Silent branch method) = None
 caller_in (signal.Due call what) = None
 caller_in (signal.Over key) = None
 
--- of two callers the same is decided
+-- on two callers the same is decided
 abbrev pub CallersAlike : (records : List Sheet) → (one other : Signal) → Type 0
 CallersAlike records one other = (who second : Identities2) → caller_in one ≡ Some who → caller_in other ≡ Some second → DecideAlike records who second
 
--- ---- the accounts that are looked up with a signal: that of a Request-URI, and that of a target to which a response redirects where that is not private in this role
+-- ---- the accounts that are looked up on a signal: that of a Request-URI, and that of a target to which a response redirects if that is not private in this role
 
 abbrev pub LooksAlike : (one other : Site) → Role → Signal → Type 0
 LooksAlike one other role (signal.Arrived key invite served registration identities) = LooksUpAlike one other (requested invite).uri
@@ -59,9 +59,9 @@ LooksAlike one other role (signal.Silent branch method) = Unit {0}
 LooksAlike one other role (signal.Due call what) = Unit {0}
 LooksAlike one other role (signal.Over key) = Unit {0}
 
--- ---- what is asked of a signal
+-- ---- the premises on a signal
 
--- the server transaction of a request is of its own peer
+-- the server transaction of a request belongs to the request's own peer
 abbrev pub AsksWell : Trust → Signal → Type 0
 AsksWell t (signal.Arrived key invite served registration identities) = IsAsked t key invite
 AsksWell t (signal.Request call side key request) = IsAsked t key request
@@ -72,11 +72,11 @@ AsksWell t (signal.Silent branch method) = Unit {0}
 AsksWell t (signal.Due call what) = Unit {0}
 AsksWell t (signal.Over key) = Unit {0}
 
--- of the first call that passes, if one does, holds what the step table asks of its messages: one hides no more than the call knows
+-- for the first call that satisfies the predicate, if there is one, the premises of the step table on its messages hold: a message hides no more than the call knows
 abbrev pub CallHears : Trust → (whose : Entry → Bool) → calls.Signal → Role → List Entry → Type 0
 CallHears t whose x role es = (place : ℕ) (e : Entry) → position whose es ≡ Some place → slice_get es place ≡ Some e → Hears x t role e.call
 
--- by the signal, as things stand then: an INVITE that opens a call has the role of an opening
+-- by the signal, with the state then: an INVITE that opens a call has the role of an opening
 abbrev pub TableHears : Trust → Standing → Role → Signal → List Entry → Type 0
 TableHears t now role (signal.Arrived key invite served registration identities) es = role ≡ opening_role (is_caller_restricted invite.heard.wants (origin_sheet now served))
 TableHears t now role (signal.Request call side key request) es = CallHears t (is_numbered call.0) (of_call.Request side key request) role es

@@ -1,6 +1,6 @@
--- What is seen of a life from outside: what it shows in each step, its attempts, by what goes out and is heard while it is offered (RFC 3261 §13.2.1, §13.3.1, §14 and §21,
--- RFC 3262 §3), and its session (RFC 4028 §10).
--- A leg that is taken out or put back, or the end without one, is of an answered call, of which no attempt is on its way.
+-- What is observed of the trace of a call from outside: what is observed in each step, its attempts, by what is sent and received while it is offered (RFC 3261 §13.2.1, §13.3.1,
+-- §14 and §21, RFC 3262 §3), and its session (RFC 4028 §10).
+-- A leg that is detached or put back, or the end without one, concerns an answered call, which has no current attempt.
 use Rattle.std.specs.Prelude.{ℕ, Option, None, List, [], ◌∷◌, ◌++◌, option_to_list}
 use Rattle.std.specs.Option.{option_map}
 use Rattle.mmtel_precedence.specs.Calls.{Ended}
@@ -18,21 +18,21 @@ use Rattle.mmtel_call_laws.specs.Trace.Seen.{Mark, Watch, ends_watched, first_la
 use Rattle.mmtel_b2bua_laws.specs.Known.{known_after, outcome_after}
 use Rattle.mmtel_b2bua_laws.specs.Lives.{Event, Finishes, Hears, Releases, Restores, call_after, emits_by}
 
--- ---- what it shows: INVITEs to its targets, and finals to its caller
+-- ---- what is observed: INVITEs to its targets, and final responses to its caller
 
--- of what goes out as this comes to it, but for an INVITE that a side sends within the call and that the other one has too
+-- of what is sent at this event, except for an INVITE that a side sends within the call and that is relayed to the other side
 abbrev pub shown_in : (key : TKey) → Event → List Emit → List Sign
 shown_in key (Hears x) out = shown_by key x.signal out
 shown_in key (Releases side) out = signs_of key out
 shown_in key (Restores away) out = signs_of key out
 shown_in key (Finishes at desk) out = signs_of key out
 
--- in its whole life, in order
+-- in its whole trace, in order
 unfoldable pub signs_after : Start → List Event → List Sign
 signs_after s [] = signs_of s.arrival.key (added s.desk.out (first_step s).desk.out)
 signs_after s (x ∷ earlier) = signs_after s earlier ++ shown_in s.arrival.key x (emits_by s.site x (call_after s earlier))
 
--- ---- the attempt that is on its way
+-- ---- the current attempt
 
 -- the number of the last request of the caller that was in order
 abbrev pub last_in : Option ℕ → Event → Option ℕ
@@ -45,7 +45,7 @@ unfoldable pub last_after : Start → List Event → Option ℕ
 last_after s [] = first_last s
 last_after s (x ∷ earlier) = last_in (last_after s earlier) x
 
--- the INVITEs and deadlines that go out as this comes to it
+-- the INVITEs and deadlines that are sent or armed at this event
 abbrev pub marks_in : Start → Event → Call → List Mark
 marks_in s x c = marks_of s.site.sip s.arrival.number (emits_by s.site x c)
 
@@ -59,7 +59,7 @@ unfoldable pub watch_after : Start → List Event → Watch
 watch_after s [] = on_marks s.now.at (nothing_yet (number_of s.arrival.invite)) (marks_first s)
 watch_after s (x ∷ earlier) = watched_in s (watch_after s earlier) (last_after s earlier) x (marks_in s x (call_after s earlier))
 
--- ---- how attempts ended, by that alone
+-- ---- how attempts ended, by this alone
 
 abbrev pub ends_in : (key : TKey) → (last : Option ℕ) → Watch → Event → List Ended
 ends_in key last w (Hears x) = option_to_list (option_map (ended_at x.now.at) (ends_watched key last w x.signal))
@@ -73,13 +73,13 @@ endings_seen s (x ∷ earlier) = endings_seen s earlier ++ ends_in s.arrival.key
 
 -- ---- how long it may ring
 
--- where the record of the account that is served at the last target has a rule for no answer, as it stood when the call reached it
+-- if the record of the account that is served at the last target, as it was when the call reached that target, has a rule for no answer
 abbrev pub no_reply_after : Start → List Event → Option ℕ
 no_reply_after s events = time_of (last_record (known_after s events) 0 (outcome_after s events).targets)
 
 -- ---- the session
 
--- as a leg is taken out or put back nothing is passed on and nothing goes out; where the call ends without one no 2xx is heard
+-- when a leg is detached or put back nothing is relayed and nothing is sent; where the call ends without one no 2xx is received
 abbrev pub session_in : Start → Event → Call → Session → Session
 session_in s (Hears x) c w = session_by x.now.at s.arrival.number c x.signal (emits_by s.site (Hears x) c) w
 session_in s (Releases side) c w = w

@@ -1,4 +1,4 @@
-//! What each call of a table comes to. These are laws, and no code.
+//! The result of each call of a table. These are theorems, without code.
 ghost use Rattle.mmtel_b2bua_laws.specs.Clean.{CallsSendCleanMessages, DeedsSendCleanMessages, LegsGoOutClean};
 ghost use Rattle.mmtel_b2bua_laws.specs.Laws.{CallsBringForthTheirOwn, CallsOfTablesAreExact, CallsTakeTheirSteps, LivesAreCharged, LivesAreCounted, LivesExpireAsSeen, LivesKeepTheirSession};
 ghost use Rattle.mmtel_b2bua_laws.specs.Laws.{LivesAreWatched, LivesComeToTheirOutcome, LivesEndAsIsSeen, LivesShowTheirOutcome, LivesShowThroughout, NothingIsOfNobody, RowsAreInOrder, RowsAreOfTheirCalls};
@@ -11,8 +11,8 @@ use mmtel_call_laws::{
     sessions_are_seen, sessions_expire,
 };
 
-/// A call of which legs are taken out and put back, or that is ended without one, comes to what a call comes to that only hears signals: its Outcome, what goes out while it
-/// is offered, the bound on diversions, and charging (TS 24.604 §4.5.2.6, TS 32.260 §5, RFC 4579 §5.6).
+/// A call of which legs are detached and put back, or that is ended without one, has the result of a call that only receives signals: its Outcome, what is sent while it is
+/// offered, the bound on diversions, and charging (TS 24.604 §4.5.2.6, TS 32.260 §5, RFC 4579 §5.6).
 pub fn lives_come_to_their_outcome()
     ensures result { LivesComeToTheirOutcome }
     ensures shown { LivesShowTheirOutcome }
@@ -35,7 +35,8 @@ pub fn lives_come_to_their_outcome()
     sessions_expire();
 }
 
-/// Each call of a table takes just the steps of its own signals: it stands there as its life has it, and what goes out and is filed in its deeds is what its life brings forth.
+/// Each call of a table takes exactly the steps of its own signals: it is in the table as its trace determines, and what its operations send and file is what its trace sends and
+/// files.
 pub fn calls_take_their_steps()
     ensures law { CallsTakeTheirSteps }
     ensures own { CallsBringForthTheirOwn }
@@ -44,13 +45,13 @@ pub fn calls_take_their_steps()
     charging_is_exact();
 }
 
-/// A deed that is of no call brings forth nothing.
+/// An operation that belongs to no call has no output.
 pub fn nothing_is_of_nobody()
     ensures law { NothingIsOfNobody }
 {}
 
-/// The rows that were handed over and those that wait are all that were filed, in the order of the deeds; and of these the rows of a call are those of its deeds, where each
-/// leg that is put back is of the side that is away.
+/// The CDRs that were handed over and those that wait are all that were filed, in the order of the operations; and of these the CDRs of a call are those of its operations, if each
+/// leg that is put back is of the side that is detached.
 pub fn rows_are_in_order()
     ensures law { RowsAreInOrder }
     ensures calls { RowsAreOfTheirCalls }
@@ -59,7 +60,7 @@ pub fn rows_are_in_order()
     charging_is_exact();
 }
 
-/// What each call of a table comes to, what its deeds show of it, and its rows.
+/// The result of each call of a table, what its operations send, and its CDRs.
 pub fn calls_of_tables_are_exact()
     ensures law { CallsOfTablesAreExact }
 {
@@ -73,15 +74,15 @@ pub fn calls_of_tables_are_exact()
     sessions_expire();
 }
 
-/// A leg that is taken out of a call fits where it was, and put back it leaves the calls as they were (RFC 4579 §5.6, RFC 3891 §3).
+/// A leg that is detached from a call may be put back where it was, and then the calls are as they were before (RFC 4579 §5.6, RFC 3891 §3).
 pub fn legs_go_back()
     ensures law { LegsGoBack }
 {}
 
-/// What goes out of a table is clean, and each message has its own lines, where what the calls are given is clean: messages of clean lines, records with clean URIs, and
-/// tokens of a clean text. It is said of each deed, where each leg that is put back is clean, and so is each that is taken out; and without a word on these of each call of
-/// which no leg was taken out, and of one that ended in the deed after that. Of an ACK of a 2xx no lines go out but those that are shown of an ACK that was heard in the call
-/// of its dialog.
+/// What a table sends is clean, and each message has its own lines, without injection, if the input of the calls is clean: messages with clean header fields, records with clean
+/// URIs, and tokens of a clean text. It is claimed of each operation, if each leg that is put back is clean, and so is each that is detached; and without a premise on these of
+/// each call of which no leg was detached, and of one that ended in the operation after that. An ACK of a 2xx has no header fields but those that are copied from an ACK that was
+/// received in the call of its dialog.
 pub fn tables_send_clean_messages()
     ensures law { CallsSendCleanMessages }
     ensures deeds { DeedsSendCleanMessages }
@@ -92,8 +93,8 @@ pub fn tables_send_clean_messages()
     charging_is_exact();
 }
 
-/// Each reply of a call, in its whole life, is in the server transaction of a request of its own: the INVITE that opened it, or one that it heard (RFC 3261 §8.2.6, §17.2). So
-/// it is of all that goes out in its deeds on a table.
+/// Each reply of a call, in its whole trace, is in the server transaction of a request of its own: the INVITE that opened it, or one that it received (RFC 3261 §8.2.6, §17.2). So
+/// it is for everything that is sent in its operations on a table.
 pub fn calls_of_tables_reply_in_their_own()
     ensures lives { LivesReplyInTheirOwn }
     ensures law { CallsReplyInTheirOwn }

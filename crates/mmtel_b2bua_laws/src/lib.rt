@@ -1,5 +1,6 @@
-//! Laws of the table of calls: each call takes just the steps of its own signals, so it comes to what one call comes to; and what nobody may learn from it: two tables that
-//! are alike but for private places stay alike, whatever is done on them, and untrusted peers see the same of it. The crate has definitions and laws, and no code.
+//! Theorems about the table of calls: each call takes exactly the steps of its own signals, so its result is that of one call; and noninterference, what nobody may learn from it:
+//! two tables that are equal but for private places remain indistinguishable, whatever the operations, and untrusted peers see the same of their output. The crate has definitions
+//! and theorems, and no code.
 #![tactic(auto)]
 
 mod laws;

@@ -1,4 +1,4 @@
--- What a refusal sees of a caller, and when it is that of an anonymous one.
+-- What a refusal depends on of a caller, and when it is that of an anonymous one.
 use Rattle.std.proofs.Common.{◌≡◌, ℕ, Bool, true, false, cond, ◌&&◌, List, Option, Some, None, refl, ap, sym, ◌∙◌}
 use Rattle.std.specs.Prelude.{◌≢◌, is_some}
 use Rattle.std.specs.Option.{option_map}
@@ -12,11 +12,11 @@ use Rattle.mmtel_barring.specs.declared.bars.Barred.{Barred}
 use Rattle.mmtel_barring.specs.declared.bars.Refusal.{Refusal}
 use Rattle.mmtel_barring.specs.declared.bars.Refusal.TheVariants as Refusals
 
--- where it is not rejected, a refusal is a rule's
+-- where it is not rejected as anonymous, a refusal is by a rule
 abbrev pub refusal_unless : Bool → Option ℕ → Option Refusal
 refusal_unless rejected found = cond rejected (Some Refusals.Anonymous) (option_map (λ place. Refusals.Barred place) found)
 
--- ---- answers: what bars one caller bars another where the rules bar them alike
+-- ---- truth values: what bars one caller bars another where the rules bar both
 
 module _ (asks asks2 : Who → Bool) (k : Circumstances) where
   pub outgoing_alike : (part : Option BarPart) → barred_by (asked k asks) (rules_of part) ≡ barred_by (asked k asks2) (rules_of part) → outgoing_bar (asked k asks) part ≡ outgoing_bar (asked k asks2) part

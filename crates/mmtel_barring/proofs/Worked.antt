@@ -1,4 +1,4 @@
--- Barring with an exception: everybody is barred, and alice is let through, whichever of the two rules stands first.
+-- Barring with an exception: everybody is barred, and alice is allowed, whichever of the two rules comes first.
 use Rattle.std.proofs.Common.{◌≡◌, true, false, List, [], ◌∷◌, Option, Some, None, refl, codes}
 use Rattle.mmtel_lex.specs.declared.values.Uri.{Uri}
 use Rattle.mmtel_lex.specs.declared.values.Uri.TheVariants.{Sip}

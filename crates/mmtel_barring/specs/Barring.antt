@@ -1,7 +1,7 @@
--- Barring of calls (TS 24.611): on its way out a call is barred by the rules of the user who calls; on its way in it is refused where its caller hides who it is and the
--- user rejects that (anonymous communication rejection), and else barred by the rules of the user who is called.
+-- Barring of calls (TS 24.611): an outgoing call is barred by the rules of the user who calls; an incoming call is refused where its caller is anonymous and the user rejects that
+-- (anonymous communication rejection), and else barred by the rules of the user who is called.
 --
--- Of the other party only two things count: what it answers to the identity parts of the rules, and whether it has an identity.
+-- Of the other party only two things count: the truth values of the identity parts of the rules, and whether it has an identity.
 use Rattle.std.specs.Prelude.{Bool, ◌&&◌, List, [], Option, Some, None, if◌then◌else◌}
 use Rattle.std.specs.Option.{option_map}
 use Rattle.mmtel_sheet_values.specs.declared.values.BarPart.{BarPart}
@@ -17,7 +17,7 @@ abbrev pub outgoing_bar : Circumstances → Option BarPart → Option Barred
 outgoing_bar k None = None
 outgoing_bar k (Some part) = option_map (λ place. record { rule = place }) (barred_by k part.rules)
 
--- the user rejects callers that hide who they are, the caller does, and it has an identity to hide
+-- the user rejects anonymous callers, the caller is anonymous, and it has an identity to hide
 abbrev pub is_anonymous_refused : Circumstances → BarPart → Bool
 is_anonymous_refused k part = part.reject_anonymous && (k.restricted && k.has_identity)
 

@@ -1,4 +1,4 @@
-//! The two directions.
+//! Barring in the two directions.
 ghost use Rattle.std.specs.Prelude.{◌≡◌};
 ghost use Rattle.mmtel_rules.specs.Circumstances.{known};
 ghost use Rattle.mmtel_rules.specs.Identities.{has_identity};
@@ -7,17 +7,17 @@ ghost use Rattle.mmtel_barring.specs.Barring.{incoming_refusal, is_anonymous_ref
 use mmtel_rules::{Facts, Identities2, all_bar};
 use mmtel_sheet_values::{BarPart, Sheet};
 
-/// A call that is barred on its way out.
+/// An outgoing call that is barred.
 #[derive(Clone, Copy, Debug, PartialEq, Eq)]
 pub struct Barred {
     /// The least index of a rule that bars it.
     pub rule: usize,
 }
 
-/// Why a call is refused on its way in.
+/// Why an incoming call is refused.
 #[derive(Clone, Copy, Debug, PartialEq, Eq)]
 pub enum Refusal {
-    /// Its caller hides who it is (TS 24.611, anonymous communication rejection).
+    /// Its caller is anonymous (TS 24.611, anonymous communication rejection).
     Anonymous,
     /// It is barred.
     Barred {
@@ -33,15 +33,15 @@ fn has_identity(identities: &Identities2) -> bool
     identities.sip.is_some() || identities.tel.is_some()
 }
 
-/// Whether the caller is refused since it hides who it is.
+/// Whether the caller is refused since it is anonymous.
 fn is_anonymous_refused(part: &BarPart, f: &Facts) -> bool
     ensures { let facts = f.entry.now in result ≡ is_anonymous_refused (known facts) part.now }
 {
     part.reject_anonymous && f.restricted && has_identity(f.caller)
 }
 
-/// The rule of the user's barring of outgoing calls that bars this one; None where the user has none, or none bars it. The facts name the target as the identity. It takes
-/// no memory.
+/// The rule of the user's barring of outgoing calls that bars this one; None where the user has none, or none bars it. The facts name the target as the identity. It allocates
+/// nothing.
 pub fn outgoing(s: &Sheet, f: &Facts) -> Option<Barred>
     ensures exact { let facts = f.entry.now in result ≡ outgoing_bar (known facts) s.now.outgoing }
 {
@@ -54,8 +54,8 @@ pub fn outgoing(s: &Sheet, f: &Facts) -> Option<Barred>
     }
 }
 
-/// Why the user's barring of incoming calls refuses this one; None where the user has none, or it does not. That the caller hides who it is comes before the rules; a
-/// caller that has no identity hides none. It takes no memory.
+/// Why the user's barring of incoming calls refuses this one; None where the user has none, or it does not. The rejection of anonymous callers comes before the rules; a caller
+/// without an identity is not rejected so. It allocates nothing.
 pub fn incoming(s: &Sheet, f: &Facts) -> Option<Refusal>
     ensures exact { let facts = f.entry.now in result ≡ incoming_refusal (known facts) s.now.incoming }
 {

@@ -1,4 +1,4 @@
-//! Laws of the definitions that contracts cite: each is the contract of a function that does nothing but call the laws of the rules that it rests on.
+//! Theorems about the definitions that contracts cite: each is the contract of a function that only calls the theorems about the rules on which it is based.
 ghost use Rattle.std.specs.Prelude.{◌≡◌, ◌≢◌, Bool, true, false, List, ◌∷◌, ◌++◌, Option, Some, None, is_some};
 ghost use Rattle.std.specs.List.Sorted.{IsPermutation};
 ghost use Rattle.mmtel_rules.specs.Alike.{AnswerAlike, identity_parts};
@@ -15,7 +15,7 @@ ghost use Rattle.mmtel_sheet_values.specs.declared.values.Who.{Who};
 use mmtel_rules::laws as rules;
 use mmtel_rules::laws::{barring_sees_answers_alone, order_of_rules_bars_alike};
 
-/// Two callers that answer the identity parts of the rules alike, and of whom both or neither have an identity, are refused alike.
+/// Two callers for which the identity parts of the rules have the same truth values, and of whom both or neither have an identity, are refused in the same way.
 pub fn incoming_sees_answers_alone()
     ensures same { (asks asks2 : Who → Bool) (k : Circumstances) (part : Option BarPart) → AnswerAlike asks asks2 (identity_parts (rules_of part)) →
         incoming_refusal (asked k asks) part ≡ incoming_refusal (asked k asks2) part }
@@ -25,7 +25,7 @@ pub fn incoming_sees_answers_alone()
     barring_sees_answers_alone();
 }
 
-/// Two targets that answer the identity parts of the rules alike are barred alike.
+/// Two targets for which the identity parts of the rules have the same truth values are barred in the same way.
 pub fn outgoing_sees_answers_alone()
     ensures same { (asks asks2 : Who → Bool) (k : Circumstances) (part : Option BarPart) → AnswerAlike asks asks2 (identity_parts (rules_of part)) →
         outgoing_bar (asked k asks) part ≡ outgoing_bar (asked k asks2) part }
@@ -33,20 +33,20 @@ pub fn outgoing_sees_answers_alone()
     barring_sees_answers_alone();
 }
 
-/// A caller that has no identity, or hides none, is never rejected as anonymous, whatever the user wants.
+/// A caller that has no identity, or hides none, is never rejected as anonymous, whatever the settings of the user.
 pub fn only_who_hides_is_anonymous()
     ensures nobody { (k : Circumstances) (part : Option BarPart) → k.has_identity ≡ false → incoming_refusal k part ≢ Some Anonymous }
     ensures shown { (k : Circumstances) (part : Option BarPart) → k.restricted ≡ false → incoming_refusal k part ≢ Some Anonymous }
     ensures unasked { (k : Circumstances) (part : BarPart) → part.reject_anonymous ≡ false → incoming_refusal k (Some part) ≢ Some Anonymous }
 {}
 
-/// A caller that hides its identity from a user who rejects that is refused as anonymous, whatever the rules are, those that allow it too.
+/// A caller that hides its identity from a user who rejects that is refused as anonymous, whatever the rules are, including those that allow it.
 pub fn anonymous_comes_first()
     ensures refused { (k : Circumstances) (part : BarPart) → part.reject_anonymous ≡ true → k.restricted ≡ true → k.has_identity ≡ true →
         incoming_refusal k (Some part) ≡ Some Anonymous }
 {}
 
-/// A rule that holds as the call arrives and allows it keeps it from being barred, wherever it stands among the rules.
+/// A rule that holds as the call arrives and allows it keeps it from being barred, whatever its place among the rules.
 pub fn allowing_rule_wins()
     ensures outgoing { (k : Circumstances) (front back : List Rule) (r : Rule) (reject : Bool) → allows r.action ≡ true → rule_holds k arrival r ≡ true →
         outgoing_bar k (Some (record { rules = front ++ r ∷ back; reject_anonymous = reject })) ≡ None }

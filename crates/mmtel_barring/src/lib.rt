@@ -1,6 +1,6 @@
-//! Barring of calls (TS 24.611): which rule of a record bars a call on its way out or in, and which callers are refused since they hide who they are.
+//! Barring of calls (TS 24.611): which rule of a record bars an outgoing or incoming call, and which callers are refused since they are anonymous.
 //!
-//! No call takes memory, so a decision never fails.
+//! No function allocates, so a decision never fails.
 #![tactic(auto)]
 
 mod bars;

@@ -1,4 +1,4 @@
--- How a call goes on does not rest on the phase that it leaves: that is written over, whatever the call comes to.
+-- How a call continues does not depend on its phase before: that is overwritten, whatever the call continues with.
 use Rattle.std.proofs.Common.{◌≡◌, ℕ, zero, suc, Bool, true, false, Option, Some, None, nat_lt, if◌then◌else◌, ◌&&◌, not, ap, refl}
 use Rattle.mmtel_answers.specs.Said.{Said, status_of}
 use Rattle.mmtel_desk.specs.declared.desks.Desk.{Desk}
@@ -23,9 +23,9 @@ use Rattle.mmtel_call.specs.Reliable.{awaiting_prack, own_for, relayed_reliably}
 use Rattle.mmtel_call.specs.Ringing.{answered, armed_in, cancelled_attempt, failed, left, on_response, proceeded, proceeding, proceeding_by, relayed_if, relayed_plainly, silenced, timed_out, tried}
 use Rattle.mmtel_call.specs.Sending.{relayed_to_caller}
 
--- ---- words
+-- ---- definitions
 
--- the final that was heard, or one of the server's own
+-- the final response that was received, or one of the server's own
 abbrev refused_if : Bool → Site → (at : ℕ) → Leg → Option Service → Said → Cause → Call → Desk → Step
 refused_if same site at caller service m cause c desk =
     if same then over at cause caller.meter None c (relayed_to_caller site c service m desk) else refused site at caller cause c desk
@@ -38,7 +38,7 @@ on_response_if trying provisional success site now x key m code c desk =
     else if success then answered site now.at x key m c desk
     else failed site now x key m code c desk
 
--- what is done with a call does not rest on its phase
+-- what is done with a call does not depend on its phase
 abbrev IsAlike : (Call → Desk → Step) → Phase → Call → Desk → Type 0
 IsAlike f p c desk = f (record c { phase = p }) desk ≡ f c desk
 
@@ -82,7 +82,7 @@ end_alike (EndDivert due) site now caller service m p c desk = divert_alike c.di
 end_alike (EndRefuse cause) site now caller service None p c desk = refl
 end_alike (EndRefuse cause) site now caller service (Some m) p c desk = refused_alike (is_status (status_of m.heard.start) (handed_on cause)) site now.at caller service m cause p c desk
 
--- an attempt ended so
+-- an attempt ended in this way
 pub goes_on_alike : (site : Site) (now : Standing) (x : Trial) (how : End) (m : Option Said) (p : Phase) (c : Call) (desk : Desk) → goes_on site now x how m (record c { phase = p }) desk ≡ goes_on site now x how m c desk
 goes_on_alike site now x how m p c desk =
     end_alike (decided_after c.opening now.at (is_diverted c) x.attempt.service how) site now x.caller x.attempt.service m p (with_past x.callee.leg.meter c) desk
@@ -94,7 +94,7 @@ silenced_if_alike : (rang : Bool) (site : Site) (now : Standing) (x : Trial) (p 
 silenced_if_alike true site now x p c desk rang = absurd (cc)
 silenced_if_alike false site now x p c desk rang = goes_on_alike site now x (NotReachable 408) None p c desk
 
--- silence of a target that did not ring
+-- the timeout of a target that did not ring
 pub silenced_alike : (site : Site) (now : Standing) (x : Trial) (p : Phase) (c : Call) (desk : Desk) → x.attempt.rang ≡ false → silenced site now x (record c { phase = p }) desk ≡ goes_on site now x (NotReachable 408) None c desk
 silenced_alike site now x p c desk rang = silenced_if_alike x.attempt.rang site now x p c desk rang
 

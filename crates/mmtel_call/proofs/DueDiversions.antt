@@ -1,4 +1,4 @@
--- What a diversion that is due comes to: by what refuses it, if anything does.
+-- The result of a diversion that is due: by the cause that refuses it, if there is one.
 use Rattle.std.proofs.Common.{◌≡◌, ◌+◌, ◌-◌, ◌≤◌, ◌<◌, ℕ, zero, suc, Bool, true, false, ap, arith, sym, ◌∙◌}
 use Rattle.std.proofs.lemmas.Bool.Decides.{nat_tests}
 use Rattle.std.specs.Prelude.{if◌then◌else◌, min, nat_lt, Option, Some, None}
@@ -38,7 +38,7 @@ none-left site o at uri (Some sheet) count due e = go (bars_outgoing (of_target 
     go true same = cc
     go false same = let is : Some (too_many due.cause) ≡ None = sym (bound-refuses count due.cause due.bound) ∙ same in cc
 
--- where nothing refuses it, one more is left
+-- where nothing refuses it, at least one more is left
 pub one-left : (left : ℕ) (site : Site) (at : ℕ) (service : Option Service) (due : DueDiversion) (c : Call) → refusal_by left site at service due c ≡ None → left ≡ suc (left - 1)
 one-left zero site at service due c passed = absurd (none-left site c.opening at (new_target site.home due.forward.target) (its_sheet service) c.diversions.count due passed)
 one-left (suc left) site at service due c passed = omega (arith)
@@ -46,14 +46,14 @@ one-left (suc left) site at service due c passed = omega (arith)
 pub some-left : (left : ℕ) (site : Site) (at : ℕ) (service : Option Service) (due : DueDiversion) (c : Call) → refusal_by left site at service due c ≡ None → 0 < left
 some-left left site at service due c passed = omega (arith, one-left left site at service due c passed)
 
--- ---- what it comes to
+-- ---- the result
 
--- it is made and the call comes to its target, where so many are left afterwards
+-- it is made and the call reaches its target, where this many are left afterwards
 abbrev onward_by : (later : ℕ) → Site → Standing → Leg → Option Service → DueDiversion → Call → Desk → Step
 onward_by later site now caller service due =
     made (at_target (divert later site now caller) site now caller (Some due.cause) (target_of site due)) site (target_of site due) now.at later service due
 
--- this refuses it
+-- this cause refuses it
 pub divert-refused : (left : ℕ) (site : Site) (now : Standing) (caller : Leg) (service : Option Service) (due : DueDiversion) (c : Call) (desk : Desk) (cause : Cause) →
     refusal_by left site now.at service due c ≡ Some cause → divert left site now caller service due c desk ≡ refused site now.at caller cause c desk
 unfolding divert
@@ -70,7 +70,7 @@ divert-made left later site now caller service due c desk some passed =
     ap (λ n. divert n site now caller service due c desk) some
     ∙ ap (λ refusal. made_unless refusal (onward_by later site now caller service due) site now.at caller c desk) (ap (λ n. refusal_by n site now.at service due c) (sym some) ∙ passed)
 
--- the call comes to its target, as it is once the diversion was made
+-- the call, as it is after the diversion was made, reaches its target
 pub divert-onward : (left : ℕ) (site : Site) (now : Standing) (caller : Leg) (service : Option Service) (due : DueDiversion) (c : Call) (desk : Desk) (target : Target) (c2 : Call) (desk2 : Desk) →
     refusal_by left site now.at service due c ≡ None → target ≡ target_of site due → c2 ≡ diverted target now.at (left - 1) service due c → desk2 ≡ told_of site due c2 desk →
     at_target (divert c2.diversions.left site now caller) site now caller (Some due.cause) target c2 desk2 ≡ divert left site now caller service due c desk

@@ -1,4 +1,4 @@
--- An answered call: a 2xx waits for its ACK, the call talks, or a side leaves (RFC 3261 §13.3.1.4, §14, §15).
+-- An answered call: a 2xx waits for its ACK, the call is stable, or a side leaves (RFC 3261 §13.3.1.4, §14, §15).
 use Rattle.std.specs.Prelude.{ℕ, ◌==◌, ◌&&◌, Bool, false, if◌then◌else◌, Some, List, map, codes}
 use Rattle.std.specs.Str.{bytes_eq}
 use Rattle.mmtel_answers.specs.Said.{Said}
@@ -32,49 +32,49 @@ with_leg Callee leg x = record x { callee = leg }
 abbrev pub at_stage : Pair → Stage → Call → Call
 at_stage x stage c = record c { phase = Stood x stage }
 
--- the lines of a side's message that the other side is shown
+-- the header fields of a side's message that are copied to the other side
 abbrev pub shown_across : Site → Call → Pair → Side → Said → List Line
 shown_across site c x side m = shown_to site c.opening c.diversions x.service side (leg_of (other_of side) x).dialogue.peer m
 
--- a side is left
+-- BYE to a side
 abbrev pub bye_to : Site → Pair → Side → Desk → Desk
 bye_to site x side desk = bye site.sip (leg_of side x).dialogue desk
 
--- its 2xx is acknowledged by an ACK of the server's own, and it is left
+-- an ACK of the server's own for the 2xx of a side, then BYE to it
 abbrev pub acked_and_left : Site → Pair → Side → Desk → Desk
 acked_and_left site x side desk = bye_to site x side (acked site.sip (leg_of side x).dialogue desk)
 
 -- ---- the ACK of a 2xx
 
--- the ACK of this side that has the number of its INVITE (§13.2.2.4)
+-- whether this is the ACK of that side with the CSeq number of its INVITE (§13.2.2.4)
 abbrev pub acknowledges : Side → Success → Side → Said → Bool
 acknowledges waiting success side m = is_ack_of waiting success.cseq side (number_of m)
 
--- the text of the ACK of the INVITE of this branch is kept, since it goes out again for each repeat of the 2xx
+-- the text of the ACK for the INVITE of this branch is kept, because it is sent again for each retransmission of the 2xx
 abbrev pub with_ack : (branch text : List ℕ) → Taken → Taken
 with_ack branch text t = if bytes_eq t.invitation.branch branch then record t { invitation = record t.invitation { ack = Some text } } else t
 
 abbrev pub keeps_ack : (branch text : List ℕ) → Call → Call
 keeps_ack branch text c = record c { taken = map (with_ack branch text) c.taken }
 
--- ACK to the other side, with its body, and the call talks
+-- ACK to the other side, with its body; the call is stable afterwards
 abbrev pub acked_across : Site → Pair → Side → Success → Said → Call → Desk → Step
 acked_across site x side success m c desk = record {
   call = keeps_ack success.branch (relayed_ack_text site.sip (leg_of (other_of side) x).dialogue (token desk) (shown_across site c x side m) m.heard) (at_stage x Talking c);
   desk = acked_for site.sip (leg_of (other_of side) x).dialogue (shown_across site c x side m) m.heard desk;
 }
 
--- the ACK of the side that a parting call waits for: BYE to it
+-- the ACK of the side for which a departing call waits: BYE to it
 abbrev pub parted : Site → (at : ℕ) → Pair → Side → Call → Desk → Step
 parted site at x side c desk = over_stood at x c (bye_to site x side desk)
 
--- ---- no ACK came
+-- ---- the ACK did not arrive
 
 -- ACK without body and BYE to the other side; BYE to this one
 abbrev pub unacknowledged : Site → (at : ℕ) → Pair → Side → Call → Desk → Step
 unacknowledged site at x side c desk = over_stood at x c (bye_to site x side (acked_and_left site x (other_of side) desk))
 
--- the deadline is that of this 2xx
+-- whether the deadline is that of this 2xx
 abbrev pub is_due : Success → DueWord → Bool
 is_due success (due.NoReply number) = false
 is_due success (due.NoPrack number) = false
@@ -84,12 +84,12 @@ is_due success (due.Expired number) = false
 
 -- ---- BYE
 
--- of a side that owes an ACK: 200; ACK without body and BYE to the other side. Of the other side: 200, and it has left
+-- from a side whose ACK is due: 200; ACK without body and BYE to the other side. From the other side: 200, and it has left
 abbrev pub bye_before_ack : Site → (at : ℕ) → Pair → Side → Success → Side → Call → Desk → Step
 bye_before_ack site at x waiting success side c desk =
     if is_same_side waiting side then over_stood at x c (acked_and_left site x (other_of side) desk)
     else onward (at_stage x (Parting waiting success) c) desk
 
--- of a talking side: 200, and it goes to the other side
+-- from a side of a stable call: 200, and the BYE is relayed to the other side
 abbrev pub bye_across : Site → (at : ℕ) → Pair → Side → Said → Call → Desk → Step
 bye_across site at x side m c desk = over_stood at x c (asked_for site.sip (codes "BYE") (leg_of (other_of side) x).dialogue (shown_across site c x side m) m.heard desk)

@@ -1,4 +1,4 @@
--- What a call waits for once a 2xx was relayed to a side: its ACK (RFC 3261 §13.3.1.4), and the expiry of the session (RFC 4028 §10). Its 2xx are numbered within the call.
+-- What a call waits for after a 2xx was relayed to a side: its ACK (RFC 3261 §13.3.1.4), and the expiry of the session (RFC 4028 §10). These 2xx are numbered within the call.
 use Rattle.std.specs.Prelude.{ℕ, ◌+◌, Bool, if◌then◌else◌, Option, Some, None, List, [], ◌∷◌, ◌++◌}
 use Rattle.mmtel_answers.specs.Said.{Said}
 use Rattle.mmtel_desk.specs.Desks.{emitted}
@@ -19,7 +19,7 @@ next_success c = next_number c.successes
 abbrev pub awaiting_ack : (at : ℕ) → Call → Desk → Desk
 awaiting_ack at c desk = emitted (emit.Arm c.opening.number (due.NoAck (next_success c)) (at + ack_time)) desk
 
--- its session expires, where sessions have timers and it says when (RFC 4028 §10)
+-- the deadline at which its session expires, if sessions have timers and the 2xx has an interval (RFC 4028 §10)
 abbrev pub session_deadline : Option ℕ → (at : ℕ) → CallNo → (number : ℕ) → List Emit
 session_deadline None at call number = []
 session_deadline (Some time) at call number = emit.Arm call (due.Expired number) (at + time) ∷ []

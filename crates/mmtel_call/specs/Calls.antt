@@ -1,4 +1,4 @@
--- What is kept of a call: the structs of the program, in which all that may be private stands in fields of its own.
+-- What is kept of a call: the structs of the program, in which everything that may be private has fields of its own.
 pub use Rattle.mmtel_call_decisions.specs.Diverted.{Diverted}
 pub use Rattle.mmtel_call.specs.Tried.{TriedView}
 pub use Rattle.mmtel_call.specs.declared.calls.Attempt.{Attempt}

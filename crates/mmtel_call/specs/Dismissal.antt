@@ -1,5 +1,5 @@
--- Which signals leave the attempt of an offered call, or end a call that was answered: before all else of such a step what is in flight has its answer (RFC 3262 §3, RFC 3311
--- §5.2).
+-- Which signals end the attempt of an offered call without a 2xx, or end a call that was answered: in such a step each request that is in flight first gets its final response
+-- (RFC 3262 §3, RFC 3311 §5.2).
 use Rattle.std.specs.Prelude.{ℕ, ◌==◌, ◌&&◌, not, nat_lt, Bool, true, false, is_ok}
 use Rattle.mmtel_answers.specs.Said.{Said}
 use Rattle.mmtel_leg.specs.Dialogues.{unless_busy, unless_old}
@@ -18,7 +18,7 @@ use Rattle.mmtel_call.specs.Reinvites.{ends_dialog}
 use Rattle.mmtel_call.specs.Requests.{is_bye}
 use Rattle.mmtel_call.specs.Stages.{is_due_at}
 
--- ---- a response with this status to the INVITE that the call waits on, and silence of it
+-- ---- a response with this status to the INVITE for which the call waits, and its timeout
 
 abbrev pub leaves_on_status_at : Stage → ℕ → Bool
 leaves_on_status_at (Answered waiting success) code = false
@@ -44,9 +44,9 @@ leaves_on_silence (Stood x stage) = leaves_on_silence_at stage
 leaves_on_silence (Lent loan) = false
 leaves_on_silence (Over cause) = false
 
--- ---- a BYE that is heard: of the caller of an offered call; of a side of an answered one, where no side is left to which an ACK, or the BYE, is owed
+-- ---- a BYE that is accepted: of the caller of an offered call; of a side of an answered one, where no side remains to which an ACK, or the BYE, is owed
 
--- a request is not older than the last one that was heard in its dialog (RFC 3261 §12.2.2)
+-- whether a request is not older than the last one that was received in its dialog (RFC 3261 §12.2.2)
 abbrev pub is_in_order : Dialogue → Said → Bool
 is_in_order d m = is_ok (unless_old (number_of m) d.last (unless_busy false in_flight.None))
 
@@ -72,7 +72,7 @@ leaves_on_request (Stood x stage) side m = leaves_by_bye_at stage x side m
 leaves_on_request (Lent loan) side m = false
 leaves_on_request (Over cause) side m = false
 
--- ---- the ACK that a parting call waits for
+-- ---- the ACK for which a departing call waits
 
 abbrev pub leaves_on_ack_at : Stage → Side → Said → Bool
 leaves_on_ack_at (Answered waiting success) side m = false

@@ -11,7 +11,8 @@ use Rattle.mmtel_call.specs.Reinvites.{bye_to_both, loose_across}
 use Rattle.mmtel_call.specs.Ringing.{with_loose}
 use Rattle.mmtel_call.specs.Sending.{replied_to}
 
--- the deadline is that of the session which the last 2xx set, by the number of 2xx that went to a side: one that was set before is superseded, also where the last sets none
+-- whether the deadline is that of the session which the last 2xx set, by the number of 2xx that were relayed to a side: an earlier deadline is superseded, also where the last 2xx
+-- sets none
 abbrev pub is_expiry : (successes : ℕ) → DueWord → Bool
 is_expiry successes (due.NoReply number) = false
 is_expiry successes (due.NoPrack number) = false
@@ -19,11 +20,11 @@ is_expiry successes (due.Cap number) = false
 is_expiry successes (due.NoAck number) = false
 is_expiry successes (due.Expired number) = number == successes
 
--- of a call that talks: BYE to both
+-- of a stable call: BYE to both
 abbrev pub expired : Site → (at : ℕ) → Pair → Call → Desk → Step
 expired site at x c desk = over_stood at x c (bye_to_both site x desk)
 
--- while an INVITE has no answer: 487 to it, BYE to both. The INVITE is loose, and the other side has its BYE, so a late 2xx needs no other
+-- while an INVITE has no final response: 487 to it, BYE to both. The INVITE is abandoned, and the other side has got its BYE, so a late 2xx needs no other
 abbrev pub expired_asking : Site → (at : ℕ) → Pair → (asking : Side) → Reinvite → Call → Desk → Step
 expired_asking site at x asking q c desk =
     over_stood at x (with_loose (loose_across x asking asking q) c) (bye_to_both site x (replied_to site c q.key q.request 487 desk))

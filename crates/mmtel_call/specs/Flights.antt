@@ -1,4 +1,4 @@
--- Requests of a side that were relayed to the other one and wait for its final answer: an INVITE (RFC 3261 §14), and, in flight beside all else, PRACK (RFC 3262 §4) and
+-- Requests of a side that were relayed to the other one and wait for their final response: an INVITE (RFC 3261 §14), and, in flight beside everything else, PRACK (RFC 3262 §4) and
 -- UPDATE (RFC 3311 §5.1).
 use Rattle.std.specs.Prelude.{ℕ, not, nat_lt, Bool, true, false, if◌then◌else◌, Option, Some, None, List, [], ◌∷◌, ◌++◌, slice_get}
 use Rattle.std.specs.List.{filter, find}
@@ -31,19 +31,19 @@ use Rattle.mmtel_call.specs.Sending.{replied_to}
 
 -- ---- a request as it was relayed
 
--- as it was sent in this dialog
+-- the request as it was sent in this dialog
 abbrev pub sent_in : Dialogue → (branch : List ℕ) → Invitation
 sent_in d branch = sent d d.own branch
 
--- the leg stands as it is once it was sent
+-- here the leg is already the one after the request was sent
 abbrev pub reinvite_of : TKey → Said → Leg → Desk → Reinvite
 reinvite_of key m leg desk = record { key = key; request = m; invitation = sent_in leg.dialogue (token desk); cancel_due = false }
 
--- the leg once a request of the method was sent in its dialog
+-- the leg after a request of this method was sent in its dialog
 abbrev pub having_asked : List ℕ → Leg → Leg
 having_asked method leg = with_dialogue leg (after_request leg.dialogue method)
 
--- the hold that an offer of a side asks for
+-- the hold state after an offer of a side with this direction
 abbrev pub held_by : Side → Option Direction → HoldState → HoldState
 held_by side None hold = hold
 held_by side (Some direction) hold = noted hold side direction
@@ -59,7 +59,7 @@ with_flight flight c = record c { flights = c.flights ++ flight ∷ [] }
 abbrev pub without_flight : (place : ℕ) → Call → Call
 without_flight place c = record c { flights = without_at place c.flights }
 
--- it was sent with this branch
+-- whether it was sent with this branch
 abbrev pub is_in_flight : (branch : List ℕ) → Flight → Bool
 is_in_flight branch flight = bytes_eq flight.asked.invitation.branch branch
 
@@ -70,13 +70,13 @@ is_update_of Update = true
 abbrev pub is_updating : Flight → Bool
 is_updating flight = is_update_of flight.kind
 
--- the side whose UPDATE is in flight, of which there is one at most (RFC 3311 §5.2)
+-- the side whose UPDATE is in flight; there is one at most (RFC 3311 §5.2)
 abbrev pub updating : List Flight → Option Side
 updating flights = option_map (λ flight. flight.side) (find is_updating flights)
 
--- ---- the answer comes back
+-- ---- the final response is relayed back
 
--- who is served as the target
+-- the account that is served as the target
 abbrev pub service_in : Phase → Option Service
 service_in (Offered x) = x.attempt.service
 service_in (Stood x stage) = x.service
@@ -88,7 +88,7 @@ relayed_back_to site flight m c desk =
     relayed site.sip flight.asked.key flight.asked.request c.opening.tag
     (shown_to site c.opening c.diversions (service_in c.phase) (other_of flight.side) flight.asked.request.peer m) m desk
 
--- once an UPDATE had a 2xx, its offer stands (RFC 3311 §5.1, TS 24.610 §4.5.2.1), and the session expires as it says (RFC 4028 §7.2)
+-- after a 2xx to an UPDATE its offer is in effect (RFC 3311 §5.1, TS 24.610 §4.5.2.1), and the session expires at the interval of that 2xx (RFC 4028 §7.2)
 abbrev pub updated_by : Side → Said → Call → Call
 updated_by side request c = record c { successes = next_success c; hold = held_by side (direction_told request.heard.body) c.hold }
 
@@ -96,7 +96,7 @@ abbrev pub agreed : FlightKind → Site → (at : ℕ) → Side → (request res
 agreed Prack site at side request response c desk = onward c desk
 agreed Update site at side request response c desk = onward (updated_by side request c) (awaiting_expiry site at response c desk)
 
--- a final comes back to the side that asked, whatever it says of the dialog; a provisional response stays here
+-- a final response is relayed to the side that sent the request, even if it means that the dialog has ended; a provisional response is not relayed
 abbrev pub final_of_flight : Site → (at : ℕ) → Flight → Said → (code : ℕ) → Call → Desk → Step
 final_of_flight site at flight m code c desk =
     if is_success code then agreed flight.kind site at flight.side flight.asked.request m c (relayed_back_to site flight m c desk)
@@ -111,7 +111,7 @@ abbrev pub answered_in_flight : Site → (at : ℕ) → Said → Option ℕ → 
 answered_in_flight site at m None c desk = onward c desk
 answered_in_flight site at m (Some place) c desk = answered_flight site at m (status_of m.heard.start) place (slice_get c.flights place) c desk
 
--- silence is as a 408, of the server's own
+-- a timeout has the same effect as a 408, which here is the server's own
 abbrev pub silent_flight : Site → (place : ℕ) → Option Flight → Call → Desk → Step
 silent_flight site place None c desk = onward c desk
 silent_flight site place (Some flight) c desk = onward (without_flight place c) (replied_to site c flight.asked.key flight.asked.request 408 desk)
@@ -120,7 +120,7 @@ abbrev pub silent_in_flight : Site → Option ℕ → Call → Desk → Step
 silent_in_flight site None c desk = onward c desk
 silent_in_flight site (Some place) c desk = silent_flight site place (slice_get c.flights place) c desk
 
--- ---- an attempt is left, or the call is over: nothing of it is answered any more
+-- ---- an attempt ended without a 2xx, or the call is over: nothing of it gets a response any more
 
 abbrev pub dismissal_of : FlightKind → ℕ
 dismissal_of Prack = 481
@@ -133,12 +133,12 @@ abbrev pub dismissed_each : Site → Call → List Flight → Desk → Desk
 dismissed_each site c [] desk = desk
 dismissed_each site c (flight ∷ flights) desk = dismissed_each site c flights (dismissed_flight site c flight desk)
 
--- the PRACKs, in the order in which they were relayed, and then the UPDATE
+-- first the PRACKs, in the order in which they were relayed, then the UPDATE
 abbrev pub dismissed_all : Site → Call → Desk → Desk
 dismissed_all site c desk =
     dismissed_each site c (filter is_updating c.flights) (dismissed_each site c (filter (λ flight. not (is_updating flight)) c.flights) desk)
 
--- the answers that the caller has not acknowledged are not sent to it any more: those of this number, or all
+-- the reliable responses that the caller has not acknowledged are not retransmitted to it any more: the one of this number, or all
 abbrev pub settled : Site → (own : Option ℕ) → Call → Desk → Desk
 settled site own c desk = if site.reliable then emitted (emit.Settled c.opening.key own) desk else desk
 

@@ -1,4 +1,4 @@
--- A talking call whose leg is taken out of it, for a conference room: the leg is put back, or the call ends (RFC 4579 §5.6, RFC 3891 §3).
+-- A stable call whose leg is detached from it, for a conference: the leg is put back, or the call ends (RFC 4579 §5.6, RFC 3891 §3).
 use Rattle.std.specs.Prelude.{ℕ, Bool, true, false, Option, Some, None}
 use Rattle.mmtel_charging.specs.Meters.{Noted}
 use Rattle.mmtel_desk.specs.Sending.{bye}
@@ -16,12 +16,12 @@ use Rattle.mmtel_call.specs.Calls.{Answered, Asking, Call, Lent, Loan, Offered, 
 use Rattle.mmtel_call.specs.Closing.{Step, onward, over}
 use Rattle.mmtel_call.specs.Flights.{dismissed, dismissing}
 
--- ---- a leg is taken out
+-- ---- a leg is detached
 
 abbrev pub with_meter : Option Noted → Leg → Leg
 with_meter meter leg = record leg { meter = meter }
 
--- it goes without its meter, which stays with the call
+-- the leg without its meter, which stays with the call
 abbrev pub taken_out : Side → Pair → Released
 taken_out Caller x = released.Caller (with_meter None x.caller)
 taken_out Callee x = released.Callee (with_meter None x.callee)
@@ -33,7 +33,7 @@ left_of Callee x = released.Caller x.caller
 abbrev pub loan_of : Side → Pair → Loan
 loan_of side x = record { left = left_of side x; meter = (leg_of side x).meter; service = x.service }
 
--- of a talking call alone
+-- in a stable call alone
 abbrev pub taken_out_at : Stage → Side → Pair → Option Released
 taken_out_at (Answered waiting success) side x = None
 taken_out_at (Parting waiting success) side x = None
@@ -60,7 +60,7 @@ lent_in (Over cause) side c = c
 
 -- ---- it is put back
 
--- it is of the other side than the one that is left, and has no meter
+-- whether it is of the other side than the remaining one, and has no meter
 abbrev pub fits : (away left : Released) → Bool
 fits (released.Caller leg) (released.Caller other) = false
 fits (released.Caller leg) (released.Callee other) = true
@@ -85,7 +85,7 @@ put_back_in (Over cause) away c = c
 
 -- ---- the call ends without it
 
--- the meters of the caller's leg and of the target's
+-- the meter of the caller's leg, and that of the target's
 abbrev pub first_of : Released → Option Noted → Option Noted
 first_of (released.Caller leg) meter = leg.meter
 first_of (released.Callee leg) meter = meter
@@ -94,7 +94,7 @@ abbrev pub last_of : Released → Option Noted → Option Noted
 last_of (released.Caller leg) meter = meter
 last_of (released.Callee leg) meter = leg.meter
 
--- what is in flight has its answer first (RFC 3262 §3, RFC 3311 §5.2); then BYE to the leg that is left, and the rows
+-- requests in flight first get their final responses (RFC 3262 §3, RFC 3311 §5.2); then BYE to the remaining leg, and the CDRs
 abbrev pub finished_by : Site → (at : ℕ) → Loan → Call → Desk → Step
 finished_by site at loan c desk = over at Ended (first_of loan.left loan.meter) (last_of loan.left loan.meter) c (bye site.sip (released_leg loan.left).dialogue desk)
 

@@ -1,4 +1,4 @@
--- What public clauses cite: a call and what it is given, how it opens, and its step table.
+-- What public clauses cite: a call and the input of its steps, how it opens, and its step table.
 pub mod Tried
 pub mod Calls
 pub mod Sending

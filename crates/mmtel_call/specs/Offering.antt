@@ -1,4 +1,4 @@
--- How a call is offered to a target: the INVITE that opened it goes there, and the longest time that it may ring begins (RFC 3261 §16.6, TS 24.604 §4.5.2.6).
+-- How a call is offered to a target: the INVITE that opened it is sent there, and the longest time that it may ring starts (RFC 3261 §16.6, TS 24.604 §4.5.2.6).
 use Rattle.std.specs.Prelude.{ℕ, ◌+◌, Bool, false, Option}
 use Rattle.mmtel_answers.specs.Attempts.{called}
 use Rattle.mmtel_answers.specs.declared.attempts.Aim.{Aim}
@@ -30,7 +30,7 @@ next_attempt c = next_number c.attempts
 abbrev pub dialog_of : Opening → Aim → Desk → Dialogue
 dialog_of o aim desk = attempt_dialog aim o.invite.heard o.restricted desk
 
--- the INVITE goes out, with what the target is shown of the one that opened the call, and the longest time begins
+-- the INVITE is sent, with what is copied to the target from the INVITE that opened the call, and the longest time starts
 abbrev pub sent_to : Site → (at : ℕ) → Option Service → (waiting : Bool) → Aim → Call → Desk → Desk
 sent_to site at service waiting aim c desk =
     emitted (emit.Arm c.opening.number (due.Cap (next_attempt c)) (at + longest_time))
@@ -51,7 +51,7 @@ attempt_of service aim c desk = record {
   invitation = sent (dialog_of c.opening aim desk) 1 (token (drew (drew desk)));
 }
 
--- the call is offered, as waiting or not
+-- the call is offered, as a waiting call or not
 abbrev pub offer : Site → (at : ℕ) → Leg → Option Service → (waiting : Bool) → Aim → Call → Desk → Step
 offer site at caller service waiting aim c desk = record {
   call = record c { attempts = next_attempt c; acks = Acks.next_attempt c.acks; phase = Offered (record { caller = caller; callee = callee_of at service aim c desk; attempt = attempt_of service aim c desk }) };

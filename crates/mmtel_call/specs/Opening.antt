@@ -1,4 +1,4 @@
--- How a call opens: its caller has a 100, and it comes to its first target or is refused (RFC 3261 §12.1.1, RFC 3323 §4.2, RFC 5502 §4, TS 24.611 §4.5.2).
+-- How a call opens: 100 is sent to its caller, and it reaches its first target or is refused (RFC 3261 §12.1.1, RFC 3323 §4.2, RFC 5502 §4, TS 24.611 §4.5.2).
 use Rattle.std.specs.Prelude.{ℕ, Option, Some, None, []}
 use Rattle.std.specs.Option.{unwrap_or}
 use Rattle.mmtel_answers.specs.Said.{number_of}
@@ -38,7 +38,7 @@ new_call site o = record {
   phase = Over Ended;
 }
 
--- the caller's leg stands from the opening on, with the meter of the account that is served as the caller
+-- the caller's leg is confirmed from the opening on; it has the meter of the account that is served as the caller
 abbrev pub caller_of : (at : ℕ) → Call → Leg
 caller_of at c = record {
   dialogue = opened_dialog c.opening.invite.peer c.opening.invite.heard.lines c.opening.tag;
@@ -49,7 +49,7 @@ abbrev pub unless_refused : Option Cause → Site → Standing → Leg → Call 
 unless_refused None site now caller c desk = reach site now caller None (first_of c.opening) c desk
 unless_refused (Some cause) site now caller c desk = refused site now.at caller cause c desk
 
--- an INVITE opens a call: 100; a 181 for each diversion that is made; the INVITE to the target, or the final
+-- an INVITE opens a call: 100; a 181 for each diversion that is made; the INVITE to the target, or the final response
 abbrev pub begins : Site → Standing → Call → Desk → Step
 begins site now c desk = unless_refused (refusal_of site now.at c.opening) site now (caller_of now.at c) c (told_caller site c 100 desk)
 

@@ -1,4 +1,4 @@
--- What an answered call does on each signal, by its stage.
+-- The transitions of an answered call on each signal, by its stage.
 use Rattle.std.specs.Prelude.{ℕ, ◌==◌, not, Bool, false, if◌then◌else◌, Result, Ok, Err}
 use Rattle.mmtel_answers.specs.Said.{Said, status_of}
 use Rattle.mmtel_desk.specs.declared.desks.Desk.{Desk}
@@ -22,28 +22,29 @@ use Rattle.mmtel_call.specs.Updates.{on_update_at}
 
 -- ---- requests
 
--- an INVITE of either side while an ACK is due or the server's own INVITE is in flight, and one of the side whose INVITE has no answer (§14.2)
+-- which INVITE is pending when a side sends one: the server's own, while an ACK is due or its INVITE to that side is in flight, or that of the side itself, while it has no final
+-- response (§14.2)
 abbrev pub busy_in : Stage → Side → InFlight
 busy_in (Answered waiting success) side = in_flight.Own
 busy_in (Parting waiting success) side = in_flight.Own
 busy_in Talking side = in_flight.None
 busy_in (Asking asking q) side = if is_same_side asking side then in_flight.Theirs else in_flight.Own
 
--- an INVITE that is heard is one of a talking call
+-- an INVITE is accepted in a stable call alone
 abbrev pub on_invite : Stage → Site → Pair → Side → TKey → Said → Call → Desk → Step
 on_invite (Answered waiting success) site x side key m c desk = onward c desk
 on_invite (Parting waiting success) site x side key m c desk = onward c desk
 on_invite Talking site x side key m c desk = invited site x side key m c desk
 on_invite (Asking asking q) site x side key m c desk = onward c desk
 
--- the BYE of a side was answered 200
+-- the BYE of a side got its 200
 abbrev pub left_by : Stage → Site → (at : ℕ) → Pair → Side → Said → Call → Desk → Step
 left_by (Answered waiting success) site at x side m c desk = bye_before_ack site at x waiting success side c desk
 left_by (Parting waiting success) site at x side m c desk = over_stood at x c desk
 left_by Talking site at x side m c desk = bye_across site at x side m c desk
 left_by (Asking asking q) site at x side m c desk = bye_while_asking site at x asking q side c desk
 
--- a parting call ends with the side that is left; the other one has no dialog any more
+-- a departing call ends with the side that remains; the other one has no dialog any more
 abbrev pub has_left : Stage → Side → Bool
 has_left (Answered waiting success) side = false
 has_left (Parting waiting success) side = not (is_same_side waiting side)
@@ -54,7 +55,7 @@ abbrev pub on_bye : Stage → Site → (at : ℕ) → Pair → Side → TKey →
 on_bye stage site at x side key m c desk =
     if has_left stage side then onward c (replied_to site c key m 481 desk) else left_by stage site at x side m c (replied_to site c key m 200 desk)
 
--- a PRACK, which acknowledges nothing here, and what has no row
+-- a PRACK, which acknowledges nothing here, and requests for which there is no transition
 abbrev pub on_other_at : Site → TKey → Said → Call → Desk → Step
 on_other_at site key m c desk = if is_prack m then prack_refused site key m c desk else onward c (unlisted site c key m desk)
 
@@ -75,7 +76,7 @@ on_request_at stage site at x side key m c desk = on_request_at_if (says (leg_of
 
 -- ---- ACK
 
--- it is that of the 2xx which waits for it
+-- whether it is the ACK of the 2xx that waits for it
 abbrev pub is_ack_at : Stage → Side → Said → Bool
 is_ack_at (Answered waiting success) side m = acknowledges waiting success side m
 is_ack_at (Parting waiting success) side m = acknowledges waiting success side m
@@ -91,7 +92,7 @@ acked_at (Asking asking q) site at x side m c desk = onward c desk
 abbrev pub on_ack_at : Stage → Site → (at : ℕ) → Pair → Side → Said → Call → Desk → Step
 on_ack_at stage site at x side m c desk = if is_ack_at stage side m then acked_at stage site at x side m c desk else onward c desk
 
--- ---- CANCEL: one of an INVITE that has its final has its 200 alone
+-- ---- CANCEL: a CANCEL of an INVITE that has its final response only gets its 200
 
 abbrev pub on_cancel_at : Stage → Site → Pair → (invite : TKey) → Call → Desk → Step
 on_cancel_at (Answered waiting success) site x invite c desk = onward c desk
@@ -99,7 +100,7 @@ on_cancel_at (Parting waiting success) site x invite c desk = onward c desk
 on_cancel_at Talking site x invite c desk = onward c desk
 on_cancel_at (Asking asking q) site x invite c desk = if invite.0 == q.key.0 then cancelled_across site x asking q c desk else onward c desk
 
--- ---- responses and silence of the INVITE that was relayed
+-- ---- responses to the INVITE that was relayed, and its timeout
 
 abbrev pub on_response_at : Stage → Site → (at : ℕ) → Pair → TKey → Said → Call → Desk → Step
 on_response_at (Answered waiting success) site at x key m c desk = onward c desk
@@ -115,7 +116,7 @@ on_silence_at (Asking asking q) site at x c desk = silenced_across site at x q c
 
 -- ---- deadlines
 
--- the deadline is that of the 2xx which waits for its ACK, or else the expiry of the session, by the number of 2xx that went to a side
+-- whether the deadline is that of the 2xx which waits for its ACK, or the expiry of the session, by the number of 2xx that were relayed to a side
 abbrev pub is_due_at : Stage → (successes : ℕ) → DueWord → Bool
 is_due_at (Answered waiting success) successes what = is_due success what
 is_due_at (Parting waiting success) successes what = is_due success what

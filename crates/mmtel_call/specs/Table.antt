@@ -1,4 +1,4 @@
--- The step table of a call: what it does on each signal, by its phase (RFC 3261 §12 to §15, TS 24.604 §4.5.2.6). How it opens is said by Opening.
+-- The step table of a call: its transition on each signal, by its phase (RFC 3261 §12 to §15, TS 24.604 §4.5.2.6). How a call opens is defined in Opening.
 use Rattle.std.specs.Prelude.{ℕ, ◌&&◌, Bool, false, if◌then◌else◌, Option, Some, None, List}
 use Rattle.std.specs.Str.{bytes_eq}
 use Rattle.mmtel_answers.specs.Said.{Said, status_of}
@@ -21,7 +21,7 @@ use Rattle.mmtel_call.specs.Stages.{on_ack_at, on_cancel_at, on_due_at, on_reque
 use Rattle.mmtel_call.specs.declared.signals.Signal.{Signal}
 use Rattle.mmtel_call.specs.declared.signals.Signal.TheVariants as signal
 
--- ---- the INVITE that the call waits on
+-- ---- the INVITE for which the call waits
 
 abbrev pub current_at : Stage → Option Invitation
 current_at (Answered side success) = None
@@ -42,7 +42,7 @@ is_branch branch (Some i) = bytes_eq i.branch branch
 abbrev pub is_current : List ℕ → Call → Bool
 is_current branch c = is_branch branch (current c.phase)
 
--- ---- by phase; a call that is over answers nobody, and one whose leg is away hears nothing
+-- ---- by phase; a call that is over sends no response, and one whose leg is detached processes no signal
 
 abbrev pub response_in : Phase → Site → Standing → TKey → Said → Call → Desk → Step
 response_in (Offered x) site now key m c desk = on_response site now x key m (status_of m.heard.start) c desk
@@ -82,7 +82,7 @@ due_in (Over cause) site now what c desk = onward c desk
 
 -- ---- the table
 
--- a response: of the INVITE that the call waits on, or of another one
+-- a response: to the INVITE for which the call waits, or to another request
 abbrev pub answer_to : Option (List ℕ) → Site → Standing → TKey → Said → Call → Desk → Step
 answer_to None site now key m c desk = onward c desk
 answer_to (Some branch) site now key m c desk = if is_current branch c then response_in c.phase site now key m c desk else answered_other site now.at key m branch c desk
@@ -100,7 +100,7 @@ row site now (signal.Silent branch method) c desk = silence_of (invite_silent br
 row site now (signal.Due what) c desk = due_in c.phase site now what c desk
 row site now (signal.Ended key) c desk = onward (without_key key c) desk
 
--- ---- a step that leaves the attempt or ends the call answers first what is in flight
+-- ---- in a step that ends the attempt without a 2xx, or ends the call, requests in flight get their final responses first
 
 abbrev pub leaves_on_response : Option (List ℕ) → Said → Call → Bool
 leaves_on_response None m c = false

@@ -1,4 +1,4 @@
--- The leg of an attempt that has no final answer: what is known of it, and whether a response made an early dialog (RFC 3261 §12.1).
+-- The leg of an attempt that has no final response: what is known of it, and whether a response established an early dialog (RFC 3261 §12.1).
 use Rattle.std.specs.Prelude.{Bool, true, false}
 use Rattle.mmtel_leg.specs.Legs.{Leg}
 use Rattle.mmtel_call.specs.declared.calls.TriedLeg.{TriedLeg}

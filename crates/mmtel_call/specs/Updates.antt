@@ -1,4 +1,4 @@
--- UPDATE of either side (RFC 3311): it goes to the other side while the call rings in an early dialog, and while it talks; one at a time.
+-- UPDATE of either side (RFC 3311): it is relayed to the other side while the call rings in an early dialog, and while it is stable; one at a time.
 use Rattle.std.specs.Prelude.{◌&&◌, Bool, if◌then◌else◌, Option, Some, None, codes}
 use Rattle.mmtel_answers.specs.Answers.{retry_after}
 use Rattle.mmtel_answers.specs.Said.{Said}
@@ -20,22 +20,22 @@ use Rattle.mmtel_call.specs.Reliable.{having_asked_early}
 use Rattle.mmtel_call.specs.Requests.{answered_to}
 use Rattle.mmtel_call.specs.Sending.{replied_to}
 
--- ---- answers of the server's own (§5.2)
+-- ---- responses of the server's own (§5.2)
 
--- it may be sent again later
+-- the UPDATE may be repeated later
 abbrev pub later : Site → TKey → Said → Call → Desk → Step
 later site key m c desk = onward c (answered_to site c key m 500 retry_after desk)
 
--- it crosses what the other side, or the server, has under way
+-- it crosses a request that the other side, or the server, has pending
 abbrev pub crossing : Site → TKey → Said → Call → Desk → Step
 crossing site key m c desk = onward c (replied_to site c key m 491 desk)
 
--- while one is in flight: of the side that sent it, and of the other one
+-- while one is in flight: an UPDATE of the side that sent it, and one of the other side
 abbrev pub unless_updating : Option Side → (across : Call → Desk → Step) → Site → Side → TKey → Said → Call → Desk → Step
 unless_updating None across site side key m c desk = across c desk
 unless_updating (Some other) across site side key m c desk = if is_same_side other side then later site key m c desk else crossing site key m c desk
 
--- ---- it goes to the other side
+-- ---- it is relayed to the other side
 
 abbrev pub asked_on : Site → Option Service → Side → Leg → TKey → Said → Call → Desk → Step
 asked_on site service side leg key m c desk = record {
@@ -55,7 +55,7 @@ having_updated Callee x = record x { caller = having_asked (codes "UPDATE") x.ca
 abbrev pub updated_early : Site → Trial → Side → TKey → Said → Call → Desk → Step
 updated_early site x side key m c desk = asked_on site x.attempt.service side (other_leg side x) key m (record c { phase = Offered (having_updated side x) }) desk
 
--- of a talking one
+-- of a stable one
 abbrev pub updated_across : Site → Pair → Side → TKey → Said → Call → Desk → Step
 updated_across site x side key m c desk =
     asked_on site x.service side (leg_of (other_of side) x) key m
@@ -63,7 +63,7 @@ updated_across site x side key m c desk =
 
 -- ---- by phase
 
--- it rings, and the target has an early dialog
+-- whether it rings, and the target has an early dialog
 abbrev pub takes_updates : Trial → Bool
 takes_updates x = x.attempt.rang && x.callee.is_early
 

@@ -1,4 +1,4 @@
-//! A 2xx of an INVITE within an answered call: it goes back to the side that asked.
+//! A 2xx to an INVITE within an answered call: it is relayed to the side that sent the INVITE.
 ghost use Rattle.std.specs.Prelude.{◌≡◌, ◌∷◌, ◌++◌, [], IfOk, OnOk};
 ghost use Rattle.mmtel_sdp.specs.Offers.{direction_told};
 ghost use Rattle.mmtel_types.specs.declared.causes.Cause.TheVariants.{Ended as HasEnded};
@@ -20,7 +20,7 @@ use mmtel_types::Side;
 use mmtel_waiting::HoldState;
 use std::alloc::Global;
 
-/// The hold that an offer of a side asks for.
+/// The hold state after an offer of a side with this direction.
 pub fn held_by(side: Side, direction: Option<Direction>, hold: HoldState) -> HoldState
     ensures { result ≡ held_by side direction hold }
 {
@@ -33,7 +33,7 @@ pub fn held_by(side: Side, direction: Option<Direction>, hold: HoldState) -> Hol
 }
 
 impl Call {
-    /// A response goes back to the side that asked.
+    /// Relays a response to the side that sent the INVITE.
     pub fn relay_back(
         &self,
         step: &Step<'_>,
@@ -73,7 +73,7 @@ impl Call {
         relayed
     }
 
-    /// What goes out on a 2xx of the other side; its tag, the direction of the offer, and what waits for the ACK.
+    /// Sends the response that is due on a 2xx of the other side, and arms its deadlines. Returns its tag, the direction of the offer, and the record that waits for the ACK.
     fn pass_agreement(
         &self,
         step: &Step<'_>,
@@ -106,7 +106,7 @@ impl Call {
         }
     }
 
-    /// The INVITE of a side was answered: the call waits for its ACK.
+    /// Records that the INVITE of a side was answered: the call waits for its ACK.
     fn note_agreement(
         &mut self,
         alloc: Global,
@@ -127,7 +127,7 @@ impl Call {
         file(alloc, &mut self.taken, taken)
     }
 
-    /// The same, and where the call stands then.
+    /// The same, and sets the phase of the call afterwards.
     fn agree(
         &mut self,
         alloc: Global,

@@ -1,4 +1,4 @@
-//! An answered call: a 2xx waits for its ACK, the call talks, or a side leaves.
+//! An answered call: a 2xx waits for its ACK, the call is stable, or a side leaves.
 ghost use Rattle.std.specs.Prelude.{◌≡◌, IfOk, OnOk, Some, codes, map};
 ghost use Rattle.mmtel_desk.specs.Desks.{token};
 ghost use Rattle.mmtel_desk.specs.Sending.{acked, acked_for, asked_for, relayed_ack_text};
@@ -23,7 +23,7 @@ use mmtel_types::{Cause, Peer, Side};
 use std::alloc::Global;
 use std::mem;
 
-/// Whether an ACK of this side is that of the 2xx.
+/// Whether an ACK of this side belongs to the 2xx.
 pub fn acknowledges(waiting: Side, success: &Success, side: Side, m: &Hearing) -> bool
     ensures { result ≡ acknowledges waiting success.now side m.now }
 {
@@ -56,7 +56,7 @@ impl Pair {
         }
     }
 
-    /// Leaves a side by a BYE of the server's own.
+    /// Sends a BYE of the server's own to a side.
     pub fn bye_to(&mut self, step: &Step<'_>, side: Side, desk: &mut Desk) -> Result<(), NoMemory>
         ensures done { OnOk result (desk.new ≡ bye_to step.now.setting.now self.old side desk.old) }
         ensures other { leg_of (other_of side) self.new ≡ leg_of (other_of side) self.old }
@@ -79,7 +79,7 @@ impl Pair {
         }
     }
 
-    /// Acknowledges the 2xx of a side, and leaves it.
+    /// Acknowledges the 2xx of a side, and sends a BYE to it.
     fn acknowledge_and_leave(
         &mut self,
         step: &Step<'_>,
@@ -95,7 +95,7 @@ impl Pair {
         self.bye_to(step, side, desk)
     }
 
-    /// Sends a side the request of the other one, with these lines of it. Gives its branch.
+    /// Sends to a side the request of the other one, with these header fields. Returns its branch.
     pub fn ask_for(
         &mut self,
         step: &Step<'_>,
@@ -132,7 +132,7 @@ impl Pair {
         }
     }
 
-    /// Sends a side the ACK of the other one, with these lines of it. Gives its text.
+    /// Sends to a side the ACK of the other one, with these header fields. Returns its text.
     fn acknowledge_for(
         &self,
         step: &Step<'_>,
@@ -155,7 +155,7 @@ impl Pair {
 }
 
 impl Taken {
-    /// Keeps the text of an ACK, where the INVITE is of this branch.
+    /// Keeps the text of an ACK, if the INVITE has this branch.
     fn keep_ack(&mut self, alloc: Global, branch: &[u8], text: &Text) -> Result<(), NoMemory>
         ensures { OnOk result (self.new ≡ with_ack branch.now text.now self.old) }
     {
@@ -203,7 +203,7 @@ fn with_acks(
 }
 
 impl Call {
-    /// The lines of a side's message that the other side is shown.
+    /// The header fields of a side's message that are copied to the other side.
     pub fn shown_across(
         &self,
         step: &Step<'_>,
@@ -227,7 +227,7 @@ impl Call {
         )
     }
 
-    /// The call is over, and both legs leave.
+    /// Ends the call; both legs leave.
     pub fn end_pair(&mut self, step: &Step<'_>, x: Pair, desk: &mut Desk) -> Result<(), NoMemory>
         requires { self.old.phase ≡ Over HasEnded }
         ensures call { OnOk result (self.new ≡ (over_stood step.now.present.at x self.old desk.old).call) }
@@ -244,7 +244,7 @@ impl Call {
         self.close(step.alloc, step.present.at, Cause::Ended, first, last, desk)
     }
 
-    /// No ACK came: ACK without body and BYE to the other side; BYE to this one.
+    /// The ACK did not arrive: ACK without body and BYE to the other side; BYE to this one.
     pub fn end_unacknowledged(
         &mut self,
         step: &Step<'_>,
@@ -267,7 +267,7 @@ impl Call {
         closed
     }
 
-    /// A parting call ends with the side that it waited for: BYE to it.
+    /// A departing call ends with the side for which it waited: BYE to it.
     pub fn part(
         &mut self,
         step: &Step<'_>,
@@ -288,7 +288,7 @@ impl Call {
         closed
     }
 
-    /// A side that owes an ACK leaves: ACK without body and BYE to the other side.
+    /// A side whose ACK is due leaves: ACK without body and BYE to the other side.
     fn end_before_ack(
         &mut self,
         step: &Step<'_>,
@@ -334,7 +334,7 @@ impl Call {
         Ok(())
     }
 
-    /// What goes out where a talking side leaves: its BYE, to the other side.
+    /// Relays the BYE of a side of a stable call to the other side.
     fn pass_bye(
         &self,
         step: &Step<'_>,
@@ -361,7 +361,7 @@ impl Call {
         }
     }
 
-    /// A talking side leaves, and the call is over.
+    /// A side of a stable call leaves, and the call is over.
     pub fn bye_across(
         &mut self,
         step: &Step<'_>,
@@ -383,7 +383,7 @@ impl Call {
         closed
     }
 
-    /// The text of the ACK of the INVITE of this branch is kept.
+    /// Keeps the text of the ACK for the INVITE of this branch.
     fn keep_ack(&mut self, alloc: Global, branch: &[u8], text: &Text) -> Result<(), NoMemory>
         ensures done { OnOk result (self.new ≡ keeps_ack branch.now text.now self.old) }
         ensures phase { self.new.phase ≡ self.old.phase }
@@ -394,7 +394,7 @@ impl Call {
         Ok(())
     }
 
-    /// What goes out where the ACK of a side comes: its ACK, to the other side. Gives its text.
+    /// Relays the ACK of a side to the other side. Returns its text.
     fn pass_ack(
         &self,
         step: &Step<'_>,
@@ -416,7 +416,7 @@ impl Call {
         acked
     }
 
-    /// The ACK of the 2xx came, and the call talks.
+    /// The ACK of the 2xx arrived, and the call is stable.
     pub fn acknowledge_across(
         &mut self,
         step: &Step<'_>,

@@ -1,4 +1,4 @@
-//! What an attempt is once it proceeds, is answered or left: its INVITE, its times and its end.
+//! An attempt after a provisional response, an answer or its end: its INVITE, its times and its end.
 ghost use Rattle.std.specs.Prelude.{◌≡◌, ◌∷◌, ◌++◌, [], false, true, None, Some, IfOk, OnErr, OnOk};
 ghost use Rattle.mmtel_desk.specs.Invitations.{has_said, once_cancelled};
 ghost use Rattle.mmtel_leg.specs.Dialogues.{met};
@@ -28,7 +28,7 @@ use mmtel_transaction::{DueWord, Emit, TKey};
 use mmtel_types::Side;
 use std::alloc::Global;
 
-/// An INVITE of which this response came by this client transaction.
+/// An INVITE after a response to it in this client transaction.
 pub fn has_said(key: TKey, invitation: Invitation) -> Invitation
     ensures { result ≡ has_said key invitation }
 {
@@ -39,7 +39,7 @@ pub fn has_said(key: TKey, invitation: Invitation) -> Invitation
     }
 }
 
-/// The INVITE that had a 2xx with this tag.
+/// An INVITE after a 2xx with this tag.
 pub fn taken_by(key: TKey, tag: Text, within: bool, invitation: Invitation) -> Taken
     ensures { result ≡ record { invitation = has_said key invitation; tag = tag; within = within } }
 {
@@ -51,7 +51,7 @@ pub fn taken_by(key: TKey, tag: Text, within: bool, invitation: Invitation) -> T
 }
 
 impl Attempt {
-    /// The attempt once a provisional response of this status came by this client transaction, which made this early dialog or none.
+    /// The attempt after a provisional response of this status in this client transaction, which established this early dialog or none.
     fn proceed(self, key: TKey, code: u16, early: Option<Remote>) -> Attempt
         ensures { result ≡ ringing code (having_met early (noted key self)) }
     {
@@ -89,7 +89,7 @@ impl Attempt {
 }
 
 impl Trial {
-    /// What a provisional response says of the target, where it makes the early dialog: for its leg, and for its INVITE.
+    /// The remote side in a provisional response, if that response establishes the early dialog: one copy for its leg, one for its INVITE.
     fn early_said(
         &self,
         alloc: Global,
@@ -110,7 +110,7 @@ impl Trial {
 }
 
 impl Call {
-    /// Keeps an INVITE that is left, which was sent in a dialog that stood or not.
+    /// Keeps an abandoned INVITE, which was sent within a confirmed dialog or not.
     pub fn loosen(
         &mut self,
         alloc: Global,
@@ -124,14 +124,14 @@ impl Call {
         file(alloc, &mut self.loose, Loose { invitation, within })
     }
 
-    /// The number of the next 2xx that goes to a side.
+    /// The number of the next 2xx that is relayed to a side.
     fn next_success(&self) -> u64
         ensures { result ≡ next_success self.now }
     {
         self.successes.saturating_add(1)
     }
 
-    /// Arms the time for which that 2xx waits for its ACK.
+    /// Arms the deadline until which that 2xx waits for its ACK.
     pub fn await_ack(&self, step: &Step<'_>, desk: &mut Desk) -> Result<(), NoMemory>
         ensures { OnOk result (desk.new ≡ awaiting_ack step.now.present.at self.now desk.old) }
     {
@@ -145,7 +145,7 @@ impl Call {
         )
     }
 
-    /// Arms the expiry of the session of that 2xx, where sessions have timers and it says when (RFC 4028 §10).
+    /// Arms the expiry of the session of that 2xx, if sessions have timers and the 2xx has an interval (RFC 4028 §10).
     pub fn await_expiry(
         &self,
         step: &Step<'_>,
@@ -172,7 +172,7 @@ impl Call {
         }
     }
 
-    /// What waits for the ACK of this INVITE, whose 2xx relays that of the INVITE of the other side.
+    /// The record that waits for the ACK of this INVITE; its 2xx relays that of the INVITE to the other side.
     pub fn success_of(
         &self,
         alloc: Global,
@@ -190,7 +190,7 @@ impl Call {
         })
     }
 
-    /// Arms the no-reply time, where it begins with this response.
+    /// Arms the no-reply time, if it starts with this response.
     fn arm(
         &self,
         step: &Step<'_>,
@@ -216,7 +216,7 @@ impl Call {
         }
     }
 
-    /// A 100 of the target.
+    /// Processes a 100 of the target.
     pub fn hear_trying(&mut self, x: Trial, key: TKey)
         requires { self.old.phase ≡ Over HasEnded }
         ensures { self.new ≡ record self.old { phase = Offered (record x { attempt = noted key x.attempt }) } }
@@ -233,7 +233,7 @@ impl Call {
         }));
     }
 
-    /// What goes out on a provisional response but 100 that is no reliable answer, and what it says of the target: for its leg, and for its INVITE.
+    /// Relays a provisional response other than 100 that is not reliable, and arms its deadline. Returns its remote side: one copy for the leg, one for the INVITE.
     fn pass_proceeding(
         &self,
         step: &Step<'_>,
@@ -254,7 +254,7 @@ impl Call {
         x.early_said(step.alloc, m)
     }
 
-    /// The same of a reliable answer, which is relayed under this number.
+    /// The same for a reliable response, which is relayed under this number.
     fn pass_reliably(
         &self,
         step: &Step<'_>,
@@ -277,7 +277,7 @@ impl Call {
         x.early_said(step.alloc, m)
     }
 
-    /// The call is offered as before, once a provisional response of this status came that said this of the target.
+    /// The call is offered as before, after a provisional response of this status with this remote side.
     fn proceed(
         &mut self,
         x: Trial,
@@ -308,7 +308,7 @@ impl Call {
         }));
     }
 
-    /// A provisional response of the target but 100 that is no reliable answer.
+    /// Processes a provisional response of the target other than 100 that is not reliable.
     fn hear_plainly(
         &mut self,
         step: &Step<'_>,
@@ -336,7 +336,7 @@ impl Call {
         }
     }
 
-    /// A reliable answer of the target that is relayed under this number.
+    /// Processes a reliable response of the target that is relayed under this number.
     fn hear_numbered(
         &mut self,
         step: &Step<'_>,
@@ -366,7 +366,7 @@ impl Call {
         }
     }
 
-    /// A reliable answer of the target, which has this number. One that is not relayed is as a 100.
+    /// Processes a reliable response of the target, which has this RSeq number. One that is not relayed is treated as a 100.
     fn hear_reliably(
         &mut self,
         step: &Step<'_>,
@@ -398,7 +398,7 @@ impl Call {
         }
     }
 
-    /// A provisional response of the target but 100.
+    /// Processes a provisional response of the target other than 100.
     pub fn hear_proceeding(
         &mut self,
         step: &Step<'_>,
@@ -425,7 +425,7 @@ impl Call {
         }
     }
 
-    /// What goes out on a 2xx of the target, what it says of itself, and what waits for the caller's ACK.
+    /// Relays a 2xx of the target, and arms its deadlines. Returns its remote side and tag, and the record that waits for the caller's ACK.
     fn pass_answer(
         &self,
         step: &Step<'_>,
@@ -453,7 +453,7 @@ impl Call {
         }
     }
 
-    /// The call was answered: it waits for the caller's ACK.
+    /// Records that the call was answered: it waits for the caller's ACK.
     fn note_answer(&mut self, step: &Step<'_>, taken: Taken) -> Result<(), NoMemory>
         ensures done { OnOk result (self.new
             ≡ record self.old {
@@ -468,7 +468,7 @@ impl Call {
         file(step.alloc, &mut self.taken, taken)
     }
 
-    /// A 2xx of the target.
+    /// Processes a 2xx of the target.
     pub fn hear_answer(
         &mut self,
         step: &Step<'_>,
@@ -493,7 +493,7 @@ impl Call {
         }
     }
 
-    /// The call stands with what the target says of itself.
+    /// The call is answered: its dialog with the target is confirmed, with the remote side in the 2xx.
     fn stand(
         &mut self,
         step: &Step<'_>,
@@ -538,7 +538,7 @@ impl Call {
         noted
     }
 
-    /// The INVITE of an attempt that is left is loose, once it was cancelled where that is due.
+    /// Keeps the INVITE of an abandoned attempt among the abandoned INVITEs, as a cancelled one where a CANCEL is due.
     pub fn leave_attempt(&mut self, alloc: Global, invitation: Invitation) -> Result<(), NoMemory>
         ensures done { OnOk result (self.new ≡ with_loose (loose (once_cancelled invitation)) self.old) }
         ensures refused { OnErr result (self.new ≡ self.old) }

@@ -1,5 +1,5 @@
-//! What is kept of a call. What is private stands in places of its own: in the lines, the History-Info and the redirect of a message that was heard,
-//! in the identities of the caller, in the list of the diversions, and in remote and target of a dialog. All else is public.
+//! What is kept of a call. Everything private has fields of its own: the header fields, the History-Info and the redirect of a received message, the identities of the caller, the
+//! list of the diversions, and remote and target of a dialog. Everything else is public.
 
 use mmtel_answers::Hearing;
 use mmtel_call_decisions::{Diversions, Opening, Service};
@@ -18,23 +18,23 @@ use std::marker::Model;
 pub struct Attempt {
     /// Its number in the call, from 1.
     pub number: u64,
-    /// Who is served there; None where nobody is.
+    /// The account that is served there; None if none is.
     pub service: Option<Service>,
-    /// A 180 to 183 was relayed.
+    /// Whether a 180 to 183 was relayed.
     pub rang: bool,
     /// Its INVITE.
     pub invitation: Invitation,
 }
 
-/// The leg of an attempt that has no final answer. It must be spent.
+/// The leg of an attempt that has no final response. It must be spent.
 pub enum TriedLeg {
-    /// No response made an early dialog.
+    /// No response established an early dialog.
     Asked(CalleeLeg<Asked>),
-    /// One did (RFC 3261 §12.1).
+    /// A response established one (RFC 3261 §12.1).
     Early(CalleeLeg<Early>),
 }
 
-/// The same, as contracts see it. It must be spent.
+/// The same, in the form that contracts use. It must be spent.
 pub struct Tried {
     /// The leg.
     pub leg: TriedLeg,
@@ -50,7 +50,7 @@ impl Model for Tried {
 
 /// A call that is offered to a target and not answered. It must be spent.
 pub struct Trial {
-    /// The caller's leg, which stands from the opening on.
+    /// The caller's leg, which is confirmed from the opening on.
     pub caller: CallerLeg<Standing>,
     /// The target's leg.
     pub callee: Tried,
@@ -64,35 +64,35 @@ pub struct Pair {
     pub caller: CallerLeg<Standing>,
     /// The leg of the target that answered.
     pub callee: CalleeLeg<Standing>,
-    /// Who is served there; None where nobody is.
+    /// The account that is served there; None if none is.
     pub service: Option<Service>,
 }
 
-/// A 2xx that went to a side and has no ACK.
+/// A 2xx that was relayed to a side and has no ACK.
 #[derive(Drop)]
 pub struct Success {
     /// Its number in the call, from 1.
     pub number: u64,
-    /// The number of CSeq of the INVITE that it answers.
+    /// The CSeq number of the INVITE to which it is the response.
     pub cseq: Option<u32>,
-    /// The branch, behind its cookie, of the INVITE of the other side whose 2xx it relays.
+    /// The branch, without its cookie, of the INVITE to the other side whose 2xx it relays.
     pub branch: Text,
 }
 
-/// An INVITE of a side that was relayed to the other one, and has no final answer.
+/// An INVITE of a side that was relayed to the other one, and has no final response.
 #[derive(Drop)]
 pub struct Reinvite {
     /// Its server transaction.
     pub key: TKey,
-    /// The INVITE as it was heard.
+    /// The INVITE as it was received.
     pub request: Hearing,
     /// The INVITE to the other side.
     pub invitation: Invitation,
-    /// It was cancelled, and its CANCEL waits for a provisional response (RFC 3261 §9.1).
+    /// Whether it was cancelled, and its CANCEL waits for a provisional response (RFC 3261 §9.1).
     pub cancel_due: bool,
 }
 
-/// What was asked beside the INVITEs of a call.
+/// Requests of a side that a call relays beside INVITEs.
 #[derive(Clone, Copy, Debug, PartialEq, Eq)]
 pub enum FlightKind {
     /// A PRACK of the caller (RFC 3262).
@@ -101,70 +101,70 @@ pub enum FlightKind {
     Update,
 }
 
-/// A request of a side that is in flight: it was relayed to the other one, and has no final answer.
+/// A request of a side that is in flight: it was relayed to the other one, and has no final response.
 #[derive(Drop)]
 pub struct Flight {
-    /// What it asks.
+    /// Its kind.
     pub kind: FlightKind,
-    /// The side that asked.
+    /// The side that sent it.
     pub side: Side,
-    /// The request, and as what it was relayed.
+    /// The request, and the form in which it was relayed.
     pub asked: Reinvite,
 }
 
-/// How far an answered call came.
+/// The state of an answered call.
 #[derive(Drop)]
 pub enum Stage {
-    /// A 2xx went to this side, and its ACK is due.
+    /// A 2xx was relayed to this side, and its ACK is due.
     Answered(Side, Success),
     /// The same, and the other side has left.
     Parting(Side, Success),
-    /// Nothing is under way.
+    /// No request is pending.
     Talking,
     /// An INVITE of this side was relayed to the other one.
     Asking(Side, Reinvite),
 }
 
-/// A talking call, of which one leg is away. It must be spent.
+/// A stable call of which one leg is detached. It must be spent.
 pub struct Loan {
-    /// The leg that is left.
+    /// The remaining leg.
     pub left: Released,
-    /// The meter of the one that is away.
+    /// The meter of the detached leg.
     pub meter: Option<Meter>,
-    /// Who is served as the target; None where nobody is.
+    /// The account that is served as the target; None if none is.
     pub service: Option<Service>,
 }
 
-/// Where a call stands. It must be spent.
+/// The phase of a call. It must be spent.
 pub enum Phase {
     /// It is offered, and rings or not.
     Offered(Trial),
     /// It was answered.
     Stood(Pair, Stage),
-    /// A leg of it was taken out.
+    /// A leg of it is detached.
     Lent(Loan),
-    /// It is over, by this cause; no leg is left.
+    /// It is over, with this cause; no leg is left.
     Over(Cause),
 }
 
-/// An INVITE that had a 2xx, as long as it may be heard again.
+/// An INVITE that had a 2xx, as long as that 2xx may be retransmitted.
 #[derive(Drop)]
 pub struct Taken {
     /// The INVITE.
     pub invitation: Invitation,
-    /// The tag of the dialog that its 2xx made.
+    /// The tag of the dialog that its 2xx established.
     pub tag: Text,
-    /// It was sent in a dialog that stood.
+    /// Whether it was sent within a confirmed dialog.
     pub within: bool,
 }
 
 /// A call. It must be spent.
 pub struct Call {
-    /// What is known of it for good.
+    /// What is known of it since its opening; it does not change.
     pub opening: Opening,
     /// How it was diverted.
     pub diversions: Diversions,
-    /// Which sides hold it.
+    /// Which sides have put the call on hold.
     pub hold: HoldState,
     /// When it was answered.
     pub answered: Option<Moment>,
@@ -172,16 +172,16 @@ pub struct Call {
     pub attempts: u64,
     /// How many 2xx it relayed to a side.
     pub successes: u64,
-    /// The reliable answers that were relayed to the caller.
+    /// The reliable responses that were relayed to the caller.
     pub acks: Acks,
     /// The requests that are in flight, in the order in which they were relayed.
     pub flights: List<Flight>,
-    /// The meters of what is past, in the order begun; the others run in the legs.
+    /// The meters of past parts, in the order begun; the others run in the legs.
     pub past: List<Meter>,
-    /// The INVITEs that were left before they had a final answer.
+    /// The INVITEs that were abandoned before they had a final response.
     pub loose: List<Loose>,
-    /// Those that had a 2xx.
+    /// The INVITEs that had a 2xx.
     pub taken: List<Taken>,
-    /// Where it stands.
+    /// Its phase.
     pub phase: Phase,
 }

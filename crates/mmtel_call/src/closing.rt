@@ -1,4 +1,4 @@
-//! How a call ends: its meters give their rows.
+//! How a call ends: its meters give their CDRs.
 ghost use Rattle.std.specs.Prelude.{◌≡◌, OnErr, OnOk};
 ghost use Rattle.std.specs.Option.{option_copied};
 ghost use Rattle.mmtel_types.specs.declared.causes.Cause.TheVariants.{Ended as HasEnded};
@@ -15,7 +15,7 @@ use mmtel_types::{Account, Cause, Moment};
 use std::alloc::Global;
 use std::mem;
 
-/// The meter of an account, where there is one.
+/// The meter of an account, if there is one.
 pub fn meter_of(kind: Kind, call: &Call, at: Moment, account: Option<Account>) -> Option<Meter>
     ensures { result ≡ meter_of kind call.now at account }
 {
@@ -25,7 +25,7 @@ pub fn meter_of(kind: Kind, call: &Call, at: Moment, account: Option<Account>) -
     }
 }
 
-/// The meter of the account that is served, where one is.
+/// The meter of the served account, if there is one.
 pub fn meter_for(kind: Kind, call: &Call, at: Moment, service: Option<&Service>) -> Option<Meter>
     ensures { result ≡ meter_for kind call.now at (option_copied service.entry) }
 {
@@ -35,7 +35,7 @@ pub fn meter_for(kind: Kind, call: &Call, at: Moment, service: Option<&Service>)
     }
 }
 
-/// Lets a meter go that is left without a row.
+/// Spends a meter that gives no CDR.
 pub fn give_up_meter(meter: Option<Meter>, at: Moment) {
     match meter {
         None => {}
@@ -43,7 +43,7 @@ pub fn give_up_meter(meter: Option<Meter>, at: Moment) {
     }
 }
 
-/// Lets meters go that are left without rows.
+/// Spends meters that give no CDRs.
 pub fn give_up_meters(meters: List<Meter>, at: Moment) {
     let mut meters = meters;
     'meters: while let Some(meter) = meters.pop_first() {
@@ -53,7 +53,7 @@ pub fn give_up_meters(meters: List<Meter>, at: Moment) {
 }
 
 impl Call {
-    /// Where the call stands, from here on: nothing but its end stood there.
+    /// Sets the phase of the call. The phase before is `Over`, in which nothing is left to be spent.
     pub fn put_phase(&mut self, phase: Phase)
         requires { self.old.phase ≡ Over HasEnded }
         ensures { self.new ≡ record self.old { phase = phase } }
@@ -64,7 +64,7 @@ impl Call {
         }
     }
 
-    /// Lays a meter with those of what is past. It is spent, also where memory runs out.
+    /// Adds a meter to those of past parts. It is spent, also where memory runs out.
     pub fn keep_meter(&mut self, step: &Step<'_>, meter: Option<Meter>) -> Result<(), NoMemory>
         ensures kept { OnOk result (self.new ≡ with_past meter self.old) }
         ensures refused { OnErr result (self.new ≡ self.old) }
@@ -81,7 +81,7 @@ impl Call {
         }
     }
 
-    /// Ends the call, whose legs have left: files the rows of their meters and of those that are past. All are spent.
+    /// Ends the call, whose legs have left: files the CDRs of their meters and of those of past parts. All are spent.
     pub fn close(
         &mut self,
         alloc: Global,

@@ -1,14 +1,14 @@
-//! What a step of a call is given, and only reads.
+//! The input of a step of a call, which it only reads.
 ghost use Rattle.std.specs.Prelude.{◌≡◌};
 
 use mmtel_call_decisions::{Present, Setting};
 use mmtel_types::Addr;
 use std::alloc::Global;
 
-/// What a step of a call is given, handed down as it is: the allocator, the server's configuration, and how things stand.
+/// The input of a step of a call, which is passed on unchanged: the allocator, the server's configuration, and the current state.
 #[derive(Clone, Copy)]
 pub struct Step<'a> {
-    /// Where memory is taken.
+    /// The allocator.
     pub alloc: Global,
     /// The server's configuration.
     pub setting: &'a Setting<'a>,
@@ -17,7 +17,7 @@ pub struct Step<'a> {
 }
 
 impl<'a> Step<'a> {
-    /// What a step is given, as one value.
+    /// The input of a step, as one value.
     pub fn new(alloc: Global, setting: &'a Setting<'a>, present: &Present<'a>) -> Step<'a>
         ensures setting { result.setting.now ≡ setting.now }
         ensures present { result.present ≡ present.now }

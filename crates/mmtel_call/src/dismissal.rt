@@ -1,5 +1,5 @@
-//! Which signals leave the attempt of an offered call, or end a call that was answered: before all else of such a step what is in flight has its answer (RFC 3262 §3, RFC 3311
-//! §5.2).
+//! Which signals end the attempt of an offered call without a 2xx, or end a call that was answered: in such a step each request that is in flight first gets its final response
+//! (RFC 3262 §3, RFC 3311 §5.2).
 ghost use Rattle.std.specs.Prelude.{◌≡◌, IfOk};
 ghost use Rattle.std.specs.Option.{option_copied};
 ghost use Rattle.mmtel_call.specs.Dismissal.{ends_by_bye, is_bye_in, is_in_order, leaves_by_bye, leaves_by_bye_at, leaves_on_ack, leaves_on_ack_at, leaves_on_cancel, leaves_on_due, leaves_on_request};
@@ -20,7 +20,7 @@ use mmtel_transaction::{DueWord, TKey};
 use mmtel_types::Side;
 use std::alloc::Global;
 
-/// Whether a request is not older than the last one of its dialog that was heard (RFC 3261 §12.2.2).
+/// Whether a request is not older than the last one that was received in its dialog (RFC 3261 §12.2.2).
 fn is_in_order(dialogue: &Dialogue, m: &Hearing) -> bool
     ensures { result ≡ is_in_order dialogue.now m.now }
 {
@@ -33,7 +33,7 @@ fn is_in_order(dialogue: &Dialogue, m: &Hearing) -> bool
     }
 }
 
-/// Whether a request is a BYE that is heard in this dialog.
+/// Whether a request is a BYE that is accepted in this dialog.
 fn is_bye_in(dialogue: &Dialogue, m: &Hearing) -> bool
     ensures { result ≡ is_bye_in dialogue.now m.now }
 {
@@ -59,7 +59,7 @@ impl Stage {
         }
     }
 
-    /// Whether a BYE of this side ends the call: no side is left to which an ACK, or the BYE, is owed.
+    /// Whether a BYE of this side ends the call: no side remains to which an ACK, or the BYE, is owed.
     fn ends_by_bye(&self, side: Side) -> bool
         ensures { result ≡ ends_by_bye self.now side }
     {
@@ -81,7 +81,7 @@ impl Stage {
 }
 
 impl Trial {
-    /// Whether a request of a side is the BYE by which the caller gives up.
+    /// Whether a request of a side is the BYE by which the caller abandons the call.
     fn leaves_by_bye(&self, side: Side, m: &Hearing) -> bool
         ensures { result ≡ leaves_by_bye self.now side m.now }
     {
@@ -102,7 +102,7 @@ impl Pair {
 }
 
 impl Phase {
-    /// Whether a response with this status, to the INVITE that the call waits on, leaves the attempt or ends the call.
+    /// Whether a response with this status, to the INVITE for which the call waits, ends the attempt without a 2xx, or ends the call.
     fn leaves_on_status(&self, code: u16) -> bool
         ensures { result ≡ leaves_on_status code self.now }
     {
@@ -113,7 +113,7 @@ impl Phase {
         }
     }
 
-    /// Whether its silence does.
+    /// Whether the timeout of that INVITE does.
     fn leaves_on_silence(&self) -> bool
         ensures { result ≡ leaves_on_silence self.now }
     {
@@ -147,7 +147,7 @@ impl Phase {
 }
 
 impl Call {
-    /// Whether a CANCEL of this INVITE leaves the attempt.
+    /// Whether a CANCEL of this INVITE ends the attempt.
     fn leaves_on_cancel(&self, invite: TKey) -> bool
         ensures { result ≡ leaves_on_cancel self.now.phase invite self.now }
     {
@@ -157,7 +157,7 @@ impl Call {
         }
     }
 
-    /// Whether a deadline leaves this attempt.
+    /// Whether a deadline ends this attempt.
     fn leaves_on_time(&self, x: &Trial, what: DueWord) -> bool
         ensures { result ≡ leaves_on_time x.now what self.now }
     {
@@ -168,7 +168,7 @@ impl Call {
         }
     }
 
-    /// Whether a deadline leaves the attempt or ends the call.
+    /// Whether a deadline ends the attempt or the call.
     fn leaves_on_due(&self, what: DueWord) -> bool
         ensures { result ≡ leaves_on_due self.now.phase what self.now }
     {
@@ -192,7 +192,7 @@ impl Call {
         }
     }
 
-    /// Whether silence of the request of this branch does.
+    /// Whether the timeout of the request of this branch does.
     fn leaves_on_no_response(&self, branch: Option<&[u8]>) -> bool
         ensures { result ≡ leaves_on_no_response (option_copied branch.entry) self.now }
     {
@@ -202,11 +202,11 @@ impl Call {
         }
     }
 
-    /// Whether what is heard leaves the attempt of an offered call, or ends a call that was answered.
+    /// Whether a signal ends the attempt of an offered call without a 2xx, or ends a call that was answered.
     ///
     /// # Errors
     ///
-    /// Want of memory alone.
+    /// Out of memory only.
     pub fn leaves(&self, alloc: Global, signal: &Signal) -> Result<bool, NoMemory>
         ensures { IfOk result (λ yes. yes ≡ leaves signal.now self.now) }
     {

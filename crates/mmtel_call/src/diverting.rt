@@ -1,4 +1,4 @@
-//! How a call goes on: it comes to one target after another until it is offered to one, or refused.
+//! How a call continues: it reaches one target after another until it is offered to one, or refused.
 ghost use Rattle.std.specs.Prelude.{◌≡◌, ◌-◌, ◌<◌, IfOk, None, Some, OnOk};
 ghost use Rattle.std.specs.Option.{option_copied};
 ghost use Rattle.mmtel_lex.specs.Grammar.{uri_text};
@@ -26,14 +26,14 @@ use mmtel_types::{Cause, Peer};
 use std::alloc::Global;
 
 impl Call {
-    /// Whether a diversion came before: one that the call came with, or one that was made.
+    /// Whether the call was diverted before: elsewhere before it came here, or by this server.
     fn is_diverted(&self) -> bool
         ensures { result ≡ is_diverted self.now }
     {
         self.diversions.count() > 0
     }
 
-    /// Refuses the call by a final of the server's own, which ends it.
+    /// Refuses the call by a final response of the server's own, which ends it.
     pub fn refuse(
         &mut self,
         step: &Step<'_>,
@@ -54,7 +54,7 @@ impl Call {
         closed
     }
 
-    /// Hands a final of the target on to the caller, which ends the call.
+    /// Relays a final response of the target to the caller, which ends the call; where the cause does not relay it, the response is the server's own.
     fn hand_on(
         &mut self,
         step: &Step<'_>,
@@ -82,7 +82,7 @@ impl Call {
         closed
     }
 
-    /// Refuses the call by the final that was heard, where the cause hands it on, and else by one of the server's own.
+    /// Refuses the call by the final response that was received, if the cause relays it, otherwise by one of the server's own.
     fn refuse_by(
         &mut self,
         step: &Step<'_>,
@@ -106,7 +106,7 @@ impl Call {
         }
     }
 
-    /// Notes one more diversion, to this target.
+    /// Records one more diversion, to this target.
     fn note_diversion(
         &mut self,
         alloc: Global,
@@ -135,7 +135,7 @@ impl Call {
         }
     }
 
-    /// Makes a diversion to this target, by the account that is served: notes it, begins its meter, and tells the caller where that is wished.
+    /// Makes a diversion to this target by the served account: records it, adds its meter, and notifies the caller if the forward requires that.
     fn make_diversion(
         &mut self,
         step: &Step<'_>,
@@ -159,7 +159,7 @@ impl Call {
         self.tell_of(step, due, desk)
     }
 
-    /// What a diversion comes to that is due: it is made and the call comes to its target, unless outgoing barring or a bound refuses it.
+    /// Carries out a diversion that is due: it is made and the call reaches its target, unless outgoing barring or a bound refuses it.
     #[cycle(diverting)]
     fn divert(
         &mut self,
@@ -227,7 +227,7 @@ impl Call {
         }
     }
 
-    /// The target of a diversion that is due, and what refuses the diversion.
+    /// The target of a diversion that is due, and the cause that refuses the diversion, if any.
     fn weigh_diversion(
         &self,
         step: &Step<'_>,
@@ -249,7 +249,7 @@ impl Call {
         )
     }
 
-    /// The account that is served at a target, with its record, and the peer that leads there.
+    /// The account that is served at a target, with its record, and the peer that is the next hop.
     fn weigh_target(
         &self,
         step: &Step<'_>,
@@ -264,7 +264,7 @@ impl Call {
             .weigh_target(step.alloc, step.setting, &step.present, cause, target)
     }
 
-    /// The call comes to a target.
+    /// The call reaches a target.
     #[cycle(diverting)]
     pub fn come_to(
         &mut self,
@@ -294,7 +294,7 @@ impl Call {
         }
     }
 
-    /// What is decided at a target, where this account is served there and this peer leads to it.
+    /// What is decided at a target, where this account is served there and this peer is the next hop.
     fn turn_at<'a>(
         &self,
         step: &Step<'_>,
@@ -321,7 +321,7 @@ impl Call {
         )
     }
 
-    /// What is done at a target, where this account is served there and this peer leads to it.
+    /// Carries out what is decided at a target, where this account is served there and this peer is the next hop.
     #[cycle(diverting)]
     fn take_turn(
         &mut self,
@@ -382,7 +382,7 @@ impl Call {
         }
     }
 
-    /// Lays the meter of an account that is reached, and not offered to, with those of what is past.
+    /// Adds the meter of an account that the call reached, without being offered to it, to those of past parts.
     fn pass_by(&mut self, step: &Step<'_>, service: Option<&Service>) -> Result<(), NoMemory>
         ensures { OnOk result (self.new ≡ passed_by step.now.present.at (option_copied service.entry) self.old) }
     {
@@ -416,7 +416,7 @@ impl Call {
         }
     }
 
-    /// What is done after an attempt of this account that ended so; a final that was heard may be handed on.
+    /// Carries out what follows an attempt of this account that ended in this way; a final response that was received may be relayed.
     pub fn go_on(
         &mut self,
         step: &Step<'_>,

@@ -17,7 +17,7 @@ use mmtel_leg::Dialogue;
 use mmtel_scan::{List, NoMemory};
 use mmtel_transaction::DueWord;
 
-/// Whether a deadline is the expiry of the session that the last 2xx set, of which so many went to a side.
+/// Whether a deadline is the expiry of the session that the last 2xx set, where this many 2xx were relayed to a side.
 pub fn is_expiry(successes: u64, what: DueWord) -> bool
     ensures { result ≡ is_expiry successes what }
 {
@@ -28,7 +28,7 @@ pub fn is_expiry(successes: u64, what: DueWord) -> bool
 }
 
 impl Call {
-    /// The session of a call that talks expired: BYE to both sides.
+    /// The session of a stable call expired: BYE to both sides.
     pub fn expire(&mut self, step: &Step<'_>, x: Pair, desk: &mut Desk) -> Result<(), NoMemory>
         requires { self.old.phase ≡ Over HasEnded }
         ensures call { OnOk result (self.new
@@ -43,7 +43,7 @@ impl Call {
         closed
     }
 
-    /// The call is over while an INVITE has no answer, which is loose with these dialogs that need no BYE any more.
+    /// The call is over while an INVITE has no final response; that INVITE is abandoned, with these dialogs that need no BYE any more.
     fn end_expired(
         &mut self,
         step: &Step<'_>,
@@ -73,7 +73,7 @@ impl Call {
         closed
     }
 
-    /// The session expired while an INVITE has no answer: 487 to it, and BYE to both sides.
+    /// The session expired while an INVITE has no final response: 487 to it, and BYE to both sides.
     pub fn expire_asking(
         &mut self,
         step: &Step<'_>,

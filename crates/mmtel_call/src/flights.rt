@@ -1,4 +1,5 @@
-//! Requests that are in flight beside all else that a call does: PRACK (RFC 3262 §4) and UPDATE (RFC 3311 §5.1), which go to the other side, and whose answers come back.
+//! Requests that are in flight beside everything else that a call does: PRACK (RFC 3262 §4) and UPDATE (RFC 3311 §5.1), which are relayed to the other side, and whose final
+//! responses are relayed back.
 ghost use Rattle.std.specs.Prelude.{◌≡◌, ◌<◌, if◌then◌else◌, false, not, IfOk, OnOk, length, position, Some};
 ghost use Rattle.std.specs.List.{filter, find};
 ghost use Rattle.std.specs.Option.{option_copied};
@@ -36,7 +37,7 @@ impl FlightKind {
         }
     }
 
-    /// The status with which it is answered where the call goes on without the other side.
+    /// The status of the server's own final response to it, where the call continues without the other side.
     fn dismissal(self) -> u16
         ensures { result ≡ dismissal_of self }
     {
@@ -62,7 +63,7 @@ impl Flight {
     }
 }
 
-/// The place of the request of this branch among those that are in flight.
+/// The index of the request of this branch among those that are in flight.
 pub fn flight_at(flights: &[Flight], branch: &[u8]) -> Option<usize>
     ensures { result ≡ position (is_in_flight branch.now) flights.now }
 {
@@ -77,7 +78,7 @@ fn update_in(flights: &[Flight]) -> Option<&Flight>
 }
 
 impl Phase {
-    /// Who is served as the target.
+    /// The account that is served as the target.
     fn service(&self) -> Option<&Service>
         ensures { option_copied result ≡ service_in self.now }
     {
@@ -90,7 +91,7 @@ impl Phase {
     }
 }
 
-/// Sends a leg the request of the other side, with these lines of it. Gives it as it was sent.
+/// Sends in a leg the request of the other side, with these header fields. Returns it as it was sent.
 pub fn ask_leg<P, S: InDialog>(
     step: &Step<'_>,
     method: &[u8],
@@ -120,7 +121,7 @@ impl Call {
         }
     }
 
-    /// A request of a side is in flight, which was relayed so.
+    /// Adds a request of a side, which was relayed in this form, to those that are in flight.
     pub fn fly(
         &mut self,
         alloc: Global,
@@ -147,7 +148,7 @@ impl Call {
         file(alloc, &mut self.flights, Flight { kind, side, asked })
     }
 
-    /// A response to what is in flight goes back to the side that asked.
+    /// Relays a response to a request in flight to the side that sent the request.
     fn relay_answer(
         &self,
         step: &Step<'_>,
@@ -183,7 +184,7 @@ impl Call {
         relayed
     }
 
-    /// An UPDATE had this 2xx: its offer stands (RFC 3311 §5.1), and the session expires as it says (RFC 4028 §7.2).
+    /// After this 2xx to an UPDATE its offer is in effect (RFC 3311 §5.1), and the session expires at the interval of that 2xx (RFC 4028 §7.2).
     fn agree_to_update(
         &mut self,
         step: &Step<'_>,
@@ -202,7 +203,7 @@ impl Call {
         Ok(())
     }
 
-    /// A final to what was in flight comes back.
+    /// Processes a final response to a request that was in flight.
     fn hear_final_in_flight(
         &mut self,
         step: &Step<'_>,
@@ -225,7 +226,7 @@ impl Call {
         Ok(())
     }
 
-    /// A response to what is in flight at this place: a final comes back to the side that asked.
+    /// Processes a response to the request in flight at this index: a final response is relayed to the side that sent the request.
     pub fn hear_in_flight(
         &mut self,
         step: &Step<'_>,
@@ -251,7 +252,7 @@ impl Call {
         heard
     }
 
-    /// No response came to what is in flight at this place: 408 to the side that asked.
+    /// The request in flight at this index timed out: 408 to the side that sent it.
     pub fn silence_in_flight(
         &mut self,
         step: &Step<'_>,
@@ -271,7 +272,7 @@ impl Call {
         replied
     }
 
-    /// The answers that the caller has not acknowledged are not sent to it any more: the one of this number, or all.
+    /// The reliable responses that the caller has not acknowledged are not retransmitted to it any more: the one of this number, or all.
     pub fn settle(
         &self,
         alloc: Global,
@@ -289,7 +290,7 @@ impl Call {
         desk.emit(alloc, Emit::Settled { key, own })
     }
 
-    /// The same of all answers, where the call is offered.
+    /// The same for all of them, if the call is offered.
     fn settle_all(
         &self,
         alloc: Global,
@@ -304,7 +305,7 @@ impl Call {
         }
     }
 
-    /// A request that is in flight has its answer, where it is an UPDATE, or else where it is none.
+    /// Sends the server's final response to a request in flight, if the flag is set and it is an UPDATE, or the flag is not set and it is none.
     fn dismiss_one(
         &self,
         alloc: Global,
@@ -331,7 +332,7 @@ impl Call {
         )
     }
 
-    /// The UPDATEs among these, or else the PRACKs, have their answers in order.
+    /// Sends the server's final responses to the UPDATEs among these, or, if the flag is not set, to the PRACKs, in order.
     fn dismiss_each(
         &self,
         alloc: Global,
@@ -350,7 +351,8 @@ impl Call {
         Ok(())
     }
 
-    /// What is in flight has its answer, and nothing of it is answered any more: the attempt is left, or the call is over (RFC 3262 §3, RFC 3311 §5.2).
+    /// Sends the server's final responses to all requests in flight, and nothing of the attempt gets a response any more: the attempt ended without a 2xx, or the call is over
+    /// (RFC 3262 §3, RFC 3311 §5.2).
     pub fn dismiss(
         &mut self,
         alloc: Global,

@@ -1,4 +1,4 @@
-//! Requests of a call that is offered to a target and not answered, and the caller that gives up.
+//! Requests of a call that is offered to a target and not answered, and the caller that abandons it.
 ghost use Rattle.std.specs.Prelude.{◌≡◌, OnErr, OnOk};
 ghost use Rattle.mmtel_desk.specs.Sending.{cancelled};
 ghost use Rattle.mmtel_call.specs.Sending.{replied_to, told_caller};
@@ -20,7 +20,7 @@ use mmtel_transaction::TKey;
 use mmtel_types::{Cause, Side};
 
 impl Call {
-    /// What goes out where the call ends before it was answered: the final of this cause to the caller, and the CANCEL where that is due.
+    /// Sends what is due where the call ends before it was answered: the final response for this cause to the caller, and the CANCEL if it is due.
     fn pass_giving_up(
         &self,
         step: &Step<'_>,
@@ -36,7 +36,7 @@ impl Call {
         desk.cancel(step.alloc, step.sip(), &attempt.invitation)
     }
 
-    /// The call ends by this cause before it was answered.
+    /// The call ends with this cause before it was answered.
     pub fn give_up_offered(
         &mut self,
         step: &Step<'_>,
@@ -72,7 +72,7 @@ impl Call {
         closed
     }
 
-    /// A CANCEL of the caller: of the INVITE that opened the call, or of another one, which has its final.
+    /// A CANCEL of the caller: of the INVITE that opened the call, or of another one, which has its final response.
     pub fn hear_cancel(
         &mut self,
         step: &Step<'_>,
@@ -100,7 +100,7 @@ impl Call {
         replied
     }
 
-    /// A BYE of the caller, who gives up.
+    /// A BYE of the caller, which abandons the call.
     fn hear_bye_offered(
         &mut self,
         step: &Step<'_>,
@@ -122,7 +122,7 @@ impl Call {
         given_up
     }
 
-    /// A PRACK of a side.
+    /// Processes a PRACK of a side.
     fn take_prack(
         &mut self,
         step: &Step<'_>,
@@ -144,7 +144,7 @@ impl Call {
         }
     }
 
-    /// A request that a leg heard, other than the BYE of the caller.
+    /// Processes a request that a leg accepted, other than the BYE of the caller.
     fn take_other_offered(
         &mut self,
         step: &Step<'_>,
@@ -172,7 +172,7 @@ impl Call {
         answered
     }
 
-    /// A request that a leg heard.
+    /// Processes a request that a leg accepted.
     fn take_request_offered(
         &mut self,
         step: &Step<'_>,
@@ -196,7 +196,7 @@ impl Call {
         self.take_other_offered(step, x, request, desk)
     }
 
-    /// A request of a side in its dialog.
+    /// Processes a request of a side in its dialog.
     pub fn hear_request_offered(
         &mut self,
         step: &Step<'_>,
@@ -226,7 +226,7 @@ impl Call {
 }
 
 impl Trial {
-    /// Takes note of a request of a side, or refuses it.
+    /// Records the CSeq number of a request of a side, or refuses it.
     fn hear(&mut self, side: Side, m: &Hearing) -> Result<(), DialogueFault>
         ensures answer { result ≡ says_offered self.old side m.now }
         ensures heard { OnOk result (self.new ≡ heard_by side m.now self.old) }

@@ -1,4 +1,4 @@
-//! Requests of a call that are not the INVITE it waits on.
+//! Requests of a call other than the INVITE for which it waits.
 ghost use Rattle.std.specs.Prelude.{◌≡◌, ◌<◌, ℕ, length, IfOk, OnOk, position, Some, slice_get};
 ghost use Rattle.mmtel_answers.specs.Said.{Said};
 ghost use Rattle.mmtel_call.specs.Leaving.{answered_loose, answered_other, answered_taken, forked, is_fork, is_taken, is_taken_key};
@@ -23,7 +23,7 @@ impl Taken {
         self.invitation.branch.bytes() == branch
     }
 
-    /// Whether a 2xx is of another dialog than the one that was made.
+    /// Whether a 2xx with this tag is of another dialog than the one that was established.
     fn is_fork(&self, tag: &[u8]) -> bool
         ensures { (m : Said) → tag.now ≡ tag_given m → result ≡ is_fork self.now m }
     {
@@ -41,14 +41,14 @@ impl Taken {
     }
 }
 
-/// The place of the INVITE of this branch among those that had a 2xx.
+/// The index of the INVITE of this branch among those that had a 2xx.
 pub fn taken_at(taken: &[Taken], branch: &[u8]) -> Option<usize>
     ensures { result ≡ position (is_taken branch.now) taken.now }
 {
     taken.iter().position(|one| one.is_of(branch))
 }
 
-/// The place of the one of this client transaction.
+/// The index of the one of this client transaction.
 pub fn taken_of(taken: &[Taken], key: TKey) -> Option<usize>
     ensures { result ≡ position (is_taken_key key) taken.now }
 {
@@ -74,7 +74,8 @@ impl Phase {
 }
 
 impl Call {
-    /// Silence of the request of this branch that is not the INVITE the call waits on: it ends an INVITE that was left, and is the answer to what is in flight.
+    /// The request of this branch, which is not the INVITE for which the call waits, timed out: this ends an abandoned INVITE, and has the effect of a final response to a request
+    /// in flight.
     #[tactic(auto, unfolding(crate::specs::Leaving::silent_other))]
     pub fn hear_silence_other(
         &mut self,
@@ -99,7 +100,7 @@ impl Call {
         }
     }
 
-    /// No more is heard of the INVITE of this client transaction, which has ended.
+    /// Removes the INVITE of this client transaction, which has ended: nothing more is received for it.
     pub fn drop_ended(&mut self, key: TKey)
         ensures { self.new ≡ without_key key self.old }
     {
@@ -109,7 +110,7 @@ impl Call {
         drop_at(&mut self.taken, at);
     }
 
-    /// A response to the INVITE at this place, which was left.
+    /// Processes a response to the abandoned INVITE at this index.
     fn hear_loose_at(
         &mut self,
         step: &Step<'_>,
@@ -131,7 +132,7 @@ impl Call {
         }
     }
 
-    /// The ACK of an INVITE that had a 2xx goes out again, in a talking call.
+    /// Sends the ACK of an INVITE that had a 2xx again, in a stable call.
     fn repeat_ack(&self, alloc: Global, taken: &Taken, desk: &mut Desk) -> Result<(), NoMemory>
         ensures { OnOk result (desk.new ≡ (repeated taken.now self.now desk.old).desk) }
     {
@@ -148,7 +149,7 @@ impl Call {
         }
     }
 
-    /// A 2xx of another dialog than the one that was made, of the INVITE at this place.
+    /// Processes a 2xx to the INVITE at this index that is of another dialog than the one that was established.
     fn hear_fork(
         &mut self,
         step: &Step<'_>,
@@ -192,7 +193,7 @@ impl Call {
         }
     }
 
-    /// A response to the INVITE at this place, which had a 2xx.
+    /// Processes a response to the INVITE at this index, which had a 2xx.
     fn hear_taken_at(
         &mut self,
         step: &Step<'_>,
@@ -218,7 +219,7 @@ impl Call {
         self.repeat_ack(step.alloc, taken, desk)
     }
 
-    /// A response to the request of this branch that is not the INVITE the call waits on.
+    /// Processes a response to the request of this branch, which is not the INVITE for which the call waits.
     #[tactic(auto, unfolding(crate::specs::Leaving::answered_other))]
     pub fn hear_other(
         &mut self,

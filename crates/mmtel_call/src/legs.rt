@@ -26,7 +26,7 @@ use mmtel_scan::{List, NoMemory, Text};
 use mmtel_types::{Moment, Peer, Side};
 use std::alloc::Global;
 
-/// Takes note of a request of a side, or refuses it.
+/// Records the CSeq number of a request of a side, or refuses it.
 #[tactic(auto, unfolding(mmtel_leg::specs::Dialogues::number_in))]
 pub fn hear<P, S>(
     leg: &mut LegOf<P, S>,
@@ -54,7 +54,7 @@ pub fn tag_said(alloc: Global, response: &Hearing) -> Result<Text, NoMemory>
     Ok(tag)
 }
 
-/// What the callee says of itself in a response, and its tag once more.
+/// The remote side in a response of the callee, and a copy of its tag.
 pub fn said_with_tag(alloc: Global, response: &Hearing) -> Result<(Remote, Text), NoMemory>
     ensures remote { IfOk result (λ r. r.0 ≡ remote_of Callee response.now.heard.lines) }
     ensures tag { IfOk result (λ r. r.1 ≡ tag_given response.now) }
@@ -70,7 +70,7 @@ pub fn said_with_tag(alloc: Global, response: &Hearing) -> Result<(Remote, Text)
 }
 
 impl Tried {
-    /// Whether a response made an early dialog.
+    /// Whether a response established an early dialog.
     pub fn is_early(&self) -> bool
         ensures { result ≡ self.now.is_early }
     {
@@ -90,14 +90,14 @@ impl Tried {
         }
     }
 
-    /// The peer with which the leg was made.
+    /// The peer of the leg.
     pub fn peer(&self) -> Peer
         ensures { result ≡ self.now.leg.dialogue.peer }
     {
         self.dialogue().peer
     }
 
-    /// The callee's tag in the early dialog, where there is one.
+    /// The callee's tag in the early dialog, if there is one.
     pub fn early_tag(&self) -> Option<&[u8]>
         ensures { option_copied result ≡ (if self.now.is_early then Some self.now.leg.dialogue.remote_tag else None) }
     {
@@ -107,7 +107,7 @@ impl Tried {
         Some(self.dialogue().remote_tag.bytes())
     }
 
-    /// Sends the callee a request of the caller within the early dialog, with these lines of it. Gives it as it was sent.
+    /// Sends to the callee a request of the caller within the early dialog, with these header fields. Returns it as it was sent.
     pub fn ask_early(
         &mut self,
         step: &Step<'_>,
@@ -130,7 +130,7 @@ impl Tried {
         }
     }
 
-    /// What the callee says of itself in a response that makes the early dialog.
+    /// The remote side in a response that establishes the early dialog.
     pub fn early_said(&self, alloc: Global, response: &Hearing) -> Result<Option<Remote>, NoMemory>
         ensures { IfOk result (λ r. r ≡ early_said self.now response.now) }
     {
@@ -142,7 +142,7 @@ impl Tried {
         Ok(Some(remote))
     }
 
-    /// The leg with the early dialog, where there is one now.
+    /// The leg with the early dialog, if there now is one.
     pub fn meet(self, remote: Option<Remote>) -> Tried
         requires { self.is_early ≡ true → remote ≡ None }
         ensures { result ≡ met_by remote self }
@@ -166,7 +166,7 @@ impl Tried {
         }
     }
 
-    /// The leg once its dialog is confirmed.
+    /// The leg after its dialog was confirmed.
     pub fn stand(self, remote: Remote) -> CalleeLeg<Standing>
         ensures { result ≡ with_dialogue self.leg (met self.leg.dialogue remote) }
     {
@@ -177,7 +177,7 @@ impl Tried {
         }
     }
 
-    /// Takes note of a request of the callee, or refuses it.
+    /// Records the CSeq number of a request of the callee, or refuses it.
     pub fn hear(&mut self, request: &Hearing, busy: InFlight) -> Result<(), DialogueFault>
         ensures answer { result ≡ says self.old.leg request.now busy }
         ensures heard { OnOk result (self.new ≡ record self.old { leg = having_heard self.old.leg request.now }) }
@@ -189,7 +189,7 @@ impl Tried {
         }
     }
 
-    /// Ends the leg, and gives its meter.
+    /// Ends the leg, and returns its meter.
     pub fn leave(self) -> Option<Meter>
         ensures { result ≡ self.leg.meter }
     {
@@ -207,14 +207,14 @@ impl Tried {
     }
 }
 
-/// Lets the caller's leg go, whose call is given up.
+/// Spends the caller's leg of a call that is given up.
 pub fn give_up_caller(caller: CallerLeg<Standing>, at: Moment) {
     let Ended { meter } = caller.leave();
     give_up_meter(meter, at);
 }
 
 impl Trial {
-    /// Lets both legs go, whose call is given up.
+    /// Spends both legs of a call that is given up.
     pub fn give_up(self, at: Moment) {
         let Trial {
             caller,
@@ -228,7 +228,7 @@ impl Trial {
 }
 
 impl Pair {
-    /// Lets both legs go, whose call is given up.
+    /// Spends both legs of a call that is given up.
     pub fn give_up(self, at: Moment) {
         let Pair {
             caller,

@@ -1,4 +1,4 @@
-//! A talking call whose leg is taken out of it, put back, or left.
+//! A stable call whose leg is detached, put back, or ended without it.
 ghost use Rattle.std.specs.Prelude.{◌≡◌, true, None, Some, MatchResult, OnOk};
 ghost use Rattle.mmtel_desk.specs.Sending.{bye};
 ghost use Rattle.mmtel_leg.specs.Releases.{released_leg};
@@ -18,11 +18,11 @@ use mmtel_types::{Cause, Moment, Side};
 use std::alloc::Global;
 use std::mem;
 
-/// The call does not talk, or a leg of it is away.
+/// The call is not stable, or a leg of it is detached.
 #[derive(Clone, Copy, Debug, PartialEq, Eq)]
 pub struct NotTalking;
 
-/// A leg with this meter, which has none.
+/// A leg, which has no meter, with this one.
 fn with_meter<P, S>(leg: LegOf<P, S>, meter: Option<Meter>) -> LegOf<P, S>
     requires { leg.meter ≡ None }
     ensures { result ≡ with_meter meter leg }
@@ -36,7 +36,7 @@ fn with_meter<P, S>(leg: LegOf<P, S>, meter: Option<Meter>) -> LegOf<P, S>
 }
 
 impl Pair {
-    /// Takes the leg of a side out, without its meter.
+    /// Detaches the leg of a side, without its meter.
     fn lend(self, side: Side) -> (Released, Loan)
         ensures away { result.0 ≡ taken_out side self }
         ensures loan { result.1 ≡ loan_of side self }
@@ -103,7 +103,7 @@ impl Loan {
         }
     }
 
-    /// Lets the leg that is left go, and gives the meters of the caller's leg and of the target's.
+    /// Ends the remaining leg, and returns the meters of the caller's leg and of the target's.
     pub fn leave(self) -> (Option<Meter>, Option<Meter>)
         ensures first { result.0 ≡ first_of self.left self.meter }
         ensures last { result.1 ≡ last_of self.left self.meter }
@@ -128,7 +128,7 @@ impl Loan {
 }
 
 impl Loan {
-    /// Lets the leg that is left go, whose call is given up.
+    /// Spends the remaining leg of a call that is given up.
     pub fn give_up(self, at: Moment) {
         let (first, last) = self.leave();
         give_up_meter(first, at);
@@ -136,7 +136,7 @@ impl Loan {
     }
 }
 
-/// BYE to the leg that is left.
+/// BYE to the remaining leg.
 fn bye_to_left(
     alloc: Global,
     setting: &Setting<'_>,
@@ -154,11 +154,11 @@ fn bye_to_left(
 }
 
 impl Call {
-    /// Takes the leg of a side out of a talking call; its meter stays with the call (RFC 4579 §5.6).
+    /// Detaches the leg of a side from a stable call; its meter stays with the call (RFC 4579 §5.6).
     ///
     /// # Errors
     ///
-    /// `NotTalking` exactly where the call does not talk, or a leg of it is away; the call is then as before.
+    /// `NotTalking` exactly if the call is not stable, or a leg of it is detached; the call is then as before.
     pub fn release(&mut self, side: Side) -> Result<Released, NotTalking>
         ensures call { self.new ≡ lent_in self.old.phase side self.old }
         ensures leg { MatchResult result (λ leg. taken_out_in self.old.phase side ≡ Some leg)
@@ -181,7 +181,7 @@ impl Call {
         }
     }
 
-    /// The same of an answered call.
+    /// The same for an answered call.
     fn release_at(&mut self, side: Side, x: Pair, stage: Stage) -> Result<Released, NotTalking>
         requires { self.old.phase ≡ Over HasEnded }
         ensures call { self.new ≡ lent_at stage side x (record self.old { phase = Stood x stage }) }
@@ -209,7 +209,7 @@ impl Call {
         }
     }
 
-    /// Puts a leg back that was taken out: the call talks again.
+    /// Puts a detached leg back: the call is stable again.
     pub fn restore(&mut self, away: Released)
         requires fits { fits_in self.old.phase away ≡ true }
         requires meter { (released_leg away).meter ≡ None }
@@ -224,11 +224,11 @@ impl Call {
         }
     }
 
-    /// Ends a call whose leg is away: what is in flight has its answer (RFC 3262 §3, RFC 3311 §5.2), BYE goes to the leg that is left, and its rows are closed.
+    /// Ends a call whose leg is detached: requests in flight get their final responses (RFC 3262 §3, RFC 3311 §5.2), a BYE is sent to the remaining leg, and its CDRs are filed.
     ///
     /// # Errors
     ///
-    /// Want of memory alone; of the call and of the desk nothing is said then, but that the call can be given up.
+    /// Out of memory only; nothing is claimed of the call and the output then, except that the call can be given up.
     #[tactic(auto, unfolding(crate::specs::Lending::finished))]
     pub fn finish(
         &mut self,
@@ -248,7 +248,7 @@ impl Call {
         }
     }
 
-    /// The call ends with the leg that is left.
+    /// The call ends with the remaining leg.
     fn end_lent(
         &mut self,
         alloc: Global,

@@ -1,4 +1,4 @@
-//! One call: two dialogs that the server holds together, by the step table of a call (RFC 3261 §6, TS 24.173).
+//! One call: two dialogs that the server connects, by the step table of a call (RFC 3261 §6, TS 24.173).
 #![tactic(auto)]
 
 mod agreements;

@@ -33,7 +33,7 @@ use std::alloc::Global;
 /// The longest time that an attempt may take, in milliseconds.
 const LONGEST_TIME: u64 = 180_000;
 
-/// The value, unless what came after it failed.
+/// The value, unless the operation after it failed.
 fn unless_failed<T: Drop>(after: Result<(), NoMemory>, value: T) -> Result<T, NoMemory>
     ensures value { IfOk result (λ kept. kept ≡ value) }
     ensures passed { IsOk result → IsOk after }
@@ -47,7 +47,7 @@ fn unless_failed<T: Drop>(after: Result<(), NoMemory>, value: T) -> Result<T, No
     }
 }
 
-/// An INVITE, and its dialog once more.
+/// An INVITE, and a copy of its dialog.
 fn with_its_dialog(
     alloc: Global,
     invitation: Invitation,
@@ -72,7 +72,7 @@ impl Call {
         self.attempts.saturating_add(1)
     }
 
-    /// What a target behind this peer is shown of the INVITE that opened the call.
+    /// The header fields of the INVITE that opened the call which are copied to a target behind this peer.
     fn shown_to_target(
         &self,
         step: &Step<'_>,
@@ -103,7 +103,7 @@ impl Call {
         )
     }
 
-    /// Sends the INVITE of an attempt with these lines of the one that opened the call, and arms the longest time that it may take.
+    /// Sends the INVITE of an attempt with these header fields of the INVITE that opened the call, and arms the longest time that it may take.
     fn send_shown(
         &self,
         step: &Step<'_>,
@@ -130,7 +130,7 @@ impl Call {
         unless_failed(self.arm_cap(step, desk), invitation)
     }
 
-    /// Sends the INVITE of an attempt, and arms the longest time that it may take. Gives the INVITE as it was sent.
+    /// Sends the INVITE of an attempt, and arms the longest time that it may take. Returns the INVITE as it was sent.
     fn send_offer(
         &self,
         step: &Step<'_>,
@@ -158,7 +158,7 @@ impl Call {
         }
     }
 
-    /// The call waits for the answer to this INVITE, whose dialog the target's leg keeps.
+    /// The call waits for the response to this INVITE, whose dialog the target's leg keeps.
     fn await_answer(
         &mut self,
         at: Moment,
@@ -201,11 +201,11 @@ impl Call {
         }));
     }
 
-    /// Offers the call to a target, as waiting or not.
+    /// Offers the call to a target, as a waiting call or not.
     ///
     /// # Errors
     ///
-    /// Want of memory alone; the legs are then given up.
+    /// Out of memory only; the legs are then given up.
     pub fn offer(
         &mut self,
         step: &Step<'_>,
@@ -234,7 +234,7 @@ impl Call {
         }
     }
 
-    /// The same INVITE, and its dialog once more.
+    /// The INVITE as it was sent, and a copy of its dialog.
     fn sent_offer(
         &self,
         step: &Step<'_>,

@@ -25,14 +25,14 @@ use mmtel_types::{Cause, Moment};
 use mmtel_waiting::HoldState;
 use std::alloc::Global;
 
-/// No reliable answer was relayed to the INVITE that opens a call.
+/// No reliable response was relayed to the INVITE that opens a call.
 fn no_acks(alloc: Global, opening: &Opening) -> Result<Acks, NoMemory>
     ensures { IfOk result (λ acks. acks ≡ no_answers (unwrap_or (number_of opening.now.invite) 0)) }
 {
     Acks::new(alloc, number_of(&opening.invite).unwrap_or(0))
 }
 
-/// A call in a block of its own, so that nothing large is moved where it goes from here.
+/// A call in a block of its own on the heap, so that nothing large is moved afterwards.
 fn boxed(step: &Step<'_>, call: Call) -> Result<Box<Call>, NoMemory>
     ensures { IfOk result (λ b. b.value ≡ call) }
 {
@@ -61,7 +61,7 @@ fn first_way(step: &Step<'_>, opening: &Opening) -> Result<(Target, Diversions),
 }
 
 impl Phase {
-    /// Lets the legs go of a call that is given up.
+    /// Spends the legs of a call that is given up.
     fn give_up(self, at: Moment) {
         match self {
             Phase::Offered(trial) => trial.give_up(at),
@@ -119,7 +119,7 @@ impl Call {
         }
     }
 
-    /// The call comes to its first target, unless this refuses it.
+    /// The call reaches its first target, unless this cause refuses it.
     fn come_unless_refused(
         &mut self,
         step: &Step<'_>,
@@ -144,7 +144,7 @@ impl Call {
         }
     }
 
-    /// The caller has its 100 and its leg. Gives what refuses the call, and that leg.
+    /// Sends 100 to the caller and makes the caller's leg. Returns the cause that refuses the call, if any, and that leg.
     fn welcome(
         &self,
         step: &Step<'_>,
@@ -165,7 +165,7 @@ impl Call {
         Ok((refusal, caller))
     }
 
-    /// The caller has its 100, and the call comes to its first target or is refused.
+    /// Sends 100 to the caller, and the call reaches its first target or is refused.
     fn begin(&mut self, step: &Step<'_>, target: Target, desk: &mut Desk) -> Result<(), NoMemory>
         requires phase { self.old.phase ≡ Over HasEnded }
         requires target { target ≡ first_of self.old.opening }
@@ -185,7 +185,7 @@ impl Call {
         }
     }
 
-    /// Lets the call go: its legs and its meters leave without rows.
+    /// Spends the call: its legs and its meters give no CDRs.
     pub fn give_up(self, at: Moment) {
         let Call {
             opening,
@@ -211,7 +211,7 @@ impl Call {
         give_up_meters(past, at);
     }
 
-    /// The call of this opening begins, to whose INVITE no reliable answer was relayed.
+    /// Opens the call of this opening, where no reliable response was relayed to its INVITE.
     fn open_with(
         step: &Step<'_>,
         opening: Opening,
@@ -245,7 +245,7 @@ impl Call {
         }
     }
 
-    /// The call of this opening begins.
+    /// Opens the call of this opening.
     fn open_by(step: &Step<'_>, opening: Opening, desk: &mut Desk) -> Result<Box<Call>, NoMemory>
         ensures call { IfOk result (λ c. c.value
             ≡ (begins step.now.setting.now (standing step.now.present) (new_call step.now.setting.now opening)
@@ -263,12 +263,12 @@ impl Call {
         }
     }
 
-    /// Opens a call (RFC 3261 §12.1.1), which is given in a block of its own: the caller's leg is made, and the INVITE goes to its first target, or to where the call is
-    /// diverted; or the call is refused.
+    /// Opens a call (RFC 3261 §12.1.1), which is returned in a block of its own on the heap: the caller's leg is made, and the INVITE is sent to its first target, or to the one to
+    /// which the call is diverted; or the call is refused.
     ///
     /// # Errors
     ///
-    /// Want of memory alone; nothing is left of the call then, and of the desk nothing is said.
+    /// Out of memory only; there is no call then, and nothing is claimed of the output.
     #[tactic(auto, unfolding(crate::specs::Opening::opened))]
     pub fn open(
         alloc: Global,

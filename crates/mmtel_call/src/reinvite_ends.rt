@@ -1,4 +1,4 @@
-//! How an INVITE within an answered call ends without a 2xx: by another final, by silence, or since a side leaves.
+//! How an INVITE within an answered call ends without a 2xx: by another final response, by a timeout, or because a side leaves.
 ghost use Rattle.std.specs.Prelude.{◌≡◌, true, if◌then◌else◌, IfOk, OnOk};
 ghost use Rattle.mmtel_answers.specs.Said.{status_of};
 ghost use Rattle.mmtel_types.specs.Sides.{other_of};
@@ -31,7 +31,7 @@ pub fn ends_dialog(code: u16) -> bool
 }
 
 impl Pair {
-    /// Leaves both sides by a BYE of the server's own.
+    /// Sends a BYE of the server's own to both sides.
     pub fn bye_to_both(&mut self, step: &Step<'_>, desk: &mut Desk) -> Result<(), NoMemory>
         ensures done { OnOk result (desk.new ≡ bye_to_both step.now.setting.now self.old desk.old) }
         ensures caller { self.new.caller.meter ≡ self.old.caller.meter }
@@ -42,7 +42,7 @@ impl Pair {
     }
 }
 
-/// The dialogs of an INVITE that is loose which need no BYE any more.
+/// The dialogs of an abandoned INVITE that need no BYE any more.
 pub fn ended_dialogs(
     alloc: Global,
     x: &Pair,
@@ -67,7 +67,7 @@ pub fn ended_dialogs(
 }
 
 impl Call {
-    /// A final from 300 has its ACK, and goes back to the side that asked.
+    /// A final response from 300 gets its ACK, and is relayed to the side that sent the INVITE.
     fn refuse_back(
         &self,
         step: &Step<'_>,
@@ -84,7 +84,7 @@ impl Call {
         self.relay_back(step, x, asked, m, desk)
     }
 
-    /// A final of the other side that ends the call: it goes back, and BYE to both sides.
+    /// A final response of the other side that ends the call: it is relayed back, and BYE to both sides.
     fn end_by_answer(
         &mut self,
         step: &Step<'_>,
@@ -111,7 +111,7 @@ impl Call {
         closed
     }
 
-    /// A final of the other side from 300 that leaves the call as it is: it goes back, and the call talks.
+    /// A final response of the other side from 300 that does not end the call: it is relayed back, and the call is stable.
     fn hear_refusal_across(
         &mut self,
         step: &Step<'_>,
@@ -131,7 +131,7 @@ impl Call {
         refused
     }
 
-    /// A final of the other side from 300.
+    /// Processes a final response of the other side from 300.
     fn hear_final_across(
         &mut self,
         step: &Step<'_>,
@@ -161,7 +161,7 @@ impl Call {
         self.hear_refusal_across(step, x, asked, key, m, desk)
     }
 
-    /// The same of a final from 300, with which the INVITE goes.
+    /// The same; the INVITE is dropped afterwards.
     pub fn take_final_across(
         &mut self,
         step: &Step<'_>,
@@ -190,7 +190,7 @@ impl Call {
         heard
     }
 
-    /// What goes out where the call ends while an INVITE has no answer: this status to the side that asked, and BYE to both.
+    /// Sends what is due where the call ends while an INVITE has no final response: this status to the side that sent it, and BYE to both.
     pub fn pass_end(
         &self,
         step: &Step<'_>,
@@ -209,7 +209,7 @@ impl Call {
         x.bye_to_both(step, desk)
     }
 
-    /// No response came from the other side at all, and the call is over.
+    /// The INVITE to the other side timed out, and the call is over.
     pub fn hear_silence_across(
         &mut self,
         step: &Step<'_>,
@@ -230,7 +230,7 @@ impl Call {
         closed
     }
 
-    /// What goes out where a side leaves while an INVITE has no answer: 487 to the INVITE, and BYE to the other side.
+    /// Sends what is due where a side leaves while an INVITE has no final response: 487 to the INVITE, and BYE to the other side.
     fn pass_leaving(
         &self,
         step: &Step<'_>,
@@ -249,7 +249,7 @@ impl Call {
         x.bye_to(step, leaving.other(), desk)
     }
 
-    /// The INVITE that was relayed is loose, with these dialogs that need no BYE any more.
+    /// Keeps the INVITE that was relayed as an abandoned one, with these dialogs that need no BYE any more.
     pub fn loosen_across(
         &mut self,
         alloc: Global,
@@ -265,7 +265,7 @@ impl Call {
         self.loosen(alloc, invitation, true)
     }
 
-    /// A side leaves, and the call is over; the INVITE is loose with these dialogs that need no BYE any more.
+    /// A side leaves, and the call is over; the INVITE is abandoned, with these dialogs that need no BYE any more.
     fn end_asking(
         &mut self,
         step: &Step<'_>,
@@ -296,7 +296,7 @@ impl Call {
         closed
     }
 
-    /// A side leaves while an INVITE has no answer, and the call is over.
+    /// A side leaves while an INVITE has no final response, and the call is over.
     pub fn bye_while_asking(
         &mut self,
         step: &Step<'_>,

@@ -1,4 +1,4 @@
-//! An INVITE of a side of an answered call, which goes to the other side, and may be cancelled.
+//! An INVITE of a side of an answered call, which is relayed to the other side, and may be cancelled.
 ghost use Rattle.std.specs.Prelude.{◌≡◌, if◌then◌else◌, IfOk, OnOk};
 ghost use Rattle.mmtel_desk.specs.Desks.{token};
 ghost use Rattle.mmtel_desk.specs.Invitations.{has_said, once_cancelled};
@@ -27,10 +27,10 @@ use mmtel_transaction::TKey;
 use mmtel_types::{Moment, Side};
 use std::alloc::Global;
 
-/// An INVITE that was relayed to the other side, and the side that it is of.
+/// An INVITE that was relayed to the other side, and the side that sent it.
 #[derive(Drop)]
 pub struct RelayedInvite {
-    /// The side that asked.
+    /// The side that sent it.
     pub side: Side,
     /// Its INVITE.
     pub invite: Reinvite,
@@ -52,7 +52,7 @@ pub fn sent_in(alloc: Global, dialogue: &Dialogue, branch: Text) -> Result<Invit
     }
 }
 
-/// The INVITE of which a provisional response came by this client transaction, cancelled where a CANCEL waited for it.
+/// The INVITE after a provisional response in this client transaction; it is cancelled if a CANCEL waited for that response.
 fn proceeded(key: TKey, cancel_due: bool, invitation: Invitation) -> Invitation
     ensures { result ≡ (if cancel_due then once_cancelled (has_said key invitation) else has_said key invitation) }
 {
@@ -64,7 +64,7 @@ fn proceeded(key: TKey, cancel_due: bool, invitation: Invitation) -> Invitation
 }
 
 impl Reinvite {
-    /// The INVITE once a provisional response came by this client transaction.
+    /// The INVITE after a provisional response in this client transaction.
     fn proceed(self, key: TKey) -> Reinvite
         ensures { result ≡ proceeding key self }
     {
@@ -82,7 +82,7 @@ impl Reinvite {
         }
     }
 
-    /// The INVITE once the side that asked cancelled it.
+    /// The INVITE after the side that sent it cancelled it.
     fn cancel(self) -> Reinvite
         ensures { result ≡ cancelling self }
     {
@@ -116,7 +116,7 @@ impl Reinvite {
     }
 }
 
-/// Lets both legs go, and the INVITE that was relayed, whose call is given up.
+/// Spends both legs of a call that is given up, and the INVITE that was relayed.
 pub fn give_up_asking(x: Pair, asked: RelayedInvite, at: Moment) {
     drop(asked);
     x.give_up(at);
@@ -133,7 +133,7 @@ impl Pair {
         }
     }
 
-    /// Sends a side the request of the other one, with these lines of it. Gives it as it was sent.
+    /// Sends to a side the request of the other one, with these header fields. Returns it as it was sent.
     pub fn ask(
         &mut self,
         step: &Step<'_>,
@@ -161,7 +161,7 @@ impl Pair {
 }
 
 impl Call {
-    /// What goes out where a side asks: 100 to it, and its INVITE to the other side. Gives that INVITE.
+    /// Sends what is due on an INVITE of a side: 100 to that side, and the INVITE to the other one. Returns the INVITE that was sent.
     fn pass_invite(
         &self,
         step: &Step<'_>,
@@ -186,7 +186,7 @@ impl Call {
         invited
     }
 
-    /// A side of a talking call sends an INVITE.
+    /// A side of a stable call sends an INVITE.
     pub fn invite_across(
         &mut self,
         step: &Step<'_>,
@@ -221,7 +221,7 @@ impl Call {
         }
     }
 
-    /// A provisional response of the other side.
+    /// Processes a provisional response of the other side.
     fn hear_proceeding_across(
         &mut self,
         step: &Step<'_>,
@@ -242,7 +242,7 @@ impl Call {
         cancelled
     }
 
-    /// A response of the other side.
+    /// Processes a response of the other side.
     pub fn hear_response_across(
         &mut self,
         step: &Step<'_>,
@@ -270,7 +270,7 @@ impl Call {
         self.take_final_across(step, x, asked, key, m, desk)
     }
 
-    /// The side that asked cancels its INVITE.
+    /// The side that sent the INVITE cancels it.
     pub fn cancel_across(
         &mut self,
         step: &Step<'_>,

@@ -1,4 +1,4 @@
-//! Reliable provisional answers of an offered call, and their PRACKs (RFC 3262).
+//! Reliable provisional responses in an offered call, and their PRACKs (RFC 3262).
 ghost use Rattle.std.specs.Prelude.{◌≡◌, ◌++◌, if◌then◌else◌, true, is_some, Some, IfOk, OnOk, codes};
 ghost use Rattle.std.specs.Option.{option_copied};
 ghost use Rattle.mmtel_desk.specs.Desks.{token};
@@ -25,10 +25,10 @@ use mmtel_transaction::{DueWord, Emit, TKey};
 use mmtel_types::Side;
 use std::alloc::Global;
 
-/// How long an answer waits for its PRACK (RFC 3262 §3: 64*T1), in milliseconds.
+/// How long a reliable response waits for its PRACK (RFC 3262 §3: 64*T1), in milliseconds.
 const PRACK_TIME: u64 = 32_000;
 
-/// What a PRACK acknowledges, where that can be read. It takes no memory.
+/// What a PRACK acknowledges, if its RAck can be parsed. It allocates nothing.
 fn acknowledged_by(m: &Hearing) -> Option<Rack>
     ensures { result ≡ acknowledged_by m.now }
 {
@@ -42,7 +42,7 @@ fn acknowledged_by(m: &Hearing) -> Option<Rack>
 }
 
 impl Tried {
-    /// Whether a response is of the early dialog, if there is one: each dialog has numbers of its own (RFC 3262 §4).
+    /// Whether a response is of the early dialog, if there is one: each dialog has RSeq numbers of its own (RFC 3262 §4).
     fn is_of_early(&self, alloc: Global, m: &Hearing) -> Result<bool, NoMemory>
         ensures { IfOk result (λ yes. yes ≡ is_of_early self.now m.now) }
     {
@@ -59,7 +59,7 @@ impl Tried {
 }
 
 impl Call {
-    /// The own number under which an answer of this number is relayed, if it is.
+    /// The own number under which a response of this number is relayed, if it is.
     pub fn own_for(
         &mut self,
         alloc: Global,
@@ -77,7 +77,7 @@ impl Call {
         Ok(self.acks.relay(rseq))
     }
 
-    /// What the caller is shown of a response that is relayed under this number.
+    /// The header fields that the caller gets of a response that is relayed under this number.
     fn lines_under(
         &self,
         step: &Step<'_>,
@@ -135,7 +135,7 @@ impl Call {
         relayed
     }
 
-    /// Arms the time for which that answer waits for its PRACK.
+    /// Arms the deadline until which that response waits for its PRACK.
     pub fn await_prack(&self, step: &Step<'_>, own: u32, desk: &mut Desk) -> Result<(), NoMemory>
         ensures { OnOk result (desk.new ≡ awaiting_prack own step.now.present.at self.now desk.old) }
     {
@@ -149,7 +149,7 @@ impl Call {
         )
     }
 
-    /// Answers a PRACK that acknowledges nothing that waits.
+    /// Refuses a PRACK that acknowledges no response that waits.
     pub fn refuse_prack(
         &self,
         step: &Step<'_>,
@@ -166,7 +166,7 @@ impl Call {
         self.reply_to(step, key, m, code, desk)
     }
 
-    /// What the target is shown of a PRACK, which acknowledges its answer of this number to the INVITE of that one.
+    /// The header fields that the target gets of a PRACK, which acknowledges its response of this number to the INVITE with that CSeq number.
     fn lines_of_prack(
         &self,
         step: &Step<'_>,
@@ -197,7 +197,7 @@ impl Call {
         }
     }
 
-    /// A PRACK goes to the target: it acknowledges the answer that the server gave this own number, and the target that one.
+    /// Relays a PRACK to the target: it acknowledges the response to which the server gave this own number, and the target's response of that number.
     fn pass_prack(
         &self,
         step: &Step<'_>,
@@ -224,7 +224,7 @@ impl Call {
         sent
     }
 
-    /// The callee's number of the answer that a PRACK acknowledges, which waits no more.
+    /// The target's number of the response that a PRACK acknowledges; that response no longer waits.
     fn answer_named(&mut self, x: &Trial, rack: &Rack) -> Option<u32>
         ensures answer { result ≡ answer_named x.now self.old rack.now }
         ensures call { self.new
@@ -237,7 +237,7 @@ impl Call {
         self.acks.acked(rack)
     }
 
-    /// A PRACK of the caller that can be read.
+    /// Processes a PRACK of the caller whose RAck can be parsed.
     fn hear_rack(
         &mut self,
         step: &Step<'_>,
@@ -273,7 +273,7 @@ impl Call {
         }
     }
 
-    /// A PRACK that acknowledges nothing that waits, in an offered call.
+    /// Refuses a PRACK, in an offered call, that acknowledges no response that waits.
     pub fn pass_over_prack(
         &mut self,
         step: &Step<'_>,
@@ -295,7 +295,7 @@ impl Call {
         refused
     }
 
-    /// A PRACK of the caller.
+    /// Processes a PRACK of the caller.
     pub fn hear_prack(
         &mut self,
         step: &Step<'_>,
@@ -320,7 +320,7 @@ impl Call {
 }
 
 impl Trial {
-    /// Sends the target a request of the caller within the early dialog, with these lines of it. Gives it as it was sent.
+    /// Sends to the target a request of the caller within the early dialog, with these header fields. Returns it as it was sent.
     pub fn ask_early(
         &mut self,
         step: &Step<'_>,

@@ -1,4 +1,4 @@
-//! Responses, silence and deadlines of a call that is offered to a target and not answered.
+//! Responses, timeouts and deadlines of a call that is offered to a target and not answered.
 ghost use Rattle.std.specs.Prelude.{◌≡◌, ◌≤◌, None, Some, OnOk};
 ghost use Rattle.std.specs.Option.{option_copied};
 ghost use Rattle.mmtel_desk.specs.Invitations.{once_cancelled};
@@ -28,7 +28,7 @@ use mmtel_transaction::{DueWord, TKey};
 use mmtel_types::Cause;
 
 impl Call {
-    /// An attempt of this account ended so, its leg with it; a final that was heard may be handed on.
+    /// An attempt of this account ended in this way, and its leg ends with it; a final response that was received may be relayed.
     fn go_on_from(
         &mut self,
         step: &Step<'_>,
@@ -61,7 +61,7 @@ impl Call {
         }
     }
 
-    /// The attempt ended so; a final that was heard may be handed on.
+    /// The attempt ended in this way; a final response that was received may be relayed.
     fn go_on_after(
         &mut self,
         step: &Step<'_>,
@@ -89,7 +89,7 @@ impl Call {
         gone
     }
 
-    /// The same, said of the call as it was offered.
+    /// The same, where the call before the step is in its phase `Offered`.
     fn go_on_offered(
         &mut self,
         step: &Step<'_>,
@@ -108,7 +108,7 @@ impl Call {
         self.go_on_after(step, x, how, None, desk)
     }
 
-    /// The attempt ended by a final of this status, which was heard and may be handed on.
+    /// The attempt ended by a final response of this status, which was received and may be relayed.
     fn go_on_from_final(
         &mut self,
         step: &Step<'_>,
@@ -156,7 +156,7 @@ impl Call {
         gone
     }
 
-    /// A final from 300 of the target.
+    /// Processes a final response from 300 of the target.
     fn hear_failure(
         &mut self,
         step: &Step<'_>,
@@ -191,7 +191,7 @@ impl Call {
         }
     }
 
-    /// A response of the target.
+    /// Processes a response of the target.
     pub fn hear_response(
         &mut self,
         step: &Step<'_>,
@@ -222,7 +222,7 @@ impl Call {
         self.hear_failure(step, x, key, m, code, desk)
     }
 
-    /// No response came from the target at all.
+    /// The INVITE to the target timed out without any response.
     pub fn hear_silence(
         &mut self,
         step: &Step<'_>,
@@ -245,7 +245,7 @@ impl Call {
         self.go_on_offered(step, x, &how, desk)
     }
 
-    /// An attempt of this account, which ended so, is left with its INVITE: CANCEL to the target where that is due, and the call goes on.
+    /// An attempt of this account, which ended in this way, and its INVITE are abandoned: CANCEL to the target if that is due, and the call continues.
     fn leave_for_next(
         &mut self,
         step: &Step<'_>,
@@ -278,7 +278,7 @@ impl Call {
         gone
     }
 
-    /// The time of an attempt passed: CANCEL to the target, and the call goes on.
+    /// A deadline of an attempt fired: CANCEL to the target, and the call continues.
     fn time_out(
         &mut self,
         step: &Step<'_>,
@@ -311,7 +311,7 @@ impl Call {
         gone
     }
 
-    /// The same, said of the call as it was offered.
+    /// The same, where the call before the step is in its phase `Offered`.
     fn time_out_offered(
         &mut self,
         step: &Step<'_>,
@@ -330,7 +330,7 @@ impl Call {
         self.time_out(step, x, how, desk)
     }
 
-    /// A deadline of the call came, which is that of this attempt or has nothing to say.
+    /// A deadline of the call fired; it is that of this attempt, or has no effect.
     pub fn ring_out(
         &mut self,
         step: &Step<'_>,

@@ -1,4 +1,4 @@
-//! What a call sends: what it relays to the caller, and the answers to requests.
+//! What a call sends: what it relays to the caller, and its own responses to requests.
 ghost use Rattle.std.specs.Prelude.{◌≡◌, [], OnOk};
 ghost use Rattle.std.specs.Option.{option_copied};
 ghost use Rattle.mmtel_desk.specs.Sending.{answered};
@@ -22,7 +22,7 @@ use mmtel_transaction::TKey;
 use mmtel_types::Side;
 
 impl Call {
-    /// Answers a request of a side with a status alone.
+    /// Sends a response of this status, without further header fields, to a request of a side.
     pub fn reply_to(
         &self,
         step: &Step<'_>,
@@ -43,7 +43,7 @@ impl Call {
         )
     }
 
-    /// Answers it with named lines.
+    /// Sends a response with these further header fields to it.
     fn answer_to(
         &self,
         step: &Step<'_>,
@@ -66,7 +66,7 @@ impl Call {
         desk.answer(step.alloc, step.sip(), key, request, tag, own)
     }
 
-    /// Answers the INVITE that opened the call with a status alone.
+    /// Sends a response of this status, without further header fields, to the INVITE that opened the call.
     pub fn tell_caller(&self, step: &Step<'_>, code: u16, desk: &mut Desk) -> Result<(), NoMemory>
         ensures { OnOk result (desk.new ≡ told_caller step.now.setting.now self.now code desk.old) }
     {
@@ -74,7 +74,7 @@ impl Call {
         self.reply_to(step, opening.key, &opening.invite, code, desk)
     }
 
-    /// Tells the caller of a diversion that was made, where the forward says so (TS 24.604 §4.5.2.6).
+    /// Notifies the caller of a diversion that was made, if the forward requires that (TS 24.604 §4.5.2.6).
     pub fn tell_of(
         &self,
         step: &Step<'_>,
@@ -94,7 +94,7 @@ impl Call {
         }
     }
 
-    /// Answers the INVITE that opened the call with a status and these lines of History-Info.
+    /// Sends a response of this status with these header fields of History-Info to the INVITE that opened the call.
     fn answer_with(
         &self,
         step: &Step<'_>,
@@ -160,7 +160,7 @@ impl Call {
         relayed
     }
 
-    /// Answers a request that its leg did not hear.
+    /// Sends a response to a request that its leg refused.
     pub fn refuse_unheard(
         &self,
         step: &Step<'_>,
@@ -183,7 +183,7 @@ impl Call {
         }
     }
 
-    /// Answers OPTIONS (RFC 3261 §11.2).
+    /// Sends the response to OPTIONS (RFC 3261 §11.2).
     fn answer_options(
         &self,
         step: &Step<'_>,
@@ -201,7 +201,7 @@ impl Call {
         answered
     }
 
-    /// Answers a request that no row of the step table has.
+    /// Sends the response to a request for which the step table has no transition.
     pub fn answer_unlisted(
         &self,
         step: &Step<'_>,

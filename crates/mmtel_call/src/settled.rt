@@ -1,4 +1,4 @@
-//! Whether a call lives, whether anything may still be heard of it, and which requests are its.
+//! Whether a call is live, whether anything may still be received for it, and which requests belong to it.
 ghost use Rattle.std.specs.Prelude.{◌≡◌};
 ghost use Rattle.mmtel_call.specs.Settled.{has_heard, has_sent, is_over_in, is_settled};
 
@@ -21,7 +21,7 @@ impl Call {
         }
     }
 
-    /// Whether the call is over and no INVITE of it may be heard of any more.
+    /// Whether the call is over and nothing more may be received for any INVITE of it.
     #[tactic(auto, unfolding(crate::specs::Settled::is_settled))]
     pub fn is_settled(&self) -> bool
         ensures { result ≡ is_settled self.now }
@@ -29,8 +29,8 @@ impl Call {
         self.is_over() && self.loose.items().len() == 0 && self.taken.items().len() == 0
     }
 
-    /// Whether a request of the call that may be answered has this branch, behind its cookie: the INVITE that it waits on, one that was left, one that had a 2xx, or what is in
-    /// flight.
+    /// Whether a request of the call to which a response may still be received has this branch, without its cookie: the INVITE for which the call waits, an abandoned INVITE, one
+    /// that had a 2xx, or a request that is in flight.
     #[tactic(auto, unfolding(crate::specs::Settled::has_sent))]
     pub fn has_sent(&self, branch: &[u8]) -> bool
         ensures { result ≡ has_sent branch.now self.now }
@@ -41,7 +41,7 @@ impl Call {
             || flight_at(self.flights.items(), branch).is_some()
     }
 
-    /// Whether an INVITE of the call that had an answer had it by this client transaction.
+    /// Whether this is the client transaction of an abandoned INVITE of the call, or of one that had a 2xx, as far as that is known from a response.
     #[tactic(auto, unfolding(crate::specs::Settled::has_heard))]
     pub fn has_heard(&self, key: TKey) -> bool
         ensures { result ≡ has_heard key self.now }

@@ -1,4 +1,4 @@
-//! What a call hears.
+//! The signals that a call receives.
 
 use mmtel_answers::Hearing;
 use mmtel_scan::Text;
@@ -8,15 +8,15 @@ use mmtel_types::Side;
 /// A request of a side in its dialog, other than ACK, and the server transaction that it opened.
 #[derive(Drop)]
 pub struct SideRequest {
-    /// Whose it is.
+    /// The side that sent it.
     pub side: Side,
     /// Its server transaction.
     pub key: TKey,
-    /// The request as it was heard.
+    /// The request as it was received.
     pub hearing: Hearing,
 }
 
-/// What a call hears once it is open.
+/// A signal that a call receives after it was opened.
 #[derive(Drop)]
 pub enum Signal {
     /// A request of a side in its dialog, other than ACK; it opened this server transaction.
@@ -25,7 +25,7 @@ pub enum Signal {
         key: TKey,
         request: Hearing,
     },
-    /// An ACK of a side that is of a 2xx.
+    /// An ACK of a side for a 2xx.
     Ack {
         side: Side,
         ack: Hearing,
@@ -36,21 +36,21 @@ pub enum Signal {
         cancel: Hearing,
         invite: TKey,
     },
-    /// A response that this client transaction heard.
+    /// A response that was received in this client transaction.
     Answer {
         key: TKey,
         response: Hearing,
     },
-    /// A request had no response at all and was given up: its branch, with the cookie, and its method.
+    /// A request timed out without any response: its branch, with the cookie, and its method.
     Silent {
         branch: Text,
         method: Text,
     },
-    /// A deadline came.
+    /// A deadline fired.
     Due {
         what: DueWord,
     },
-    /// The client transaction of a request that was answered has ended.
+    /// The client transaction of a request that got its final response has ended.
     Ended {
         key: TKey,
     },

@@ -1,4 +1,4 @@
-//! What an answered call does on each signal, by its stage.
+//! The transitions of an answered call on each signal, by its stage.
 ghost use Rattle.std.specs.Prelude.{◌≡◌, OnErr, OnOk};
 ghost use Rattle.mmtel_types.specs.declared.causes.Cause.TheVariants.{Ended as HasEnded};
 ghost use Rattle.mmtel_call.specs.Calls.{Over, Stood};
@@ -25,7 +25,7 @@ use mmtel_transaction::{DueWord, TKey};
 use mmtel_types::Side;
 
 impl Stage {
-    /// Which INVITE stands in the way of one of this side.
+    /// Which INVITE is pending when this side sends one.
     fn busy(&self, side: Side) -> InFlight
         ensures { result ≡ busy_in self.now side }
     {
@@ -43,7 +43,7 @@ impl Stage {
 }
 
 impl Pair {
-    /// Takes note of a request of a side, or refuses it.
+    /// Records the CSeq number of a request of a side, or refuses it.
     fn hear(&mut self, side: Side, m: &Hearing, busy: InFlight) -> Result<(), DialogueFault>
         ensures answer { result ≡ says (leg_of side self.old) m.now busy }
         ensures heard { OnOk result (self.new ≡ with_leg side (having_heard (leg_of side self.old) m.now) self.old) }
@@ -57,7 +57,7 @@ impl Pair {
 }
 
 impl Stage {
-    /// Whether a deadline is that of the 2xx which waits for its ACK, or else the expiry of the session, where so many 2xx went to a side.
+    /// Whether a deadline is that of the 2xx which waits for its ACK, or the expiry of the session, where this many 2xx were relayed to a side.
     pub fn is_due(&self, successes: u64, what: DueWord) -> bool
         ensures { result ≡ is_due_at self.now successes what }
     {
@@ -69,7 +69,7 @@ impl Stage {
         }
     }
 
-    /// Whether an ACK of a side is that of the 2xx which waits for it.
+    /// Whether an ACK of a side belongs to the 2xx that waits for it.
     fn is_ack(&self, side: Side, m: &Hearing) -> bool
         ensures { result ≡ is_ack_at self.now side m.now }
     {
@@ -81,7 +81,7 @@ impl Stage {
         }
     }
 
-    /// Whether the side has left before.
+    /// Whether the side has left already.
     fn has_left(&self, side: Side) -> bool
         ensures { result ≡ has_left self.now side }
     {
@@ -95,7 +95,7 @@ impl Stage {
 }
 
 impl Call {
-    /// The call stays where it stood.
+    /// The phase of the call is unchanged.
     pub fn stay(&mut self, phase: Phase) -> Result<(), NoMemory>
         requires { self.old.phase ≡ Over HasEnded }
         ensures { self.new ≡ record self.old { phase = phase } }
@@ -104,7 +104,7 @@ impl Call {
         Ok(())
     }
 
-    /// The same, and lets a request go of which no more is kept.
+    /// The same, and drops a request that is not kept.
     fn pass_over(&mut self, phase: Phase, request: SideRequest)
         requires { self.old.phase ≡ Over HasEnded }
         ensures { self.new ≡ record self.old { phase = phase } }
@@ -113,7 +113,7 @@ impl Call {
         self.put_phase(phase);
     }
 
-    /// An INVITE of a side that its leg heard.
+    /// Processes an INVITE of a side that its leg accepted.
     fn take_invite(
         &mut self,
         step: &Step<'_>,
@@ -147,7 +147,7 @@ impl Call {
         }
     }
 
-    /// A side leaves, whose BYE was answered.
+    /// A side leaves, whose BYE got its 200.
     fn leave_by(
         &mut self,
         step: &Step<'_>,
@@ -184,7 +184,7 @@ impl Call {
         }
     }
 
-    /// A BYE of a side that its leg heard.
+    /// Processes a BYE of a side that its leg accepted.
     fn take_bye(
         &mut self,
         step: &Step<'_>,
@@ -213,7 +213,8 @@ impl Call {
         left
     }
 
-    /// A request of a side that its leg heard, other than INVITE, BYE and UPDATE: a PRACK, which acknowledges nothing here, or what has no row.
+    /// Processes a request of a side that its leg accepted, other than INVITE, BYE and UPDATE: a PRACK, which acknowledges nothing here, or a request for which there is no
+    /// transition.
     fn take_other_request(
         &mut self,
         step: &Step<'_>,
@@ -240,7 +241,7 @@ impl Call {
         answered
     }
 
-    /// A request of a side that its leg heard.
+    /// Processes a request of a side that its leg accepted.
     fn take_request(
         &mut self,
         step: &Step<'_>,
@@ -271,7 +272,7 @@ impl Call {
         self.take_other_request(step, Phase::Stood(x, stage), request, desk)
     }
 
-    /// A request of a side of an answered call.
+    /// Processes a request of a side of an answered call.
     pub fn hear_request_at(
         &mut self,
         step: &Step<'_>,
@@ -299,7 +300,7 @@ impl Call {
         }
     }
 
-    /// The ACK of the 2xx that waited for it.
+    /// Processes the ACK of the 2xx that waited for it.
     fn take_ack(
         &mut self,
         step: &Step<'_>,
@@ -332,7 +333,7 @@ impl Call {
         }
     }
 
-    /// An ACK of a side of an answered call.
+    /// Processes an ACK of a side of an answered call.
     pub fn hear_ack_at(
         &mut self,
         step: &Step<'_>,
@@ -356,7 +357,7 @@ impl Call {
         self.stay(Phase::Stood(x, stage))
     }
 
-    /// A CANCEL in an answered call, which had its 200.
+    /// Processes a CANCEL in an answered call, which got its 200.
     pub fn hear_cancel_at(
         &mut self,
         step: &Step<'_>,
@@ -396,7 +397,7 @@ impl Call {
         }
     }
 
-    /// A response to the INVITE that was relayed.
+    /// Processes a response to the INVITE that was relayed.
     pub fn hear_response_at(
         &mut self,
         step: &Step<'_>,
@@ -434,7 +435,7 @@ impl Call {
         }
     }
 
-    /// No response came to this INVITE, which goes with the call.
+    /// This INVITE timed out, and is dropped with the call.
     fn end_by_silence(
         &mut self,
         step: &Step<'_>,
@@ -453,7 +454,7 @@ impl Call {
         heard
     }
 
-    /// No response came to the INVITE that was relayed.
+    /// The INVITE that was relayed timed out.
     pub fn hear_silence_at(
         &mut self,
         step: &Step<'_>,
@@ -483,7 +484,7 @@ impl Call {
         }
     }
 
-    /// No ACK came of the 2xx that waited for it, or the session expired.
+    /// The ACK for which a 2xx waited did not arrive, or the session expired.
     fn lapse(
         &mut self,
         step: &Step<'_>,
@@ -519,7 +520,7 @@ impl Call {
         }
     }
 
-    /// A deadline of an answered call came.
+    /// A deadline of an answered call fired.
     pub fn ring_out_at(
         &mut self,
         step: &Step<'_>,

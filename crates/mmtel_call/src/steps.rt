@@ -1,4 +1,4 @@
-//! The step table of a call: which INVITE a response answers, and what a call does on each signal, by its phase.
+//! The step table of a call: to which INVITE a response belongs, and the transition of a call on each signal, by its phase.
 ghost use Rattle.std.specs.Prelude.{◌≡◌, if◌then◌else◌, OnOk};
 ghost use Rattle.std.specs.Option.{option_copied};
 ghost use Rattle.mmtel_answers.specs.Said.{status_of};
@@ -23,7 +23,7 @@ use std::alloc::Global;
 use std::mem;
 
 impl Phase {
-    /// Whether the INVITE that the call waits on is of this branch.
+    /// Whether the INVITE for which the call waits has this branch.
     pub fn waits_on(&self, branch: &[u8]) -> bool
         ensures { result ≡ is_branch branch.now (current self.now) }
     {
@@ -42,7 +42,7 @@ impl Phase {
 }
 
 impl Call {
-    /// A request of a side in its dialog.
+    /// Processes a request of a side in its dialog.
     fn hear_request(
         &mut self,
         step: &Step<'_>,
@@ -70,7 +70,7 @@ impl Call {
         }
     }
 
-    /// An ACK of a side.
+    /// Processes an ACK of a side.
     fn hear_ack(
         &mut self,
         step: &Step<'_>,
@@ -91,7 +91,7 @@ impl Call {
         }
     }
 
-    /// A CANCEL.
+    /// Processes a CANCEL.
     fn hear_any_cancel(
         &mut self,
         step: &Step<'_>,
@@ -120,7 +120,7 @@ impl Call {
         }
     }
 
-    /// A response of the target that the call is offered to.
+    /// Processes a response of the target to which the call is offered.
     fn hear_response_offered(
         &mut self,
         step: &Step<'_>,
@@ -140,7 +140,7 @@ impl Call {
         self.hear_response(step, x, key, m, desk)
     }
 
-    /// A response to the INVITE that the call waits on.
+    /// Processes a response to the INVITE for which the call waits.
     fn hear_answer_of(
         &mut self,
         step: &Step<'_>,
@@ -163,7 +163,7 @@ impl Call {
         }
     }
 
-    /// No response came to the INVITE that the call waits on.
+    /// The INVITE for which the call waits timed out.
     fn hear_silence_of(&mut self, step: &Step<'_>, desk: &mut Desk) -> Result<(), NoMemory>
         ensures call { OnOk result (self.new
             ≡ (silence_in self.old.phase step.now.setting.now (standing step.now.present) self.old desk.old).call) }
@@ -178,7 +178,7 @@ impl Call {
         }
     }
 
-    /// A deadline of the call came.
+    /// A deadline of the call fired.
     fn hear_due(&mut self, step: &Step<'_>, what: DueWord, desk: &mut Desk) -> Result<(), NoMemory>
         ensures call { OnOk result (self.new
             ≡ (due_in self.old.phase step.now.setting.now (standing step.now.present) what self.old desk.old).call) }
@@ -193,7 +193,7 @@ impl Call {
         }
     }
 
-    /// A response, by the branch of the INVITE that it answers.
+    /// Processes a response, by the branch of the INVITE to which it belongs.
     fn hear_answer_to(
         &mut self,
         step: &Step<'_>,
@@ -218,7 +218,7 @@ impl Call {
         self.hear_other(step, key, m, branch, desk)
     }
 
-    /// Silence, by the branch of the INVITE that was given up.
+    /// Processes a timeout, by the branch of the INVITE that timed out.
     fn hear_silence_to(
         &mut self,
         step: &Step<'_>,
@@ -241,7 +241,7 @@ impl Call {
         self.hear_silence_other(step, branch, desk)
     }
 
-    /// A response.
+    /// Processes a response.
     fn hear_any_answer(
         &mut self,
         step: &Step<'_>,
@@ -267,11 +267,11 @@ impl Call {
         }
     }
 
-    /// Takes a step on what was heard, by the step table.
+    /// Takes a step on a signal, by the step table.
     ///
     /// # Errors
     ///
-    /// Want of memory alone; of the call and of the desk nothing is said then, but that the call can be given up.
+    /// Out of memory only; nothing is claimed of the call and the output then, except that the call can be given up.
     #[tactic(auto, unfolding(crate::specs::Table::step))]
     pub fn step(
         &mut self,
@@ -295,7 +295,7 @@ impl Call {
         }
     }
 
-    /// What is in flight has its answer, where the step leaves the attempt or ends the call.
+    /// Requests in flight get their final responses, where the step ends the attempt without a 2xx, or ends the call.
     fn dismiss_before(
         &mut self,
         alloc: Global,
@@ -314,7 +314,7 @@ impl Call {
         Ok(())
     }
 
-    /// What the step table has for a signal.
+    /// The transition that the step table has for a signal.
     #[tactic(auto, unfolding(crate::specs::Table::row))]
     fn hear_signal(
         &mut self,

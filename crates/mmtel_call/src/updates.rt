@@ -1,4 +1,4 @@
-//! UPDATE of either side (RFC 3311): it goes to the other side while the call rings in an early dialog, and while it talks; one at a time.
+//! UPDATE of either side (RFC 3311): it is relayed to the other side while the call rings in an early dialog, and while it is stable; one at a time.
 ghost use Rattle.std.specs.Prelude.{◌≡◌, true, IfOk, OnOk, codes};
 ghost use Rattle.std.specs.Option.{option_copied};
 ghost use Rattle.mmtel_desk.specs.Desks.{token};
@@ -33,7 +33,7 @@ impl Trial {
 }
 
 impl Call {
-    /// What the other side of this one, behind this peer, is shown of its UPDATE.
+    /// The header fields of the UPDATE of this side that are copied to the other side, behind this peer.
     fn lines_of_update(
         &self,
         step: &Step<'_>,
@@ -57,7 +57,7 @@ impl Call {
         )
     }
 
-    /// An UPDATE that is not relayed: it may be sent again later, or it crosses what the other side, or the server, has under way (RFC 3311 §5.2).
+    /// Refuses an UPDATE, which is not relayed: it may be repeated later, or it crosses a request that the other side, or the server, has pending (RFC 3311 §5.2).
     fn refuse_update(
         &mut self,
         step: &Step<'_>,
@@ -77,7 +77,7 @@ impl Call {
         refused
     }
 
-    /// An UPDATE goes to the other side of an offered call. Gives it as it was sent.
+    /// Relays an UPDATE to the other side of an offered call. Returns it as it was sent.
     fn pass_update_early(
         &self,
         step: &Step<'_>,
@@ -111,7 +111,7 @@ impl Call {
         }
     }
 
-    /// The same, and it is in flight.
+    /// The same, and it is in flight afterwards.
     fn update_early(
         &mut self,
         step: &Step<'_>,
@@ -143,7 +143,7 @@ impl Call {
         }
     }
 
-    /// An UPDATE of a side of an offered call.
+    /// Processes an UPDATE of a side of an offered call.
     pub fn hear_update(
         &mut self,
         step: &Step<'_>,
@@ -169,7 +169,7 @@ impl Call {
         }
     }
 
-    /// An UPDATE goes to the other side of a talking call. Gives it as it was sent.
+    /// Relays an UPDATE to the other side of a stable call. Returns it as it was sent.
     fn pass_update(
         &self,
         step: &Step<'_>,
@@ -194,7 +194,7 @@ impl Call {
         sent
     }
 
-    /// The same, and it is in flight.
+    /// The same, and it is in flight afterwards.
     fn update_across(
         &mut self,
         step: &Step<'_>,
@@ -225,7 +225,7 @@ impl Call {
         }
     }
 
-    /// An UPDATE of a side of a talking call.
+    /// Processes an UPDATE of a side of a stable call.
     fn hear_update_talking(
         &mut self,
         step: &Step<'_>,
@@ -250,7 +250,7 @@ impl Call {
         }
     }
 
-    /// An UPDATE of a side of an answered call.
+    /// Processes an UPDATE of a side of an answered call.
     pub fn hear_update_at(
         &mut self,
         step: &Step<'_>,

@@ -1,4 +1,4 @@
--- What a map of counts has, after one was put in or taken out.
+-- The contents of a map of counts after one entry was inserted or removed.
 use Rattle.std.proofs.Common.{◌≡◌, ℕ, ◌+◌, ◌∷◌, [], List, Bool, true, false, Option, Some, cond, refl, ap, sym, arith, ◌∙◌}
 use Rattle.std.proofs.lemmas.Bool.Decides.{nat_tests}
 use Rattle.std.specs.Prelude.{◌==◌, ◌-◌}
@@ -12,7 +12,7 @@ use Rattle.mmtel_call_decisions.specs.Busy.{calls_of, one_of, or_none}
 abbrev looked_up : List (ℕ × ℕ) → ℕ → Option ℕ
 looked_up es n = lookup (λ k. is_eq (nat_cmp n k)) es
 
--- the new entries answer as the old ones, but for this number
+-- the new entries give the same values as the old ones, except for this number
 abbrev Puts : (old new : List (ℕ × ℕ)) → ℕ → Option ℕ → Type 0
 Puts old new a count = (n : ℕ) → looked_up new n ≡ cond (is_eq (nat_cmp a n)) count (looked_up old n)
 

@@ -4,7 +4,7 @@ use Rattle.std.specs.FinMap as map
 use Rattle.std.specs.Ordering.{nat_cmp}
 use Rattle.mmtel_types.specs.declared.numbers.Account.{Account}
 
--- by the numbers of accounts: one that is not here is in no call
+-- keyed by account number: an account that has no entry is in no call
 abbrev pub Counts : Type 0
 Counts = map.FinMap nat_cmp ℕ
 
@@ -12,14 +12,14 @@ abbrev pub or_none : Option ℕ → ℕ
 or_none None = 0
 or_none (Some count) = count
 
--- how many calls keep the account of this number busy
+-- the number of calls that keep the account of this number busy
 abbrev pub calls_of : Counts → ℕ → ℕ
 calls_of counts number = or_none (map.get counts number)
 
--- the same in 32 bits
+-- the same, limited to 32 bits
 abbrev pub live_of : Counts → ℕ → ℕ
 live_of counts number = min (calls_of counts number) (2 ^ 32 - 1)
 
--- one for the number of this account, and none for any other
+-- one for the number of this account, zero for any other
 abbrev pub one_of : Account → ℕ → ℕ
 one_of account number = if account.0 == number then 1 else 0

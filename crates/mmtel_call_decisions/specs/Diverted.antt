@@ -5,17 +5,17 @@ use Rattle.mmtel_history.specs.declared.entries.Entry.{Entry}
 use Rattle.mmtel_precedence.specs.Services.{DueDiversion}
 
 pub record Diverted : Type 0 where
-  -- how many diversions the bound leaves
+  -- how many more diversions the bound allows
   pub left : ℕ
-  -- the diversions that it came with, and those that were made
+  -- the diversions with which the call came, and those that were made
   pub count : ℕ
   -- its History-Info
   pub history : List Entry
-  -- what the caller is not told of the last diversion: who diverted, and where to
+  -- what the caller is not notified of in the last diversion: the account that diverted, and the new target
   pub hides_diverting : Bool
   pub hides_target : Bool
 
--- one more was made, from this URI to this one, and so many are left
+-- after one more diversion from this URI to this one, after which this many are left
 abbrev pub diverted_to : (from uri : List ℕ) → (left : ℕ) → DueDiversion → Diverted → Diverted
 diverted_to from uri left due d = record {
   left = left;

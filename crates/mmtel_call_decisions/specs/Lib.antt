@@ -1,4 +1,4 @@
--- What public clauses cite: what a decision is given, what is known of a call, and what is decided of it.
+-- What public clauses cite: the input of a decision, what is known of a call, and what is decided of it.
 pub mod Busy
 pub mod Diverted
 pub mod Site

@@ -1,4 +1,4 @@
--- What is known of a call as it opens (RFC 3261 §12.1.1, RFC 3323 §4.2, RFC 5502 §4, TS 24.611 §4.5.2): it is read of the INVITE and of the record of the account that is
+-- What is known of a call as it opens (RFC 3261 §12.1.1, RFC 3323 §4.2, RFC 5502 §4, TS 24.611 §4.5.2): it is read from the INVITE and from the record of the account that is
 -- served as the caller.
 use Rattle.std.specs.Prelude.{ℕ, ◌-◌, false, if◌then◌else◌, Option, List, [], codes, is_ok}
 use Rattle.std.specs.Option.{option_map, unwrap_or}
@@ -28,7 +28,7 @@ use Rattle.mmtel_call_decisions.specs.declared.openings.Opening.{Opening}
 abbrev pub origin_sheet : Standing → Served → Option Sheet
 origin_sheet now served = option_map (sheet_at now) served.origin
 
--- what is known of the call, where its caller's dialog has this tag of the server
+-- what is known of the call, where the server's tag in the caller's dialog is this one
 abbrev pub opening_of : Site → Standing → (tag : List ℕ) → Arrival → Opening
 opening_of site now tag a = record {
   number = a.number;
@@ -44,11 +44,11 @@ opening_of site now tag a = record {
   routes = kept_routes site.sip a.invite.heard.routes;
 }
 
--- its History-Info; nothing is kept of values that cannot be read, which no message has that was read
+-- its History-Info; values that cannot be parsed are not kept, but no message that was read has such values
 abbrev pub received_list : Said → List Entry
 received_list m = if is_ok (reading (line_texts (codes "History-Info") m.heard.lines)) then m.heard.history else []
 
--- the bound counts what it tells of earlier diversions
+-- before any diversion is made: the bound counts the earlier diversions that this History-Info contains
 abbrev pub undiverted : (bound : ℕ) → List Entry → Diverted
 undiverted bound history = record {
   left = bound - diversions_in history;
@@ -60,13 +60,13 @@ undiverted bound history = record {
 
 -- ---- its first target
 
--- where a Request-URI names no target, there is nowhere to go
+-- if a Request-URI names no target, the call cannot be sent anywhere: its target is a tel URI without digits
 abbrev pub nowhere : Target
 nowhere = record { uri = Tel [] []; of_number = false }
 
 abbrev pub first_of : Opening → Target
 first_of o = unwrap_or (first_target (request_uri o.invite.heard.start)) nowhere
 
--- what refuses the call
+-- the cause that refuses the call, if any
 abbrev pub refusal_of : Site → (at : ℕ) → Opening → Option Cause
 refusal_of site at o = refusal_by o.invite.heard.wants o.served o.sheet (of_target site o at (first_of o).uri)

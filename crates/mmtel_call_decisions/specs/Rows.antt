@@ -1,4 +1,4 @@
--- The rows that the meters of a call give once it is over, in the order begun (TS 32.260 §5).
+-- The CDRs that the meters of a call give once it is over, in the order in which the parts began (TS 32.260 §5).
 use Rattle.std.specs.Prelude.{ℕ, Option, Some, None, List, ◌++◌, map, option_to_list}
 use Rattle.mmtel_charging.specs.Meters.{Noted, row_of}
 use Rattle.mmtel_charging.specs.declared.rows.Kind.{Kind}
@@ -12,25 +12,25 @@ abbrev pub with_answer : Option ℕ → Noted → Noted
 with_answer None meter = meter
 with_answer (Some at) meter = record meter { answered = Some at }
 
--- when the part of a past meter was answered: that of an account which was reached and did not answer never was
+-- the moment of the answer in a past part; the part of an account that was reached and did not answer has none
 abbrev pub past_answer : Kind → Option ℕ → Option ℕ
 past_answer Terminating answered = None
 past_answer Origin answered = answered
 past_answer Diversion answered = answered
 past_answer Participant answered = answered
 
--- the rows of a meter that lies with the past ones, and of that of the target which is left last
+-- the CDR of a meter among the past ones, and of the meter of the last target
 unfoldable pub past_row : Ending → Noted → Row
 past_row end meter = row_of (with_answer (past_answer meter.kind end.answered) meter) end.at end.holds end.cause
 
 unfoldable pub last_row : Ending → Noted → Row
 last_row end meter = row_of (with_answer end.answered meter) end.at end.holds end.cause
 
--- a call that was answered has ended, whatever ended it
+-- a call that was answered has the cause `Ended`, whatever ended it
 abbrev pub cause_by : Option ℕ → Cause → Cause
 cause_by None cause = cause
 cause_by (Some at) cause = Ended
 
--- the rows: the caller's, those of what is past, and that of the target which is left last
+-- the CDRs: the caller's, those of the past parts, and that of the last target
 abbrev pub rows_by : Ending → List Noted → (first last : Option Noted) → List Row
 rows_by end past first last = map (past_row end) (option_to_list first) ++ map (past_row end) past ++ map (last_row end) (option_to_list last)

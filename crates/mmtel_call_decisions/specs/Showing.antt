@@ -1,4 +1,4 @@
--- Which lines of a side's message the other side is shown (RFC 3325 §5 and §7, RFC 3323 §5.1), and what a 181 tells of diversions (TS 24.604 §4.5.2.6).
+-- Which header fields of a side's message are copied to the other side (RFC 3325 §5 and §7, RFC 3323 §5.1), and what a 181 contains of diversions (TS 24.604 §4.5.2.6).
 use Rattle.std.specs.Prelude.{◌==◌, Bool, false, if◌then◌else◌, Option, Some, None, List}
 use Rattle.mmtel_answers.specs.Said.{Said, status_of}
 use Rattle.mmtel_history.specs.HistoryInfo.{told_to_caller}
@@ -17,12 +17,12 @@ use Rattle.mmtel_call_decisions.specs.Site.{Site, trusts}
 use Rattle.mmtel_call_decisions.specs.declared.openings.Opening.{Opening}
 use Rattle.mmtel_call_decisions.specs.declared.openings.Service.{Service}
 
--- untrusted peers see no entry of History-Info as it is (RFC 7044 §10.1)
+-- every entry of History-Info is masked for untrusted peers (RFC 7044 §10.1)
 abbrev pub masks_all : Opening → Bool
 masks_all o = o.invite.heard.wants.history
 
--- who sees what of a side's message: the caller is restricted for the whole call, the callee by its own message and the record of its attempt; each side is shown the other
--- by the record of the account that is served there
+-- the facts that decide what of a side's message is copied to the other side: the caller is restricted for the whole call, the callee by its own message and by the record of its
+-- attempt; the identity of a side is presented to the other side according to the record of the account that is served there
 abbrev pub facing : Opening → Option Service → Side → Said → Facing
 facing o service Caller m = record {
   from_trusted = m.heard.trusted;
@@ -41,24 +41,24 @@ facing o service Callee m = record {
   timer = false;
 }
 
--- the list as a 181 tells it, of the last diversion
+-- the list as it is in the 181 for the last diversion
 abbrev pub told_list : Diverted → List Entry
 told_list d = told_to_caller d.hides_diverting d.hides_target d.history
 
--- the call's list as it goes with a message
+-- the call's list as it is in the message that is sent
 abbrev pub list_for : Diverted → Said → List Entry
 list_for d m = if status_of m.heard.start == 181 then told_list d else d.history
 
--- and whether what a session says is passed on
+-- the same, and whether the header fields of session timers are copied
 abbrev pub facing_at : Site → Opening → Option Service → Side → Said → Facing
 facing_at site o service side m = record (facing o service side m) { timer = site.timer }
 
--- the lines of a side's message that are passed on to a peer
+-- the header fields of a side's message that are copied to a peer
 unfoldable pub shown_to : Site → Opening → Diverted → Option Service → Side → Peer → Said → List Line
 shown_to site o d service side peer m = shown_lines (facing_at site o service side m) (trusts site peer) (list_for d m) m.heard.start m.heard.lines
 
--- the lines of the INVITE that opened the call which the target of an attempt is shown: its provisional responses may be reliable (RFC 3262 §3), where those of an INVITE within
--- the call stay here, and would wait for a PRACK in vain
+-- the header fields of the INVITE that opened the call which are copied to the target of an attempt: provisional responses to it may be reliable (RFC 3262 §3), whereas provisional
+-- responses to an INVITE within the call are not relayed, and would wait for a PRACK in vain
 abbrev pub facing_offered : Site → Opening → Option Service → Facing
 facing_offered site o service = record (facing_at site o service Caller o.invite) { reliable = site.reliable }
 
@@ -66,6 +66,6 @@ unfoldable pub offered_to : Site → Opening → Diverted → Option Service →
 offered_to site o d service peer =
     shown_lines (facing_offered site o service) (trusts site peer) (list_for d o.invite) o.invite.heard.start o.invite.heard.lines
 
--- the lines by which a 181 tells the caller of the last diversion, where the forward says that it is told
+-- the header fields by which a 181 notifies the caller of the last diversion, if the forward requires that notification
 abbrev pub notice_of : Site → Opening → Diverted → DueDiversion → Option (List Line)
 notice_of site o d due = if due.forward.notify_caller then Some (history_lines (masks_all o) (trusts site o.invite.peer) (told_list d)) else None

@@ -1,4 +1,4 @@
--- What each step of a call is given: the server's configuration, and how things stand then.
+-- The input of each step of a call: the server's configuration, and the current state.
 use Rattle.std.specs.Prelude.{ℕ, ◌==◌, ◌-◌, ◌^◌, min, Bool, List, Option, count_by}
 use Rattle.mmtel_answers.specs.declared.answers.FurtherMethods.{FurtherMethods}
 use Rattle.mmtel_precedence.specs.Calls.{Standing}
@@ -12,34 +12,34 @@ use Rattle.mmtel_call_decisions.specs.Busy.{live_of}
 use Rattle.mmtel_call_decisions.specs.declared.settings.Present.{Present}
 
 pub record Site : Type 0 where
-  -- the server's address, its home domain, the bound on diversions, and the digits of the home country, where they are known
+  -- the server's address, its home domain, the bound on diversions, and the digits of the home country, if configured
   pub sip : Addr
   pub home : List ℕ
   pub bound : ℕ
   pub country : Option (List ℕ)
-  -- whether provisional answers are relayed reliably (RFC 3262, RFC 3311), and whether sessions have timers (RFC 4028)
+  -- whether provisional responses are relayed reliably (RFC 3262, RFC 3311), and whether sessions have timers (RFC 4028)
   pub reliable : Bool
   pub timer : Bool
-  -- whether the server tells of waiting messages (RFC 3842)
+  -- whether the server notifies subscribers of waiting messages (RFC 3842)
   pub mwi : Bool
-  -- whom it speaks with, and whom it serves
+  -- the peers with which it exchanges messages, and the accounts that it serves
   pub peers : Peers
   pub accounts : List AccountIdentity
 
--- the methods that it knows beside those that it always knows
+-- the methods that it supports beside those that it always supports
 abbrev pub further_methods : Site → FurtherMethods
 further_methods site = record { reliable = site.reliable; mwi = site.mwi }
 
 abbrev pub trusts : Site → Peer → Bool
 trusts site peer = is_trusted peer site.peers.known
 
--- how many of the calls are of the account, in 32 bits
+-- how many of these accounts, one for each call that keeps one busy, are the account of this number, limited to 32 bits
 abbrev pub is_account : ℕ → Account → Bool
 is_account number account = account.0 == number
 
 abbrev pub calls_among : List Account → ℕ → ℕ
 calls_among busy number = min (count_by (is_account number) busy) (2 ^ 32 - 1)
 
--- how things stand
+-- the current state
 abbrev pub standing : Present → Standing
 standing present = record { at = present.at; sheets = sheet_in present.sheets.now; ends = end_in present.sheets.now; live = live_of present.busy.now }

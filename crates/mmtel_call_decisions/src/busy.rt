@@ -27,7 +27,7 @@ impl Model for Busy {
 }
 
 impl Busy {
-    /// Nobody is busy. It takes no memory.
+    /// No account is busy. It allocates nothing.
     pub fn new(alloc: Global) -> Busy
         ensures none { (number : ℕ) → calls_of result number ≡ 0 }
     {
@@ -46,7 +46,7 @@ impl Busy {
         }
     }
 
-    /// The same in 32 bits.
+    /// The same, limited to 32 bits.
     pub fn live(&self, account: Account) -> u32
         ensures exact { result ≡ live_of self.now account.0 }
     {
@@ -57,11 +57,11 @@ impl Busy {
         count as u32
     }
 
-    /// One call more keeps the account busy.
+    /// Adds one call that keeps the account busy.
     ///
     /// # Errors
     ///
-    /// Want of memory alone, for its place or for its number; nothing has changed then.
+    /// Out of memory only, for its entry or because the count is at its maximum; nothing has changed then.
     pub fn add(&mut self, account: Account) -> Result<(), NoMemory>
         ensures more { OnOk result ((number : ℕ) → calls_of self.new number ≡ calls_of self.old number + one_of account number) }
         ensures same { OnErr result (self.new ≡ self.old) }
@@ -74,7 +74,7 @@ impl Busy {
         Ok(())
     }
 
-    /// One call less keeps it busy. It takes no memory.
+    /// Removes one call that keeps the account busy. It allocates nothing.
     pub fn take(&mut self, account: Account)
         ensures less { (number : ℕ) → calls_of self.new number ≡ calls_of self.old number - one_of account number }
     {

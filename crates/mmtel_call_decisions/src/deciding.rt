@@ -32,7 +32,7 @@ use mmtel_types::{Account, Cause, Moment, Peer};
 use std::alloc::Global;
 
 impl Opening {
-    /// What is known of the call, with these identities of the other party, by whether it was diverted before and whether its target is abroad.
+    /// What is known of the call, with these identities of the other party, whether it was diverted before, and whether its target is in another country.
     pub fn facts<'a>(
         &'a self,
         party: &'a Identities2,
@@ -52,7 +52,7 @@ impl Opening {
         }
     }
 
-    /// The account that is served at a target; the cause is that of the diversion that led there.
+    /// The account that is served at a target; the cause is that of the diversion that led to it.
     fn served_at(
         &self,
         setting: &Setting<'_>,
@@ -69,7 +69,7 @@ impl Opening {
         }
     }
 
-    /// What was said of the registration of a target.
+    /// The registration state that was reported for a target, if any.
     fn told_at(&self, cause: Option<u16>) -> Option<RegistrationState>
         ensures { result ≡ told_at self.now cause }
     {
@@ -79,7 +79,7 @@ impl Opening {
         }
     }
 
-    /// Whose a target is.
+    /// The account to which a target belongs.
     fn account_for(
         &self,
         setting: &Setting<'_>,
@@ -106,7 +106,7 @@ impl Opening {
         next_hop(alloc, setting.peers, self.routes.items(), &target.uri)
     }
 
-    /// The account that is served at a target, with its record as it stands.
+    /// The account that is served at a target, with its current record.
     fn service_at(
         &self,
         alloc: Global,
@@ -126,7 +126,7 @@ impl Opening {
         }
     }
 
-    /// How the account that is served at a target stands.
+    /// The current state of the account that is served at a target.
     fn account_by<'a>(
         &self,
         present: &Present<'_>,
@@ -143,7 +143,7 @@ impl Opening {
         }
     }
 
-    /// How a target stands, where this account is served there and this peer leads to it.
+    /// The state of a target, where this account is served there and this peer is its next hop.
     fn reach_at<'a>(
         &self,
         setting: &Setting<'_>,
@@ -167,7 +167,7 @@ impl Opening {
         }
     }
 
-    /// What is done with the call at a target, where it was diverted before or not.
+    /// What is done with the call at a target, by whether it was diverted before.
     pub fn decide_at<'a>(
         &self,
         setting: &Setting<'_>,
@@ -185,8 +185,8 @@ impl Opening {
         turn_at(&facts, &reached)
     }
 
-    /// What is done with the call after an attempt that ended so, where it was diverted before or not: by the record under which the attempt was offered, which it keeps, and not
-    /// by the one in force at its end (TS 24.604 §4.5.2.6).
+    /// What is done with the call after an attempt that ended in this way, by whether it was diverted before. It uses the record under which the attempt was offered, which the
+    /// attempt keeps, and not the one in force at its end (TS 24.604 §4.5.2.6).
     pub fn decide_after<'a>(
         &self,
         at: Moment,
@@ -200,7 +200,7 @@ impl Opening {
         turn_on(&facts, its_sheet(service), how)
     }
 
-    /// What refuses a diversion to this target that is due by the account which is served; None where it is made.
+    /// The cause that refuses a diversion to this target that is due by the served account; None if it is made.
     fn refusal_to(
         &self,
         setting: &Setting<'_>,
@@ -229,11 +229,11 @@ impl Opening {
         refusal
     }
 
-    /// The account that is served at a target, with its record as it stands, and the peer that leads there. The cause is that of the diversion to it; the first target has none.
+    /// The account that is served at a target, with its current record, and the peer that is the next hop. The cause is that of the diversion to it; the first target has none.
     ///
     /// # Errors
     ///
-    /// Want of memory alone.
+    /// Out of memory only.
     pub fn weigh_target(
         &self,
         alloc: Global,
@@ -250,11 +250,11 @@ impl Opening {
         Ok((service, peer))
     }
 
-    /// The target of a diversion that is due, and what refuses the diversion; None where it is made.
+    /// The target of a diversion that is due, and the cause that refuses the diversion; None if it is made.
     ///
     /// # Errors
     ///
-    /// Want of memory alone.
+    /// Out of memory only.
     pub fn weigh_diversion(
         &self,
         alloc: Global,
@@ -274,11 +274,11 @@ impl Opening {
         Ok((target, refusal))
     }
 
-    /// To whom an attempt goes: to the first target as it was asked for, or to that of a diversion by this cause.
+    /// The destination of an attempt: the first target as the INVITE requested it, or the target of a diversion with this cause.
     ///
     /// # Errors
     ///
-    /// Want of memory alone.
+    /// Out of memory only.
     pub fn aim_at(
         &self,
         alloc: Global,
@@ -295,7 +295,7 @@ impl Opening {
     }
 }
 
-/// The record of an account, to be kept; the empty one where it never said anything.
+/// The record of an account, to be kept; the empty one if the account never had one.
 pub fn sheet_at(
     alloc: Global,
     present: &Present<'_>,
@@ -309,7 +309,7 @@ pub fn sheet_at(
     }
 }
 
-/// Whether the response redirects (RFC 3261 §21.3).
+/// Whether the response is a redirection (RFC 3261 §21.3).
 fn redirects(start: &Start) -> bool
     ensures { result ≡ redirects start.now }
 {
@@ -319,11 +319,11 @@ fn redirects(start: &Start) -> bool
     }
 }
 
-/// To where a response redirects (RFC 3261 §21.3), where that is a sip or tel URI.
+/// The URI to which a response redirects (RFC 3261 §21.3), if that is a sip or tel URI.
 ///
 /// # Errors
 ///
-/// Want of memory alone.
+/// Out of memory only.
 pub fn redirect_of(alloc: Global, response: &Hearing) -> Result<Option<Uri>, NoMemory>
     ensures uri { IfOk result (λ uri. uri ≡ redirect_of response.now) }
 {

@@ -11,7 +11,7 @@ use mmtel_scan::{NoMemory, Text};
 use std::alloc::Global;
 use std::marker::Model;
 
-/// How a call was diverted so far, and how often it may still be.
+/// How a call was diverted so far, and how many more diversions are allowed.
 #[derive(Drop)]
 pub struct Diversions {
     left: u16,
@@ -39,7 +39,7 @@ impl Model for Diversions {
 }
 
 impl Diversions {
-    /// No diversion was made yet: the bound counts those that the list tells, which the call came with.
+    /// No diversion was made yet: the bound counts those in this list, with which the call came.
     pub fn new(history: History, bound: u16) -> Diversions
         requires few { length history ≤ 32 }
         requires low { bound ≤ 16 }
@@ -55,14 +55,14 @@ impl Diversions {
         }
     }
 
-    /// How many diversions the call came with and were made.
+    /// How many diversions the call came with and were made, together.
     pub fn count(&self) -> u16
         ensures { result ≡ self.now.count }
     {
         self.count
     }
 
-    /// The bound that the configuration sets, or as many as the call came with where that is more.
+    /// The configured bound, or the number of diversions with which the call came if that is more.
     pub fn bound(&self) -> u16
         ensures { result ≡ self.now.count + self.now.left }
     {
@@ -76,11 +76,11 @@ impl Diversions {
         &self.history
     }
 
-    /// The list as a 181 tells it (TS 24.604 §4.5.2.6).
+    /// The list as it is in a 181 (TS 24.604 §4.5.2.6).
     ///
     /// # Errors
     ///
-    /// Want of memory alone.
+    /// Out of memory only.
     pub fn told(&self, alloc: Global) -> Result<History, NoMemory>
         ensures { IfOk result (λ h. h ≡ told_list self.now) }
     {
@@ -88,11 +88,12 @@ impl Diversions {
             .told_to_caller(alloc, self.hides_diverting, self.hides_target)
     }
 
-    /// Notes one more diversion (RFC 7044 §7), from this URI of the first target of the call to that of the new one: its cause, and what of it is told to whom.
+    /// Records one more diversion (RFC 7044 §7), from this URI of the first target of the call to that of the new one: its cause, and what of it is hidden from the caller and from
+    /// the target.
     ///
     /// # Errors
     ///
-    /// Want of memory alone; nothing is noted then.
+    /// Out of memory only; nothing is recorded then.
     pub fn note(
         &mut self,
         alloc: Global,

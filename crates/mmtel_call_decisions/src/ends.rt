@@ -1,4 +1,4 @@
-//! How an attempt ends: its times, and the final that is handed on.
+//! How an attempt ends: its times, and the final response that is relayed.
 ghost use Rattle.std.specs.Prelude.{◌≡◌, ◌≤◌, IfSome};
 ghost use Rattle.std.specs.Option.{option_copied};
 ghost use Rattle.mmtel_sheet_values.specs.NoReply.{no_reply_time};
@@ -26,7 +26,7 @@ fn time_in(sheet: &Sheet) -> Option<u64>
     }
 }
 
-/// The no-reply time of the record of the account that is served, in milliseconds (TS 24.604 §4.5.2.6); None where there is none.
+/// The no-reply time of the record of the served account, in milliseconds (TS 24.604 §4.5.2.6); None if the record has none.
 pub fn time_of(service: Option<&Service>) -> Option<u64>
     ensures exact { result ≡ time_of (its_sheet (option_copied service.entry)) }
     ensures bound { IfSome result (λ time. time ≤ 65535000) }
@@ -37,7 +37,7 @@ pub fn time_of(service: Option<&Service>) -> Option<u64>
     }
 }
 
-/// The status of a target's final that a cause hands on.
+/// The status of a target's final response that a cause relays.
 fn handed_on(cause: Cause) -> Option<u16>
     ensures { result ≡ handed_on cause }
 {
@@ -65,7 +65,7 @@ fn handed_on(cause: Cause) -> Option<u16>
     }
 }
 
-/// Whether a target's final of this status is handed on to the caller, where the call is refused by this cause.
+/// Whether a target's final response of this status is relayed to the caller, where the call is refused with this cause.
 pub fn is_handed_on(cause: Cause, code: u16) -> bool
     ensures exact { result ≡ is_status code (handed_on cause) }
 {

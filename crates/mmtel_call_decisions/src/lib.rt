@@ -1,5 +1,5 @@
-//! What is decided of a call: who is served where, what of its messages is shown to whom, what comes after an attempt, whose ACK it is, which rows it gives (TS 24.173, RFC
-//! 3261 §13.2.2.4, TS 32.260 §5).
+//! What is decided of a call: who is served at a target, what of its messages is copied to whom, what follows an attempt, to what an ACK belongs, which CDRs it gives (TS 24.173,
+//! RFC 3261 §13.2.2.4, TS 32.260 §5).
 #![tactic(auto)]
 
 mod busy;

@@ -28,24 +28,24 @@ use mmtel_trust::wants;
 use mmtel_types::{Account, CallNo, Cause, Moment};
 use std::alloc::Global;
 
-/// An INVITE that opens a call, with what was read of its parties.
+/// An INVITE that opens a call, with what was read from it about its parties.
 #[derive(Drop)]
 pub struct Arrival {
-    /// The number that the call has.
+    /// The number of the call.
     pub number: CallNo,
     /// The server transaction that the INVITE opened.
     pub key: TKey,
     /// The INVITE.
     pub invite: Hearing,
-    /// Whom the server serves (RFC 5502 §6).
+    /// The accounts that the server serves in it (RFC 5502 §6).
     pub served: Served,
-    /// What was said of the registration of its target, where something was.
+    /// The registration state that was reported for its target, if any.
     pub registration: Option<RegistrationState>,
-    /// Who the caller is.
+    /// The identities of the caller.
     pub identities: Identities2,
 }
 
-/// What is known of a call as it opens, and stays.
+/// What is known of a call as it opens; it does not change afterwards.
 #[derive(Drop)]
 pub struct Opening {
     /// The number of the call.
@@ -56,23 +56,23 @@ pub struct Opening {
     pub invite: Hearing,
     /// The server's tag in the caller's dialog.
     pub tag: Text,
-    /// Whom the server serves in it (RFC 5502 §6).
+    /// The accounts that the server serves in it (RFC 5502 §6).
     pub served: Served,
-    /// What was said of the registration of its first target, where something was.
+    /// The registration state that was reported for its first target, if any.
     pub registration: Option<RegistrationState>,
-    /// The record of the account that is served as the caller, as it stood; None where none is.
+    /// The record of the account that is served as the caller, as it was at the opening; None if no account is.
     pub sheet: Option<SharedSheet>,
-    /// The caller hides who it is (TS 24.607 §4.5.2).
+    /// Whether the caller restricts its identity (TS 24.607 §4.5.2).
     pub restricted: bool,
-    /// Who the caller is.
+    /// The identities of the caller.
     pub identities: Identities2,
     /// The kinds of media that it offered.
     pub media: List<Text>,
-    /// The Route values that each of its attempts keeps.
+    /// The Route values that are kept for each of its attempts.
     pub routes: List<Text>,
 }
 
-/// The account that is served at a target, with its record as it stood when the call reached it.
+/// The account that is served at a target, with its record as it was when the call reached the target.
 #[derive(Drop)]
 pub struct Service {
     /// The account.
@@ -81,7 +81,7 @@ pub struct Service {
     pub sheet: SharedSheet,
 }
 
-/// The record of the account that is served as the caller, where one is.
+/// The record of the account that is served as the caller, if there is one.
 fn origin_sheet(
     alloc: Global,
     present: &Present<'_>,
@@ -95,7 +95,7 @@ fn origin_sheet(
     }
 }
 
-/// A record that is kept, as one that is asked.
+/// A reference to the kept record, if there is one.
 fn kept_sheet(sheet: &Option<SharedSheet>) -> Option<&Sheet>
     ensures { option_copied result ≡ sheet.now }
 {
@@ -105,7 +105,7 @@ fn kept_sheet(sheet: &Option<SharedSheet>) -> Option<&Sheet>
     }
 }
 
-/// The Route values that each attempt keeps.
+/// The Route values that are kept for each attempt.
 fn routes_of(alloc: Global, setting: &Setting<'_>, invite: &Hearing) -> Result<List<Text>, NoMemory>
     ensures { IfOk result (λ routes. routes ≡ kept_routes setting.now.sip invite.now.heard.routes) }
 {
@@ -142,11 +142,11 @@ fn read_opening(
     }
 }
 
-/// What is known of a call as it opens, where its caller's dialog has this tag of the server.
+/// What is known of a call as it opens, where the server's tag in the caller's dialog is this one.
 ///
 /// # Errors
 ///
-/// Want of memory alone.
+/// Out of memory only.
 pub fn opening_of(
     alloc: Global,
     setting: &Setting<'_>,
@@ -195,7 +195,7 @@ fn received_list(alloc: Global, invite: &Hearing) -> Result<History, NoMemory>
     }
 }
 
-/// Where a Request-URI names no target, there is nowhere to go.
+/// If a Request-URI names no target, the call cannot be sent anywhere: its target is a tel URI without digits.
 fn nowhere() -> Target
     ensures { result ≡ nowhere }
 {
@@ -209,11 +209,11 @@ fn nowhere() -> Target
 }
 
 impl Opening {
-    /// How often the call may be diverted, before it is: the bound counts the diversions that it came with.
+    /// How the call was diverted before any diversion is made here: the bound counts the diversions with which the call came.
     ///
     /// # Errors
     ///
-    /// Want of memory alone.
+    /// Out of memory only.
     pub fn undiverted(&self, alloc: Global, setting: &Setting<'_>) -> Result<Diversions, NoMemory>
         ensures diversions { IfOk result (λ d. d ≡ undiverted setting.now.bound (received_list self.now.invite)) }
     {
@@ -225,7 +225,7 @@ impl Opening {
     ///
     /// # Errors
     ///
-    /// Want of memory alone.
+    /// Out of memory only.
     pub fn first_of(&self, alloc: Global) -> Result<Target, NoMemory>
         ensures target { IfOk result (λ target. target ≡ first_of self.now) }
     {
@@ -235,11 +235,11 @@ impl Opening {
         }
     }
 
-    /// What refuses the call, which would come to this target, its first.
+    /// The cause that refuses the call to this target, its first; None if nothing refuses it.
     ///
     /// # Errors
     ///
-    /// Want of memory alone.
+    /// Out of memory only.
     pub fn refusal_of(
         &self,
         alloc: Global,

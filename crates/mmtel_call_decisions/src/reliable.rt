@@ -1,4 +1,4 @@
-//! Which provisional responses of a target are reliable answers, and the lines that a message has of them (RFC 3262).
+//! Which provisional responses of a target are reliable ones, and the header fields that a message has for them (RFC 3262).
 ghost use Rattle.std.specs.Prelude.{◌≡◌, ◌∷◌, ◌++◌, IfOk, OnOk, codes, decimal};
 ghost use Rattle.mmtel_call_decisions.specs.Reliable.{names_reliable, number_in, rack_line, reliable_lines, reliable_number, takes_reliable, wants_prack};
 
@@ -9,10 +9,10 @@ use mmtel_message::{Line, add_bytes, add_decimal, line_texts};
 use mmtel_scan::{List, NoMemory, Text, add_number, number_up_to};
 use std::alloc::Global;
 
-/// The greatest number of a reliable answer (RFC 3262 §7.1).
+/// The greatest RSeq number of a reliable response (RFC 3262 §7.1).
 const GREATEST_NUMBER: u64 = 2_147_483_647;
 
-/// Whether the option tag stands among these.
+/// Whether the option tag 100rel is among these.
 fn names_reliable(values: &[Text]) -> bool
     ensures { result ≡ names_reliable values.now }
 {
@@ -41,7 +41,7 @@ fn wants_prack(alloc: Global, response: &Hearing) -> Result<bool, NoMemory>
     Ok(tagged)
 }
 
-/// The number that these bytes spell, where it is one from 1 to 2147483647 (RFC 3262 §7.1).
+/// The number in these bytes, if it is one from 1 to 2147483647 (RFC 3262 §7.1).
 fn number_in(value: &[u8]) -> Option<u32>
     ensures { result ≡ number_in value.now }
 {
@@ -51,7 +51,7 @@ fn number_in(value: &[u8]) -> Option<u32>
     }
 }
 
-/// The number that the first RSeq line of a response says, where it is such a one. It takes no memory.
+/// The number in the first RSeq of a response, if it is in that range. It allocates nothing.
 fn number_said(response: &Hearing) -> Option<u32>
     ensures { result ≡ response.now.heard.rseq }
 {
@@ -62,7 +62,7 @@ fn number_said(response: &Hearing) -> Option<u32>
 }
 
 impl Opening {
-    /// Whether the INVITE that opened the call supports or requires reliable answers (RFC 3262 §3).
+    /// Whether the INVITE that opened the call has 100rel in Supported or Require (RFC 3262 §3).
     fn takes_reliable(&self, alloc: Global) -> Result<bool, NoMemory>
         ensures { IfOk result (λ takes. takes ≡ takes_reliable self.now) }
     {
@@ -79,12 +79,12 @@ impl Opening {
         Ok(requires_it)
     }
 
-    /// The number that a response of a target says as a reliable answer: a 101 to 199 of a dialog that requires a PRACK and says one, where the server relays such answers and
-    /// the INVITE that opened the call takes them (RFC 3262 §3, §4). None of any other response, which is relayed without a number.
+    /// The RSeq number of a target's response that is a reliable one: a 101 to 199 in a dialog that requires a PRACK and has an RSeq, where the server relays such responses and
+    /// the INVITE that opened the call accepts them (RFC 3262 §3, §4). None for any other response, which is relayed without a number.
     ///
     /// # Errors
     ///
-    /// Want of memory alone.
+    /// Out of memory only.
     pub fn reliable_number(
         &self,
         alloc: Global,
@@ -106,11 +106,11 @@ impl Opening {
     }
 }
 
-/// Adds the lines of an answer that is relayed under this number (RFC 3262 §7.1).
+/// Adds the header fields of a response that is relayed under this number (RFC 3262 §7.1).
 ///
 /// # Errors
 ///
-/// Want of memory alone; of the lines nothing is said then.
+/// Out of memory only; nothing is claimed of the header fields then.
 #[tactic(auto, unfolding(mmtel_message::specs::Message::line))]
 pub fn add_reliable_lines(alloc: Global, own: u32, lines: &mut List<Line>) -> Result<(), NoMemory>
     ensures added { OnOk result (lines.new ≡ lines.old ++ reliable_lines own) }
@@ -119,7 +119,7 @@ pub fn add_reliable_lines(alloc: Global, own: u32, lines: &mut List<Line>) -> Re
     add_decimal(alloc, lines, b"RSeq", u64::from(own))
 }
 
-/// The value of a RAck line (RFC 3262 §7.2).
+/// The value of a RAck header field (RFC 3262 §7.2).
 fn rack_value(alloc: Global, answer: u32, cseq: u64) -> Result<Text, NoMemory>
     ensures { IfOk result (λ text. text ≡ decimal answer ++ 32 ∷ (decimal cseq ++ 32 ∷ codes "INVITE")) }
 {
@@ -131,11 +131,11 @@ fn rack_value(alloc: Global, answer: u32, cseq: u64) -> Result<Text, NoMemory>
     Ok(value)
 }
 
-/// Adds the line of a PRACK for the answer of this number to the INVITE of that one (RFC 3262 §7.2).
+/// Adds the RAck of a PRACK for the response of this number to the INVITE with this CSeq number (RFC 3262 §7.2).
 ///
 /// # Errors
 ///
-/// Want of memory alone; the lines are then as before.
+/// Out of memory only; the header fields are then as before.
 #[tactic(auto, unfolding(mmtel_message::specs::Message::line))]
 pub fn add_rack_line(
     alloc: Global,

@@ -7,8 +7,8 @@ use mmtel_message::Start;
 use mmtel_sip_rules::{is_same_side, status_out_of_place};
 use mmtel_types::Side;
 
-/// The status that a request gets that no row of the step table has: 200 to OPTIONS (RFC 3261 §11.2), 403 to REFER, which only a room takes, and 481 to what is asked at
-/// the wrong time (§12.2.2).
+/// The status of the response to a request for which the step table has no transition: 200 to OPTIONS (RFC 3261 §11.2), 403 to REFER, which only a conference accepts, and 481 to a
+/// request for which this is the wrong state (§12.2.2).
 pub fn unlisted_status(start: &Start) -> u16
     ensures exact { result ≡ unlisted_status start.now }
 {
@@ -18,8 +18,8 @@ pub fn unlisted_status(start: &Start) -> u16
     }
 }
 
-/// Why an UPDATE of a side is not relayed, where that of a side is in flight (RFC 3311 §5.2): the UPDATE of the side itself has no answer yet, or it crosses the one of the other
-/// side. None where it is relayed, since none is in flight.
+/// Why an UPDATE of a side is not relayed while one is in flight (RFC 3311 §5.2): the UPDATE of the same side has no final response yet, or this one crosses that of the other
+/// side. None where it is relayed, because none is in flight.
 pub fn refusal_of_update(updating: Option<Side>, side: Side) -> Option<DialogueFault>
     ensures exact { result ≡ refusal_of_update updating side }
 {

@@ -1,4 +1,4 @@
-//! The rows that the meters of a call give once it is over.
+//! The CDRs that the meters of a call give once it is over.
 ghost use Rattle.std.specs.Prelude.{◌≡◌, ◌++◌, OnOk, map, option_to_list};
 ghost use Rattle.mmtel_call_decisions.specs.Rows.{cause_by, last_row, past_answer, past_row, rows_by, with_answer};
 
@@ -8,20 +8,20 @@ use mmtel_scan::{List, NoMemory};
 use mmtel_types::{Cause, Moment};
 use std::alloc::Global;
 
-/// What the rows of a call that is over have in common.
+/// What the CDRs of a call that is over have in common.
 #[derive(Clone, Copy)]
 pub struct Ending {
     /// When the call was answered.
     pub answered: Option<Moment>,
     /// When it ended.
     pub at: Moment,
-    /// How often it was held.
+    /// How often a side put it on hold.
     pub holds: u32,
     /// Why it ended.
     pub cause: Cause,
 }
 
-/// A meter with the moment of the answer, where there is one.
+/// A meter with the moment of the answer, if there is one.
 fn with_answer(meter: Meter, answered: Option<Moment>) -> Meter
     ensures { result ≡ with_answer answered meter }
 {
@@ -33,7 +33,7 @@ fn with_answer(meter: Meter, answered: Option<Moment>) -> Meter
     meter
 }
 
-/// When the part of a past meter was answered.
+/// The moment of the answer in a past part.
 fn past_answer(kind: Kind, answered: Option<Moment>) -> Option<Moment>
     ensures { result ≡ past_answer kind answered }
 {
@@ -45,7 +45,7 @@ fn past_answer(kind: Kind, answered: Option<Moment>) -> Option<Moment>
     }
 }
 
-/// Why a call ended: one that was answered has ended, whatever ended it.
+/// Why a call ended: one that was answered has the cause `Ended`, whatever ended it.
 pub fn cause_by(answered: Option<Moment>, cause: Cause) -> Cause
     ensures exact { result ≡ cause_by answered cause }
 {
@@ -70,7 +70,7 @@ fn last_row(meter: Meter, end: &Ending) -> Row
     with_answer(meter, end.answered).close(end.at, end.holds, end.cause)
 }
 
-/// The row of the caller's meter, where there is one.
+/// The CDR of the caller's meter, if there is one.
 fn first_row(first: Option<Meter>, end: &Ending) -> Option<Row>
     ensures { option_to_list result ≡ map (past_row end.now) (option_to_list first) }
 {
@@ -80,7 +80,7 @@ fn first_row(first: Option<Meter>, end: &Ending) -> Option<Row>
     }
 }
 
-/// The row of the meter of the target that is left last, where there is one.
+/// The CDR of the meter of the last target, if there is one.
 fn row_of_target(last: Option<Meter>, end: &Ending) -> Option<Row>
     ensures { option_to_list result ≡ map (last_row end.now) (option_to_list last) }
 {
@@ -90,7 +90,7 @@ fn row_of_target(last: Option<Meter>, end: &Ending) -> Option<Row>
     }
 }
 
-/// Files the rows of these meters, in order. Each meter is spent, also where memory runs out.
+/// Files the CDRs of these meters, in order. Each meter is spent, also where memory runs out.
 fn file_past(
     alloc: Global,
     rows: &mut List<Row>,
@@ -110,11 +110,11 @@ fn file_past(
     kept
 }
 
-/// Files the rows of a call that is over: the caller's, those of what is past, and that of the target which is left last. Each meter is spent, also where memory runs out.
+/// Files the CDRs of a call that is over: the caller's, those of the past parts, and that of the last target. Each meter is spent, also where memory runs out.
 ///
 /// # Errors
 ///
-/// Want of memory alone; of the rows nothing is said then.
+/// Out of memory only; nothing is claimed of the CDRs then.
 pub fn file_rows(
     alloc: Global,
     rows: &mut List<Row>,

@@ -1,4 +1,4 @@
-//! What each step of a call is given.
+//! The input of each step of a call.
 ghost use Rattle.std.specs.Prelude.{◌≡◌};
 ghost use Rattle.mmtel_call_decisions.specs.Site.{further_methods};
 
@@ -19,13 +19,13 @@ pub struct Setting<'a> {
     pub home: &'a [u8],
     /// The bound on diversions, at most 16.
     pub bound: u16,
-    /// The digits of the home country, where they are known.
+    /// The digits of the home country, if configured.
     pub country: Option<&'a Text>,
-    /// Whether provisional answers are relayed reliably, and UPDATE is known (RFC 3262, RFC 3311).
+    /// Whether provisional responses are relayed reliably, and UPDATE is supported (RFC 3262, RFC 3311).
     pub reliable: bool,
     /// Whether sessions have timers (RFC 4028).
     pub timer: bool,
-    /// Whether the server tells of waiting messages (RFC 3842).
+    /// Whether the server notifies subscribers of waiting messages (RFC 3842).
     pub mwi: bool,
     /// The peers and the routes to them.
     pub peers: &'a PeerTable,
@@ -56,7 +56,7 @@ impl<'a> Model for Setting<'a> {
 }
 
 impl<'a> Setting<'a> {
-    /// The methods that the server knows beside those that it always knows.
+    /// The methods that the server supports beside those that it always supports.
     pub fn further_methods(&self) -> FurtherMethods
         ensures { result ≡ further_methods self.now }
     {
@@ -67,13 +67,13 @@ impl<'a> Setting<'a> {
     }
 }
 
-/// How things stand at a step.
+/// The current state at a step.
 #[derive(Clone, Copy)]
 pub struct Present<'a> {
     /// The moment.
     pub at: Moment,
     /// The records in force, and the registrations.
     pub sheets: &'a SheetView,
-    /// How many calls keep each account busy: those that it makes, this one too, and those that are offered to it or that it answered, this one never.
+    /// How many calls keep each account busy: those that it makes, this one included, and those that are offered to it or that it answered, this one excluded.
     pub busy: &'a Busy,
 }

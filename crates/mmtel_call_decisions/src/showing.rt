@@ -1,4 +1,4 @@
-//! What is shown of a call's messages to whom.
+//! What of a call's messages is copied to whom.
 ghost use Rattle.std.specs.Prelude.{◌≡◌, IfOk};
 ghost use Rattle.std.specs.Option.{option_copied};
 ghost use Rattle.mmtel_precedence.specs.Told.{told_due};
@@ -21,7 +21,7 @@ use mmtel_trust::{Facing, history_lines, shown, wants};
 use mmtel_types::{Peer, Side};
 use std::alloc::Global;
 
-/// The record of the account that is served, where one is.
+/// The record of the served account, if there is one.
 pub fn its_sheet(service: Option<&Service>) -> Option<&Sheet>
     ensures { option_copied result ≡ its_sheet (option_copied service.entry) }
 {
@@ -32,14 +32,14 @@ pub fn its_sheet(service: Option<&Service>) -> Option<&Sheet>
 }
 
 impl Opening {
-    /// Whether untrusted peers see no entry of History-Info as it is.
+    /// Whether every entry of History-Info is masked for untrusted peers.
     fn masks_all(&self) -> bool
         ensures { result ≡ masks_all self.now }
     {
         wants(&self.invite.message).history
     }
 
-    /// The record of the account that is served as the caller, where one is.
+    /// The record of the account that is served as the caller, if there is one.
     pub fn origin_sheet(&self) -> Option<&Sheet>
         ensures { option_copied result ≡ self.now.sheet }
     {
@@ -49,7 +49,7 @@ impl Opening {
         }
     }
 
-    /// Who sees what of a side's message.
+    /// The facts that decide what of a side's message is copied to the other side.
     fn facing(&self, service: Option<&Service>, side: Side, message: &Hearing) -> Facing
         ensures { result ≡ facing self.now (option_copied service.entry) side message.now }
     {
@@ -76,7 +76,7 @@ impl Opening {
     }
 }
 
-/// The lines of a message that are passed on, with this list of History-Info.
+/// The header fields of a message that are copied, with this list of History-Info.
 fn shown_with(
     alloc: Global,
     setting: &Setting<'_>,
@@ -90,7 +90,7 @@ fn shown_with(
     shown(alloc, message, history, facing, setting.peers.trusted(peer))
 }
 
-/// The lines of a side's message that are passed on to a peer by this, where the call was diverted so.
+/// The header fields of a side's message that are copied to a peer according to this `Facing`, where the call was diverted in this way.
 fn shown_by(
     alloc: Global,
     setting: &Setting<'_>,
@@ -119,11 +119,12 @@ fn shown_by(
 }
 
 impl Opening {
-    /// The lines of a side's message that are passed on to a peer (RFC 3325 §5 and §7, RFC 3323 §5.1), where the call was diverted so and this account is served at its target.
+    /// The header fields of a side's message that are copied to a peer (RFC 3325 §5 and §7, RFC 3323 §5.1), where the call was diverted in this way and this account is served at
+    /// its target.
     ///
     /// # Errors
     ///
-    /// Want of memory alone.
+    /// Out of memory only.
     #[tactic(auto, unfolding(crate::specs::Showing::shown_to))]
     pub fn shown_to(
         &self,
@@ -142,12 +143,12 @@ impl Opening {
         shown_by(alloc, setting, diversions, &facing, peer, message)
     }
 
-    /// The lines of the INVITE that opened the call which are passed on to the target of an attempt behind a peer: as those of `shown_to`, but that its provisional responses
-    /// may be reliable (RFC 3262 §3), which those of an INVITE within the call may not.
+    /// The header fields of the INVITE that opened the call which are copied to the target of an attempt behind a peer: as those of `shown_to`, except that provisional responses
+    /// to this INVITE may be reliable (RFC 3262 §3), and those to an INVITE within the call may not.
     ///
     /// # Errors
     ///
-    /// Want of memory alone.
+    /// Out of memory only.
     #[tactic(auto, unfolding(crate::specs::Showing::offered_to))]
     pub fn offered_to(
         &self,
@@ -165,11 +166,11 @@ impl Opening {
         shown_by(alloc, setting, diversions, &facing, peer, &self.invite)
     }
 
-    /// The lines by which a 181 tells the caller of a diversion that was made, the last one, where the forward says that it is told (TS 24.604 §4.5.2.6); None where it is not.
+    /// The header fields by which a 181 notifies the caller of the last diversion that was made, if the forward requires that notification (TS 24.604 §4.5.2.6); None otherwise.
     ///
     /// # Errors
     ///
-    /// Want of memory alone.
+    /// Out of memory only.
     pub fn notice_of(
         &self,
         alloc: Global,

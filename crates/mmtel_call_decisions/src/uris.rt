@@ -1,4 +1,4 @@
-//! URIs that are kept once more.
+//! Copies of URIs.
 ghost use Rattle.std.specs.Prelude.{◌≡◌, IfOk};
 
 use mmtel_desk::file;
@@ -6,7 +6,7 @@ use mmtel_lex::{Param, Params, Uri};
 use mmtel_scan::{List, NoMemory, Text};
 use std::alloc::Global;
 
-/// The same text, where there is one.
+/// A copy of the text, if there is one.
 fn text_copied(alloc: Global, text: &Option<Text>) -> Result<Option<Text>, NoMemory>
     ensures { IfOk result (λ copy. copy ≡ text.now) }
 {
@@ -51,11 +51,11 @@ fn params_copied(alloc: Global, params: &[Param]) -> Result<Params, NoMemory>
     Ok(copy)
 }
 
-/// The same URI.
+/// A copy of the URI.
 ///
 /// # Errors
 ///
-/// Want of memory alone.
+/// Out of memory only.
 pub fn uri_copied(alloc: Global, uri: &Uri) -> Result<Uri, NoMemory>
     ensures { IfOk result (λ copy. copy ≡ uri.now) }
 {

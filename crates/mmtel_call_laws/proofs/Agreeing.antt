@@ -1,4 +1,4 @@
--- Where a call stands, beside the moves of the precedence of services.
+-- The phase of a call, beside the state of the moves of the precedence of services.
 use Rattle.std.proofs.Common.{◌≡◌, ℕ, suc, ◌+◌, ◌-◌, true, false, List, [], ◌++◌, length, refl}
 use Rattle.std.specs.Prelude.{Option, Some, None, count_by, is_some}
 use Rattle.std.specs.Option.{option_map}
@@ -27,11 +27,11 @@ use Rattle.mmtel_call_laws.specs.Shown.{Sign, sign_of_result, signs_of, signs_of
 use Rattle.mmtel_call_laws.specs.Known.{known_as, last_record, over_by, received_in}
 use Rattle.mmtel_call_laws.proofs.Parts.{all_parts, last_served}
 
--- so many diversions the bound leaves at first
+-- how many diversions the bound leaves at first
 abbrev pub total : Site → Opening → ℕ
 total site o = site.bound - received_in o
 
--- it is offered: the moves ring at this target
+-- it is offered: in the moves this target rings
 pub record IsRinging (site : Site) (first : Standing) (o : Opening) (later : ℕ → Standing) (kept : Kept) (c : Call) (filed : List Row) (x : Trial) (reach : Reach) : Type 0 where
   pub phase : c.phase ≡ Offered x
   pub rings : kept.phase ≡ moves.Ringing (account_at reach)
@@ -59,7 +59,7 @@ pub record IsTalking (site : Site) (first : Standing) (o : Opening) (later : ℕ
 abbrev pub ending_at : Call → (at : ℕ) → Cause → Ending
 ending_at c at cause = record { answered = c.answered; at = at; holds = c.hold.holds; cause = cause }
 
--- an answered call is over by one cause alone
+-- an answered call is over with one cause alone
 pub by-answer : (answered : Option ℕ) (cause : Cause) → is_some answered ≡ true → cause_by answered cause ≡ causes.Ended
 by-answer None cause h = absurd (let e : false ≡ true = h in cc)
 by-answer (Some at) cause h = refl
@@ -85,12 +85,12 @@ pub record Agrees (site : Site) (first : Standing) (o : Opening) (later : ℕ �
   pub empty : kept.endings ≡ []
   pub place : Place site first o later kept c filed at
 
--- after some moves from here, the call stands where this step brought it, and these rows were filed
+-- after some moves from here, the phase of the call is the one that this step led to, and these CDRs were filed
 abbrev pub Came : Site → Standing → Opening → (ℕ → Standing) → Kept → List Row → Step → (at : ℕ) → Type 0
 Came site first o later kept rows s at =
     (n : ℕ) × (filed : List Row) × (s.desk.rows ≡ rows ++ filed) × Agrees site first o later (moves.moves n (known_as site first o later) kept) s.call filed at
 
--- and, where P holds, it has shown what is due of the targets that it reached since these, and of its result
+-- and, if P holds, the INVITEs due for the targets that it reached since these were sent, and the final response due for its result
 abbrev pub Shows : Type 0 → Opening → (before : List Target) → Kept → (old : List Sign) → Step → Type 0
 Shows P o before kept old s =
     (new : List Target) × (kept.targets ≡ before ++ new) × (P → signs_of o.key s.desk.out ≡ old ++ (signs_of_targets o new ++ sign_of_result (moves.result_in kept.phase)))
@@ -99,7 +99,7 @@ abbrev pub Comes : Site → Standing → Opening → (ℕ → Standing) → Type
 Comes site first o later P before kept rows old s at =
     (n : ℕ) × (filed : List Row) × (s.desk.rows ≡ rows ++ filed) × Agrees site first o later (moves.moves n (known_as site first o later) kept) s.call filed at × Shows P o before (moves.moves n (known_as site first o later) kept) old s
 
--- the legs of a call that goes on or is refused, and what is past
+-- the legs of a call that continues or is refused, and the past parts
 pub record IsReady (site : Site) (first : Standing) (later : ℕ → Standing) (caller : Leg) (c : Call) (kept : Kept) : Type 0 where
   pub answered : c.answered ≡ None
   pub left : c.diversions.left + kept.done ≡ total site c.opening

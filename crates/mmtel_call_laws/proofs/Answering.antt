@@ -1,4 +1,4 @@
--- What an answered call does on each signal: it stands, or both sides leave; and a call that is over does nothing.
+-- What an answered call does on each signal: it remains established, or both sides leave; and a call that is over does nothing.
 use Rattle.std.proofs.Common.{◌≡◌, ℕ, ◌==◌, Bool, true, false, List, refl, subst, sym, ◌∙◌}
 use Rattle.std.specs.Prelude.{Option, Some, None, codes, if◌then◌else◌, nat_lt, not, Result, Ok, Err}
 use Rattle.mmtel_answers.specs.Said.{Said, status_of}
@@ -36,7 +36,7 @@ use Rattle.mmtel_call.specs.declared.signals.Signal.{Signal}
 use Rattle.mmtel_call.specs.declared.signals.Signal.TheVariants as signal
 use Rattle.mmtel_call_laws.proofs.Untouched.{Alike, Untouched, cancelled-rows, dismissing-rows, if-rows, key-untouched, other-untouched, silent-untouched, unheard-rows, unlisted-rows, untouched}
 
--- it stands
+-- it is established
 pub record StillStands (x : Pair) (c : Call) (rows : List Row) (s : Step) (y : Pair) (stage : Stage) : Type 0 where
   pub phase : s.call.phase ≡ Stood y stage
   pub same : Alike c s.call
@@ -134,7 +134,7 @@ said-goes (Ok heard) stage site at x Caller key m c desk = heard-goes stage site
 said-goes (Ok heard) stage site at x Callee key m c desk = heard-goes stage site at x (with_leg Callee (having_heard (leg_of Callee x) m) x) Callee key m c desk refl refl
 said-goes (Err fault) stage site at x side key m c desk = stands at x c desk.rows x stage (unheard site (at_stage x stage c) key m fault desk) refl refl (unheard-rows site (at_stage x stage c) key m fault desk)
 
--- ---- ACK, CANCEL, deadlines, silence
+-- ---- ACK, CANCEL, deadlines, timeouts
 
 ack-goes : (stage : Stage) (site : Site) (at : ℕ) (x : Pair) (side : Side) (m : Said) (c : Call) (desk : Desk) → GoesOn at x c desk.rows (on_ack_at stage site at x side m (at_stage x stage c) desk)
 ack-goes (Answered waiting success) site at x side m c desk =
@@ -224,7 +224,7 @@ row-goes site now x stage (signal.Due what) c desk =
     goes-if now.at x c desk.rows (is_due_at stage c.successes what) _ _ (rung-goes stage site now.at x c desk) (stands now.at x c desk.rows x stage desk refl refl refl)
 row-goes site now x stage (signal.Ended key) c desk = untouched-stands now.at x stage c desk.rows _ (key-untouched key (at_stage x stage c) desk)
 
--- where nothing is in flight any more, and what went out before filed no row
+-- where nothing is in flight any more, and what was sent before filed no CDR
 goes-from : (at : ℕ) (x : Pair) (c : Call) (rows before : List Row) (s : Step) → rows ≡ before → GoesOn at x (dismissed c) rows s → GoesOn at x c before s
 goes-from at x c rows before s e (Stands y stage r) =
     Stands y stage (record { phase = r.phase; same = record { opening = r.same.opening; diversions = r.same.diversions; answered = r.same.answered; past = r.same.past }; caller = r.caller; callee = r.callee; none = r.none ∙ e })
@@ -263,7 +263,7 @@ over-row site now cause (signal.Silent branch method) c desk = over-silent (invi
 over-row site now cause (signal.Due what) c desk = untouched (ended cause c) desk
 over-row site now cause (signal.Ended key) c desk = key-untouched key (ended cause c) desk
 
--- no signal leaves it
+-- no signal ends an attempt of it, or the call
 pub no-leaving : (cause : Cause) (heard : Signal) (c : Call) → leaves_by heard (ended cause c) ≡ false
 no-leaving cause (signal.Request side key request) c = refl
 no-leaving cause (signal.Ack side ack) c = refl

@@ -1,4 +1,4 @@
--- A call that comes to a target, or that is diverted, moves as the precedence of services does.
+-- A call that reaches a target, or that is diverted, makes the moves of the precedence of services.
 use Rattle.std.proofs.Common.{◌==◌, append_assoc, ◌≡◌, ℕ, zero, suc, ◌+◌, ◌-◌, ◌≤◌, ◌<◌, Bool, true, List, [], ◌∷◌, ◌++◌, length, refl, ap, sym, subst, ◌∙◌, arith}
 use Rattle.std.proofs.lemmas.Bool.Decides.{nat_tests}
 use Rattle.std.proofs.lemmas.List.{append-nil, length-append}
@@ -58,16 +58,16 @@ use Rattle.mmtel_call_laws.proofs.Falling.{divert-leaves, target-leaves}
 use Rattle.mmtel_call_laws.proofs.Knowing.{IsKnown, cause_of, none-left, of_caller-known, reach_of-known, refusal-known, served-known, sheet-known, target_uri}
 use Rattle.mmtel_call_laws.proofs.Parts.{all_parts, last_part-more, last_record-more, last_served, last_served-more, past_parts-more, rows-unanswered}
 
--- ---- what is shown
+-- ---- what is observed
 
 pub same-number : (n : ℕ) → (n == n) ≡ true
 same-number n = grind (arith, nat_tests)
 
--- a final of the server's own
+-- a final response of the server's own
 pub told-shown : (site : Site) (c : Call) (code : ℕ) (desk : Desk) → signs_of c.opening.key (told_caller site c code desk).out ≡ signs_of c.opening.key desk.out ++ final_sign code
 told-shown site c code desk = shows-reply c.opening.key _ _ _ desk (same-number c.opening.key.0)
 
--- one that was heard
+-- one that was received
 pub relayed-shown : (site : Site) (c : Call) (service : Option Service) (m : Said) (desk : Desk) → signs_of c.opening.key (relayed_to_caller site c service m desk).out ≡ signs_of c.opening.key desk.out ++ final_sign (status_in m.heard.start)
 relayed-shown site c service m desk =
     shows-reply c.opening.key c.opening.invite.heard.start c.opening.invite.heard.lines
@@ -110,7 +110,7 @@ pub unanswered : (answered : Option ℕ) (cause : Cause) → answered ≡ None �
 unanswered None cause e = refl
 unanswered (Some at) cause e = absurd cc
 
--- by this cause, where nothing was filed before on this desk
+-- with this cause, where nothing was filed before in this output
 pub refused-comes : (site : Site) (first : Standing) (later : ℕ → Standing) (at : ℕ) (caller : Leg) (cause : Cause) (c : Call) (desk : Desk) (rows : List Row) (P : Type 0) (old : List Sign) (kept : Kept) →
     IsReady site first later caller c kept → desk.rows ≡ rows → (P → signs_of c.opening.key desk.out ≡ old ++ final_sign (status_of cause)) →
     Comes site first c.opening later P kept.targets (at_phase kept (moves.Over (Final cause))) rows old (over at cause caller.meter None c desk) at
@@ -145,7 +145,7 @@ refused-comes site first later at caller cause c desk rows P old kept ready same
 
 -- ---- a diversion that is due
 
--- how things stand at the targets that are reached from here on, up to where this step comes
+-- the states at the targets that are reached from here on, as far as this step goes
 abbrev pub StandsThen : Site → Standing → Opening → (ℕ → Standing) → Kept → Step → Type 0
 StandsThen site now o later kept s = (j : ℕ) → kept.done ≤ j → j < total site o - s.call.diversions.left → later j ≡ now
 
@@ -155,7 +155,7 @@ pub record IsDiverting (site : Site) (first : Standing) (later : ℕ → Standin
   pub served : last_served (known_as site first c.opening later) None kept.targets ≡ option_map account_in service
   pub reached : length kept.targets ≡ suc kept.done
 
--- what a diversion comes to that is due where so many are left
+-- the result of a diversion that is due where this many are left
 abbrev pub DivertComes : ℕ → Site → Standing → Standing → (ℕ → Standing) → Leg → Type 0 → Type 0
 DivertComes left site now first later caller P =
     (service : Option Service) (reach : Reach) (due : DueDiversion) (c : Call) (desk : Desk) (rows : List Row) (old : List Sign) (kept : Kept) →
@@ -191,7 +191,7 @@ served-part site now first later caller c kept by target offer coming =
     ∙ ap (λ (standing : Standing). option_map (begun Terminating c.opening.number standing.at) (targets.served_at call by target.uri)) (sym coming.stands)
     ∙ sym (last_part-more call c.opening.number 0 kept.done kept.targets (target_as target.uri by offer) place)
 
--- once it was reached, and is not offered to
+-- after it was reached, and is not offered the call
 passed-ready : (site : Site) (now first : Standing) (later : ℕ → Standing) (caller : Leg) (c : Call) (kept : Kept) (by : Option DueDiversion) (target : Target) →
     IsComing site now first later caller c kept by target →
     IsReady site first later caller (passed_by now.at (service_at site now c.opening (cause_of by) target) c) (with_target kept target.uri by NotOffered)
@@ -227,7 +227,7 @@ record-last site now first later caller c kept by target offer coming =
     ∙ ap turns.sheet_of (sym (reach_of-known site now first c.opening later kept.done by target coming.number coming.stands))
     ∙ sym (last_record-more call 0 kept.done kept.targets (target_as target.uri by offer) place)
 
--- by the turn there
+-- by what is done there
 turn-comes : (left : ℕ) (site : Site) (now first : Standing) (later : ℕ → Standing) (caller : Leg) → (P : Type 0) → DivertComes left site now first later caller P →
     (reach : Reach) (by : Option DueDiversion) (target : Target) (turn : Turn) (c : Call) (desk : Desk) (rows : List Row) (old : List Sign) (kept : Kept) →
     IsKnown first c.opening → IsComing site now first later caller c kept by target → turns.sheet_of reach ≡ its_sheet (service_at site now c.opening (cause_of by) target) →
@@ -285,7 +285,7 @@ pub came-after : (site : Site) (first : Standing) (o : Opening) (later : ℕ →
 unfolding moves.moves
 came-after site first o later P before kept rows old s at (n, filed, same, agrees, shown) = (suc n, filed, same, agrees, shown)
 
--- the move at the target is the turn there
+-- the move at the target is what is done there
 pub move-known : (law : TurnsAreMoves) (site : Site) (now first : Standing) (o : Opening) (later : ℕ → Standing) (by : Option DueDiversion) (target : Target) (kept : Kept) (count : ℕ) →
     IsKnown first o → count ≡ received_in o + kept.done → target.of_number ≡ is_by_number by → standing_after (known_as site first o later) kept.done ≡ now →
     let reach = reach_at site now o (cause_of by) target (service_at site now o (cause_of by) target) (peer_for site o target) in
@@ -329,7 +329,7 @@ target-comes law left site now first later caller P goes by target c desk rows o
 
 -- ---- a diversion
 
--- what stands before a diversion refuses it, or it goes on
+-- what is checked before a diversion refuses it, or the diversion proceeds
 unless-comes : (site : Site) (now first : Standing) (later : ℕ → Standing) (caller : Leg) (refusal : Option Cause) (onward : Call → Desk → Step) (uri : Uri) (due : DueDiversion)
     (c : Call) (desk : Desk) (rows : List Row) (P : Type 0) (old : List Sign) (kept : Kept) →
     IsReady site first later caller c kept → desk.rows ≡ rows → (P → signs_of c.opening.key desk.out ≡ old) →
@@ -384,7 +384,7 @@ coming-by left site now first later caller c kept service reach due ready divert
       number = refl;
     }
 
--- where the diversion is made, things stand then as they stand now
+-- where the diversion is made, the state then is the present one
 pub stands-next : (left : ℕ) (site : Site) (now : Standing) (later : ℕ → Standing) (c : Call) (kept : Kept) (s : Step) → c.diversions.left + kept.done ≡ total site c.opening → c.diversions.left ≡ suc left →
     s.call.diversions.left ≤ left → StandsThen site now c.opening later kept s → later kept.done ≡ now
 stands-next left site now later c kept s e few leaves stands = stands kept.done (omega arith) (omega arith)

@@ -1,4 +1,4 @@
--- What every story comes to.
+-- The result of every trace.
 use Rattle.std.proofs.Common.{◌≡◌, ℕ, zero, suc, ◌+◌, Bool, true, false, List, [], ◌∷◌, ◌++◌, map, refl, ap, sym, ◌∙◌, arith}
 use Rattle.std.proofs.lemmas.List.{map-append}
 use Rattle.std.proofs.lemmas.List.Sums.{sum_by-append}
@@ -30,7 +30,7 @@ use Rattle.mmtel_call_laws.proofs.Agreeing.{Agrees, Ends, Place, Rings, Talks}
 use Rattle.mmtel_call_laws.proofs.Moments.{answer-told}
 use Rattle.mmtel_call_laws.proofs.Telling.{Told, moves-more, tied}
 
--- ---- moves that come to nothing more
+-- ---- moves that lead to nothing more
 
 abbrev pub kept_at : Kept → moves.Phase → Kept
 kept_at kept phase = record kept { phase = phase; endings = [] }
@@ -57,9 +57,9 @@ still site first o later kept c filed at n call empty (Talks x stage moment p) =
 still site first o later kept c filed at n call empty (Ends cause p) =
     let e = at-phase kept (moves.Over (over_by c.answered (Final cause))) p.over empty in ap (moves.moves n call) e ∙ over-still n call kept (over_by c.answered (Final cause)) ∙ sym e
 
--- ---- a story and its Outcome
+-- ---- a trace and its Outcome
 
--- what is kept of the call at the end of the story
+-- what is kept of the call at the end of the trace
 pub record IsTold (s : Start) (heard : List Heard) (kept : Kept) : Type 0 where
   pub outcome : outcome_so_far kept ≡ outcome_after s heard
   pub agrees : Agrees s.site s.now (opening_in s) (stood_after s heard) kept (call_after s heard) (rows_after s heard) (over_at s heard)
@@ -94,7 +94,7 @@ comes_to_its_outcome turn_law end_law extend enough_law s heard =
     let (kept, t) = told turn_law end_law extend enough_law s heard in
     result-at s.site s.now (opening_in s) (stood_after s heard) kept (call_after s heard) (rows_after s heard) (over_at s heard) t.agrees.place ∙ ap (λ (o : precedence.Outcome). o.result) t.outcome
 
--- ---- what goes out
+-- ---- what is sent
 
 pub shows_its_outcome : TurnsAreMoves → EndingsAreMoves → LaterEndingsExtend → MovesGiveTheOutcome → ShowsItsOutcome
 shows_its_outcome turn_law end_law extend enough_law s heard own =
@@ -163,7 +163,7 @@ filed turn_law end_law extend enough_law s heard cause over =
 count-append : {A : Type 0} (p : A → Bool) (xs ys : List A) → count_by p (xs ++ ys) ≡ count_by p xs + count_by p ys
 count-append p xs ys = sum_by-append (λ x. cond (p x) 1 0) xs ys
 
--- a row tells of the part
+-- whether a CDR is that of the part
 past-begun : (end : Ending) (parts : List Noted) → map begun_in_row (map (past_row end) parts) ≡ map begun_of parts
 unfolding past_row
 past-begun end [] = refl

@@ -1,4 +1,4 @@
--- What is in flight of a call has its finals.
+-- The requests in flight of a call get their final responses.
 use Rattle.std.proofs.Common.{◌≡◌, ◌∙◌, ◌⊎◌, inl, inr, ℕ, Bool, true, false, not, List, [], ◌∷◌, ◌++◌, map, Option, Some, None, refl, sym, subst, ap, append_assoc, append-nil}
 use Rattle.std.proofs.lemmas.List.{map-append}
 use Rattle.std.specs.Prelude.{codes, if◌then◌else◌, slice_get}
@@ -44,13 +44,13 @@ use Rattle.mmtel_call_laws.proofs.Replies.Rows as replies
 mod Rows
 use Rattle.mmtel_call_laws.proofs.Dismissal.Rows as rows
 
--- ---- the finals
+-- ---- the final responses
 
 module _ (site : Site) (c : Call) where
   abbrev finals : List Flight → List Emit
   finals flights = map (final_of site c) flights
 
-  -- what it says is 481, or 487
+  -- its status is 481, or 487
   one_out : (flight : Flight) (desk : Desk) → (dismissed_flight site c flight desk).out ≡ desk.out ++ final_of site c flight ∷ []
   one_out flight desk = by flight.kind
     where
@@ -70,7 +70,7 @@ module _ (site : Site) (c : Call) where
       each_out updates (dismissed_each site c pracks desk) ∙ ap (λ (o : List Emit). o ++ finals updates) (each_out pracks desk) ∙ append_assoc desk.out (finals pracks) (finals updates)
       ∙ ap (λ (o : List Emit). desk.out ++ o) (sym (map-append (final_of site c) pracks updates))
 
-  -- what is settled behind them
+  -- what is settled after them
   pub record Follows (before : List Emit) (out : List Emit) : Type 0 where
     pub more : List Emit
     pub is : out ≡ before ++ more
@@ -92,7 +92,7 @@ module _ (site : Site) (c : Call) where
   pub dismissing_follows : (desk : Desk) → Follows (desk.out ++ finals (in_order c.flights)) (dismissing site c desk).out
   dismissing_follows desk = subst (λ (o : List Emit). Follows o (dismissing site c desk).out) (all_out desk) (settled_follows c.phase (dismissed_all site c desk))
 
--- ---- what follows them replies to others
+-- ---- what follows them replies to other requests
 
 tail_same : {A : Type 0} (x : A) (ys zs : List A) → x ∷ ys ≡ x ∷ zs → ys ≡ zs
 tail_same x ys zs e = cc
@@ -101,7 +101,7 @@ same_behind : {A : Type 0} (xs ys zs : List A) → xs ++ ys ≡ xs ++ zs → ys 
 same_behind [] ys zs e = e
 same_behind (x ∷ xs) ys zs e = same_behind xs ys zs (tail_same x (xs ++ ys) (xs ++ zs) e)
 
--- each transaction is of these
+-- each transaction is among these
 abbrev all : ℕ → Bool
 all k = true
 
@@ -126,7 +126,7 @@ signal_of_all (signal.Silent branch method) = tt
 signal_of_all (signal.Due what) = tt
 signal_of_all (signal.Ended key) = tt
 
--- whether the attempt is left is the same without what is in flight
+-- whether the attempt ends without a 2xx is the same without the requests in flight
 leaves_in : (phase : Phase) (invite : TKey) (what : DueWord) (c : Call) →
     (leaves_on_cancel phase invite (dismissed c) ≡ leaves_on_cancel phase invite c) × (leaves_on_due phase what (dismissed c) ≡ leaves_on_due phase what c)
 leaves_in (Offered x) invite (due.NoReply number) c = (refl, refl)
@@ -159,7 +159,7 @@ none_left : (c : Call) (s : Step) → rows.Leaves (dismissed c) s → s.call.fli
 none_left c s (inl e) = e
 none_left c s (inr e) = e
 
--- a step that leaves the attempt
+-- a step that ends the attempt without a 2xx, or the call
 module _ (site : Site) (now : Standing) (heard : Signal) (c : Call) (desk : Desk) where
   abbrev told : Desk
   told = dismissing site c desk
@@ -251,7 +251,7 @@ last_none s (x ∷ earlier) over = step_none s.site x.now x.signal (call_after s
 pub nothing_in_flight : NothingIsInFlight
 nothing_in_flight = record { first = first_none; last = last_none }
 
--- ---- without a leg
+-- ---- without a detached leg
 
 ends_in : (phase : Phase) (site : Site) (at : ℕ) (c : Call) (desk : Desk) → is_lent phase ≡ true →
     AreDismissed site (λ own. Unit {0}) (record c { phase = phase }) desk (finished_in phase site at (record c { phase = phase }) desk)

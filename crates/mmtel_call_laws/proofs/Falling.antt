@@ -1,4 +1,4 @@
--- The diversions that are left never rise.
+-- The number of diversions that are left never rises.
 use Rattle.std.proofs.Common.{◌≡◌, ℕ, zero, suc, ◌≤◌, refl, arith}
 use Rattle.std.specs.Prelude.{Option, Some, None}
 use Rattle.mmtel_desk.specs.declared.desks.Desk.{Desk}
@@ -16,11 +16,11 @@ use Rattle.mmtel_call.specs.Closing.{Step}
 use Rattle.mmtel_call.specs.Diverting.{at_target, divert, diverted, is_diverted, made, made_unless, on_turn, passed_by, refusal_by, refused, told_of}
 use Rattle.mmtel_call.specs.declared.calls.Call.{Call}
 
--- at most so many are left after the step
+-- at most this many are left after the step
 abbrev pub Leaves : ℕ → Step → Type 0
 Leaves left s = s.call.diversions.left ≤ left
 
--- whatever a diversion comes to that is due where so many are left
+-- whatever the result of a diversion is that is due where this many are left
 abbrev DivertLeaves : ℕ → Site → Standing → Leg → Type 0
 DivertLeaves left site now caller = (service : Option Service) (due : DueDiversion) (c : Call) (desk : Desk) → c.diversions.left ≡ left → Leaves left (divert left site now caller service due c desk)
 

@@ -1,4 +1,4 @@
--- What a call that is offered does on each signal: it goes on to ring, or its attempt ends.
+-- What a call that is offered does on each signal: it continues to ring, or its attempt ends.
 use Rattle.std.proofs.Common.{◌++◌, ◌∷◌, [], ◌≡◌, ℕ, ◌==◌, Bool, true, false, List, refl, ap, ◌∙◌}
 use Rattle.std.proofs.lemmas.Bool.Decides.{nat_tests}
 use Rattle.std.proofs.Common.{arith}
@@ -60,7 +60,7 @@ use Rattle.mmtel_call_laws.specs.Endings.{end_by_answer, end_by_deadline, end_by
 use Rattle.mmtel_call_laws.proofs.Untouched.{Alike, Untouched, alike, cancelled-rows, dismissing-rows, if-rows, key-untouched, other-untouched, settled-rows, silent-untouched, unheard-rows, unlisted-rows}
 use Rattle.mmtel_session.specs.Intervals.{expiry_after}
 
--- it goes on to ring
+-- it continues to ring
 pub record StillRings (P : Type 0) (x : Trial) (c : Call) (before : Desk) (s : Step) (y : Trial) : Type 0 where
   pub phase : s.call.phase ≡ Offered y
   pub same : Alike c s.call
@@ -70,7 +70,7 @@ pub record StillRings (P : Type 0) (x : Trial) (c : Call) (before : Desk) (s : S
   pub none : s.desk.rows ≡ before.rows
   pub shown : P → signs_of c.opening.key s.desk.out ≡ signs_of c.opening.key before.out
 
--- a 2xx came
+-- a 2xx was received
 pub record WasAnswered (P : Type 0) (at : ℕ) (x : Trial) (c : Call) (before : Desk) (s : Step) (y : Pair) (stage : Stage) : Type 0 where
   pub phase : s.call.phase ≡ Stood y stage
   pub opening : s.call.opening ≡ c.opening
@@ -83,7 +83,7 @@ pub record WasAnswered (P : Type 0) (at : ℕ) (x : Trial) (c : Call) (before : 
   pub none : s.desk.rows ≡ before.rows
   pub shown : P → signs_of c.opening.key s.desk.out ≡ signs_of c.opening.key before.out ++ Accepted ∷ []
 
--- how the call ends before it was answered: the caller gave up, or did not acknowledge an answer
+-- how the call ends before it was answered: the caller abandoned it, or did not acknowledge a reliable response
 abbrev pub given_how : (by_caller : Bool) → End
 given_how true = Cancel
 given_how false = Unacknowledged
@@ -92,7 +92,7 @@ abbrev pub given_cause : (by_caller : Bool) → Cause
 given_cause true = causes.Cancelled
 given_cause false = causes.Unacknowledged
 
--- it ends so
+-- it ends in this way
 pub record WasGivenUp (P : Type 0) (at : ℕ) (cause : Cause) (x : Trial) (c : Call) (before : Desk) (s : Step) (y : Trial) (d : Call) (desk : Desk) : Type 0 where
   pub is : s ≡ over_offered at cause y d desk
   pub same : Alike c d
@@ -132,7 +132,7 @@ fares-if : (P : Type 0) (site : Site) (now : Standing) (x : Trial) (c : Call) (b
 fares-if P site now x c before true end end2 s s2 f g = f
 fares-if P site now x c before false end end2 s s2 f g = g
 
--- ---- the call is given up
+-- ---- the call is abandoned
 
 gives-up-by : (P : Type 0) (by_caller : Bool) (site : Site) (now : Standing) (x y : Trial) (c : Call) (before : Desk) (desk : Desk) → y.caller.meter ≡ x.caller.meter → y.callee.leg.meter ≡ x.callee.leg.meter → desk.rows ≡ before.rows →
     (P → signs_of c.opening.key desk.out ≡ signs_of c.opening.key before.out) →
@@ -155,7 +155,7 @@ gives-up P site now x y c before desk e f h q = gives-up-by P true site now x y 
 
 -- ---- requests
 
--- where a side was heard: the call as it is offered then, and the legs of it
+-- after a request of a side was accepted: the call as it is offered then, and its legs
 module _ (P : Type 0) (site : Site) (now : Standing) (x y : Trial) (key : TKey) (m : Said) (c : Call) (desk : Desk) (caller : y.caller.meter ≡ x.caller.meter) (callee : y.callee.leg.meter ≡ x.callee.leg.meter)
     (service : y.attempt.service ≡ x.attempt.service) (own : P → (key.0 == c.opening.key.0) ≡ false) where
   abbrev Does : Step → Type 0
@@ -232,7 +232,7 @@ request-fares : (P : Type 0) (site : Site) (now : Standing) (x : Trial) (side : 
 request-fares P site now x Caller key m c desk own = caller-heard P site now x key m c desk (says x.caller m in_flight.Theirs) own
 request-fares P site now x Callee key m c desk own = callee-heard P site now x key m c desk (says x.callee.leg m in_flight.Own) own
 
--- ---- deadlines and silence
+-- ---- deadlines and timeouts
 
 timed : (P : Type 0) (site : Site) (now : Standing) (x : Trial) (how : End) (c : Call) (desk : Desk) → (how ≡ Answer → ⊥) → Fares P site now x (offered x c) desk (Some how) (timed_out site now x how (offered x c) desk)
 timed P site now x how c desk h = GoesOn how refl None (left x (offered x c)) (cancelled_attempt site x desk) (record {
@@ -322,7 +322,7 @@ plainly P site now x key m code c desk low =
       shown = λ p. (armed-quiet (its_sheet x.attempt.service) code now.at x (offered x c) passed).signs ∙ (quiet-provisional c.opening.key c.opening.key _ _ _ desk low).signs;
     })
 
--- a reliable answer
+-- a reliable response
 if-relayed : (P : Type 0) (site : Site) (now : Standing) (x : Trial) (key : TKey) (m : Said) (code rseq : ℕ) (given : Option ℕ) (c : Call) (desk : Desk) → nat_lt (status_of m.heard.start) 200 ≡ true →
     Fares P site now x (offered x c) desk None (relayed_if given rseq site now.at x key m code (offered x c) desk)
 if-relayed P site now x key m code rseq None c desk low = tries P site now x key c desk
@@ -379,7 +379,7 @@ redirection-unanswered code (Some target) rang e = go (code == 302) e
     go true e = cc
     go false e = cc
 
--- the end of a final by its class
+-- the end of an attempt by a final response, by its class
 abbrev final_by : (success busy unreachable redirection : Bool) → ℕ → Option Uri → (rang : Bool) → End
 final_by success busy unreachable redirection code target rang =
     if success then Answer
@@ -399,7 +399,7 @@ pub final-answered : (success busy unreachable redirection : Bool) (code : ℕ) 
 final-answered true busy unreachable redirection code target rang f = refl
 final-answered false busy unreachable redirection code target rang f = absurd cc
 
--- a 2xx is seen as one
+-- a 2xx is observed as one
 accepted-sign : (code : ℕ) → nat_lt code 200 ≡ false → nat_lt code 300 ≡ true → final_sign code ≡ Accepted ∷ []
 accepted-sign code e f = go (nat_lt code 200) (nat_lt code 300) e f
   where
@@ -446,7 +446,7 @@ answer-fares P site now x key m (Some branch) c desk fly =
 
 -- ---- any signal
 
--- what is heard, and what waits for an answer, has server transactions of its own
+-- what is received, and the requests that await their responses, have server transactions of their own
 abbrev pub IsOwn : Call → Signal → Type 0
 IsOwn c heard = IsOthers c.opening.key heard × FlyOthers c.opening.key c.flights
 
@@ -464,7 +464,7 @@ row-fares P site now x (signal.Silent branch method) c desk own fly = silence-fa
 row-fares P site now x (signal.Due what) c desk own fly = due-fares P site now x what c desk
 row-fares P site now x (signal.Ended key) c desk own fly = same-rings P site now x c desk _ (key-untouched key (offered x c) desk) (λ p. refl)
 
--- what is in flight was dismissed before
+-- the requests in flight were dismissed before
 dismissed-fares : (P : Type 0) (site : Site) (now : Standing) (x : Trial) (c : Call) (desk before : Desk) (end : Option End) (s : Step) → before.rows ≡ desk.rows → (P → signs_of c.opening.key before.out ≡ signs_of c.opening.key desk.out) →
     Fares P site now x (offered x (dismissed c)) before end s → Fares P site now x (offered x c) desk end s
 dismissed-fares P site now x c desk before end s e q (Rings is y r) = Rings is y (record {

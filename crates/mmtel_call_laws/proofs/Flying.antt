@@ -1,4 +1,4 @@
--- What is in flight came from later requests: so its server transactions are other ones than that of the INVITE that opened the call, where theirs are.
+-- The requests in flight were received after the INVITE that opened the call: so their server transactions are other ones than that of this INVITE, if those of all later requests are.
 use Rattle.std.proofs.Common.{[], ◌∷◌, ◌≡◌, ◌==◌, ◌⊎◌, List, false, inl, inr, sym, subst}
 use Rattle.mmtel_desk.specs.declared.desks.Desk.{Desk}
 use Rattle.mmtel_precedence.specs.Calls.{Standing}
@@ -18,7 +18,7 @@ use Rattle.mmtel_call_laws.proofs.Each.{each_append, each_without}
 abbrev IsOther : TKey → Flight → Type 0
 IsOther key flight = (flight.asked.key.0 == key.0) ≡ false
 
--- on whatever it hears
+-- on whatever it receives
 pub flies : (site : Site) (now : Standing) (heard : Signal) (c : Call) (desk : Desk) (key : TKey) → FlyOthers key c.flights → IsOthers key heard → FlyOthers key (step site now heard c desk).call.flights
 flies site now heard c desk key fly other = by (steps_go_on site now heard c desk)
   where
@@ -28,7 +28,7 @@ flies site now heard c desk key fly other = by (steps_go_on site now heard c des
     by (inl (dismissal.Answered place flight is)) = subst (FlyOthers key) (sym is.gone) (each_without (IsOther key) place c.flights fly)
     by (inr d) = subst (FlyOthers key) (sym d.none) tt
 
--- and so in every story
+-- and so in every trace
 pub own_fly : (s : Start) (heard : List Heard) → AreOwn s heard → FlyOthers s.arrival.key (call_after s heard).flights
 unfolding call_after
 own_fly s [] own = subst (FlyOthers s.arrival.key) (sym (nothing_in_flight.first s)) tt

@@ -1,4 +1,4 @@
--- What a call keeps from step to step.
+-- The invariants of a call from step to step.
 use Rattle.std.proofs.Common.{◌≡◌, ℕ, true, false, List, [], ◌++◌, refl, ap, sym, subst, ◌∙◌}
 use Rattle.mmtel_charging.specs.Meters.{Noted}
 use Rattle.mmtel_charging.specs.declared.rows.Row.{Row}
@@ -37,7 +37,7 @@ use Rattle.mmtel_call_laws.proofs.Dismissal.{last_none}
 use Rattle.mmtel_call_laws.proofs.Lowering.{stays-lent}
 use Rattle.mmtel_call_laws.proofs.Untouched.{Alike, Untouched}
 
--- ---- every story
+-- ---- every trace
 
 abbrev Laws : (A : Type 0) → Type 0
 Laws A = TurnsAreMoves → EndingsAreMoves → LaterEndingsExtend → MovesGiveTheOutcome → A

@@ -1,4 +1,4 @@
--- What the call knows at a target and after an attempt is what the precedence of services knows of it.
+-- The facts about a call at a target and after an attempt are those that the precedence of services uses.
 use Rattle.std.proofs.Common.{◌≡◌, ℕ, ◌+◌, ◌-◌, ◌≤◌, ◌<◌, Bool, true, false, arith, refl, ap, sym, ◌∙◌}
 use Rattle.std.proofs.lemmas.Bool.Decides.{nat_tests}
 use Rattle.std.specs.Prelude.{Option, Some, None, is_none, min, nat_lt, not, ◌&&◌, if◌then◌else◌, Result, Ok, Err, unwrap_or}
@@ -31,12 +31,12 @@ use Rattle.mmtel_call_decisions.specs.declared.openings.Opening.{Opening}
 use Rattle.mmtel_call_decisions.specs.declared.openings.Service.{Service}
 use Rattle.mmtel_call_laws.specs.Known.{known_as, received_in}
 
--- what the opening knows of the record of the account that is served as the caller, where things stood so
+-- what the opening has of the record of the account that is served as the caller, where this was the state
 pub record IsKnown (first : Standing) (o : Opening) : Type 0 where
   pub sheet : o.sheet ≡ option_map (sheet_at first) o.served.origin
   pub restricted : o.restricted ≡ is_caller_restricted o.invite.heard.wants (option_map (sheet_at first) o.served.origin)
 
--- the cause of a diversion, where one led to the target
+-- the cause of a diversion, if one led to the target
 abbrev pub cause_of : Option DueDiversion → Option ℕ
 cause_of by = option_map (λ (due : DueDiversion). due.cause) by
 
@@ -44,9 +44,9 @@ cause_of by = option_map (λ (due : DueDiversion). due.cause) by
 abbrev pub target_uri : Site → DueDiversion → Uri
 target_uri site due = new_target site.home due.forward.target
 
--- ---- circumstances
+-- ---- the facts
 
--- where so many diversions were received and made
+-- where this many diversions were received and made
 pub of_caller-known : (site : Site) (first : Standing) (o : Opening) (later : ℕ → Standing) (k count at : ℕ) → IsKnown first o → count ≡ received_in o + k →
     decisions.of_caller o at (nat_lt 0 count) ≡ targets.of_caller (known_as site first o later) k at
 of_caller-known site first o later k count at known counted =
@@ -71,7 +71,7 @@ reach-same : (at : ℕ) (served served2 : Option AccountState) (unknown unknown2
     reach at served unknown peer ≡ reach at served2 unknown2 peer
 reach-same at served served2 unknown unknown2 peer e f = ap (λ s. reach at s unknown peer) e ∙ ap (λ u. reach at served2 u peer) f
 
--- nobody's, by the mark of a number
+-- whether a target belongs to nobody, by the flag whether it comes from a number
 abbrev nobodys : Site → Option Account → Uri → Bool → Bool
 nobodys site account uri number = is_none account && (is_at_home site.home uri && not number)
 
@@ -109,7 +109,7 @@ pub served-known : (site : Site) (now first : Standing) (o : Opening) (later : �
 served-known site now first o later None target = account-of-service now (served_at site o None target)
 served-known site now first o later (Some due) target = account-of-service now (served_at site o (Some due.cause) target)
 
--- the first target is no number's
+-- the first target does not come from a number
 plain : (uri : Result Uri Refusal) → (unwrap_or (as_requested uri) nowhere).of_number ≡ false
 plain (Ok uri) = refl
 plain (Err refusal) = refl
@@ -117,9 +117,9 @@ plain (Err refusal) = refl
 pub first-known : (o : Opening) → (first_of o).of_number ≡ false
 first-known o = plain (uri_of (request_uri o.invite.heard.start))
 
--- ---- what stands before a diversion
+-- ---- what is checked before a diversion
 
--- the two bounds are reached together: what is left, and the count itself
+-- the two bounds are reached together: that on what is left, and that on the count itself
 both-below : (a b c d : ℕ) → (a < b → c < d) → (c < d → a < b) → nat_lt a b ≡ nat_lt c d
 both-below a b c d to from = go (nat_lt a b) (nat_lt c d) refl refl
   where
@@ -138,7 +138,7 @@ at-bound : (received done bound left count : ℕ) (own : Option ℕ) (cause : �
     refusal_at_bound count 0 (bound_of (count + left) own) cause ≡ refusal_at_bound received done (bound_of bound own) cause
 at-bound received done bound left count own cause e counted = ap (λ b. if b then None else Some (too_many cause)) (bound-same received done bound left count own e counted)
 
--- an account that is not served bars nothing
+-- if no account is served, nothing is barred
 barred-by : (c : Circumstances) (served : Option AccountState) (reach : Reach) (received done bound : ℕ) (due : DueDiversion) → reach.served ≡ served →
     refusal_before_diversion c (turns.sheet_of reach) received done bound due ≡ refusal_before_diversion c (Some (account_at reach).sheet) received done bound due
 barred-by c None reach received done bound due e = rw e refl
@@ -166,7 +166,7 @@ none-left c (Some sheet) count due e = go (bars_outgoing c sheet) e
     go true same = cc
     go false same = let is : Some (too_many due.cause) ≡ None = sym (bound-refuses count due.cause due.bound) ∙ same in cc
 
--- by the account that is served at a target, where so many were made and so many are left
+-- by the account that is served at a target, where this many were made and this many are left
 pub refusal-known : (site : Site) (first : Standing) (o : Opening) (later : ℕ → Standing) (at done left count : ℕ) (reach : Reach) (service : Option Service) (due : DueDiversion) → IsKnown first o →
     turns.sheet_of reach ≡ its_sheet service → left + done ≡ site.bound - received_in o → count ≡ received_in o + done →
     decisions.refusal_of_diversion site o at count left service due

@@ -1,4 +1,4 @@
--- A call that is not offered any more has no INVITE to a target go out, and no final to the INVITE that opened it.
+-- A call that is not offered any more sends no INVITE to a target, and no final response to the INVITE that opened it.
 use Rattle.std.proofs.Common.{◌≡◌, ℕ, zero, suc, ◌==◌, Bool, true, false, not, List, [], ◌∷◌, ◌++◌, length, drop, refl, ap, sym, subst, ◌∙◌, append_assoc}
 use Rattle.std.proofs.lemmas.List.{append-nil, drop_at}
 use Rattle.std.specs.List.{filter}
@@ -89,14 +89,14 @@ use Rattle.mmtel_call_laws.proofs.Signs.{signs-append}
 use Rattle.mmtel_call_laws.proofs.Untouched.{other-untouched, silent-untouched}
 use Rattle.mmtel_session.specs.Intervals.{expiry_after}
 
--- ---- what a step adds, as it is seen
+-- ---- what a step adds, as it is observed
 
 record Adds (key : TKey) (before after : Desk) (signs : List Sign) : Type 0 where
   new : List Emit
   out : after.out ≡ before.out ++ new
   seen : signs_of key new ≡ signs
 
--- nothing that is seen
+-- nothing that is observed
 abbrev IsUnseen : TKey → Desk → Desk → Type 0
 IsUnseen key before after = Adds key before after []
 
@@ -156,7 +156,7 @@ unseen-unlisted key site c asked m desk e =
     adds-if key desk (is_method (codes "OPTIONS") m.heard.start) (answered_to site c asked m 200 (allowed (further_methods site)) desk) (if is_method (codes "REFER") m.heard.start then replied_to site c asked m 403 desk else replied_to site c asked m 481 desk) [] (unseen-reply key asked _ desk e)
     (adds-if key desk (is_method (codes "REFER") m.heard.start) (replied_to site c asked m 403 desk) (replied_to site c asked m 481 desk) [] (unseen-reply key asked _ desk e) (unseen-reply key asked _ desk e))
 
--- ---- an INVITE that the call does not wait on
+-- ---- an INVITE for which the call does not wait
 
 success-unseen : (key : TKey) (sip : Addr) (l : Loose) (remote : Remote) (d : Option Dialogue) (desk : Desk) → IsUnseen key desk (on_success_in sip l remote d desk).desk
 success-unseen key sip l remote None desk =
@@ -192,9 +192,9 @@ taken-unseen key site asked m at (Some t) c desk =
     (step-if key desk (is_fork t m) _ _ (rest-unseen key site.sip asked m.heard (as_loose t) desk)
     (adds-if key desk (is_talking c.phase) (acked_again t t.invitation.ack desk) desk [] (again-unseen key t t.invitation.ack desk) (nothing key desk)))
 
--- ---- what is in flight
+-- ---- requests in flight
 
--- what is armed for the session of a 2xx
+-- the deadline for the session of a 2xx
 expiry-shows : (key : TKey) (timer : Bool) (time : Option ℕ) (at : ℕ) (c : Call) → signs_of key (if timer then expiry_in time at c else []) ≡ []
 expiry-shows key true None at c = refl
 expiry-shows key true (Some time) at c = refl
@@ -240,7 +240,7 @@ silent_at-unseen key site branch (Some place) c desk fly = nothing key desk
 silent-unseen : (key : TKey) (site : Site) (branch : List ℕ) (c : Call) (desk : Desk) → FlyOthers key c.flights → IsUnseen key desk (silent_other site branch c desk).desk
 silent-unseen key site branch c desk fly = silent_at-unseen key site branch (position (is_of branch) c.loose) c desk fly
 
--- it is dismissed
+-- they are dismissed
 
 settled-unseen : (key : TKey) (site : Site) (own : Option ℕ) (c : Call) (desk : Desk) → IsUnseen key desk (in_flight.settled site own c desk)
 settled-unseen key site own c desk = adds-if key desk site.reliable (emitted (emit.Settled c.opening.key own) desk) desk [] (adds-emit key desk _ [] refl) (nothing key desk)
@@ -297,9 +297,9 @@ both-unseen key site x desk = adds-then key desk (bye_to site x Caller desk) _ [
 over-unseen : (key : TKey) (at : ℕ) (x : Pair) (c : Call) (before desk : Desk) → IsUnseen key before desk → IsUnseen key before (over_stood at x c desk).desk
 over-unseen key at x c before desk a = record { new = a.new; out = a.out; seen = a.seen }
 
--- ---- what a call that stands waits for stays of another request
+-- ---- the request for which an established call waits remains another one
 
--- on what it hears while it stands
+-- on what it receives while it is established
 record Stays (key : TKey) (before : Desk) (s : Step) : Type 0 where
   unseen : IsUnseen key before s.desk
   asks : AsksOthers key s.call.phase
@@ -308,7 +308,7 @@ stays-if : (key : TKey) (before : Desk) (b : Bool) (one two : Step) → Stays ke
 stays-if key before true one two e f = e
 stays-if key before false one two e f = f
 
--- as it was
+-- the phase is unchanged
 as-it-was : (key : TKey) (before : Desk) (c : Call) (desk : Desk) → AsksOthers key c.phase → IsUnseen key before desk → Stays key before (onward c desk)
 as-it-was key before c desk a u = record { unseen = u; asks = a }
 
@@ -316,7 +316,7 @@ ends-so : (key : TKey) (at : ℕ) (x : Pair) (c : Call) (before desk : Desk) →
 ends-so key at x c before desk u = record { unseen = over-unseen key at x c before desk u; asks = tt }
 
 module _ (key : TKey) (site : Site) (at : ℕ) where
-  -- ---- requests, but for INVITE
+  -- ---- requests, except INVITE
 
   left-by-stays : (stage : Stage) (x : Pair) (side : Side) (m : Said) (c : Call) (desk : Desk) → AsksOthersAt key stage → Stays key desk (left_by stage site at x side m c desk)
   left-by-stays (Answered waiting success) x side m c desk a =
@@ -366,9 +366,9 @@ module _ (key : TKey) (site : Site) (at : ℕ) where
       (stays-if key desk (is_update m) _ _ (update-stays stage x side asked m c desk other now)
       (stays-if key desk (is_prack m) _ _ (as-it-was key desk c _ now (unseen-reply key asked _ desk other)) (as-it-was key desk c _ now (unseen-unlisted key site c asked m desk other))))
 
-  -- ---- an INVITE within the call is passed on
+  -- ---- an INVITE within the call is relayed
 
-  -- what a step shows on a request, where it may be an INVITE
+  -- what is observed of a step on a request that may be an INVITE
   record Hears (within : Bool) (before : Desk) (s : Step) : Type 0 where
     signs : List Sign
     adds : Adds key before s.desk signs
@@ -415,7 +415,7 @@ module _ (key : TKey) (site : Site) (at : ℕ) where
       let y = with_leg side (having_heard (leg_of side x) m) x in heard-hears (is_invite m) stage y side asked m (at_stage y stage c) desk other a refl
   said-hears (Err fault) stage x side asked m c desk other a = hears (is_invite m) desk _ (as-it-was key desk (at_stage x stage c) _ a (unseen-unheard key site (at_stage x stage c) asked m fault desk other))
 
-  -- ---- ACK, CANCEL, deadlines, silence
+  -- ---- ACK, CANCEL, deadlines, timeouts
 
   ack-stays : (stage : Stage) (x : Pair) (side : Side) (m : Said) (c : Call) (desk : Desk) → AsksOthersAt key stage → AsksOthers key c.phase → Stays key desk (on_ack_at stage site at x side m c desk)
   ack-stays (Answered waiting success) x side m c desk a now =
@@ -482,7 +482,7 @@ module _ (key : TKey) (site : Site) (at : ℕ) where
   response-stays (Asking asking q) x asked m c desk a now =
       let code = status_of m.heard.start in across-stays x asking q asked m c desk (nat_lt code 200) (nat_lt code 300) (ends_dialog code) a
 
--- ---- a request that the call does not wait on leaves it as it is
+-- ---- a request for which the call does not wait does not change its phase
 
 other-stays : (key : TKey) (site : Site) (at : ℕ) (asked : TKey) (m : Said) (branch : List ℕ) (c : Call) (desk : Desk) → AsksOthers key c.phase → FlyOthers key c.flights → Stays key desk (answered_other site at asked m branch c desk)
 other-stays key site at asked m branch c desk now fly =
@@ -491,7 +491,7 @@ other-stays key site at asked m branch c desk now fly =
 silent-stays : (key : TKey) (site : Site) (branch : List ℕ) (c : Call) (desk : Desk) → AsksOthers key c.phase → FlyOthers key c.flights → Stays key desk (silent_other site branch c desk)
 silent-stays key site branch c desk now fly = record { unseen = silent-unseen key site branch c desk fly; asks = subst (AsksOthers key) (sym (silent-untouched site branch c desk).phase) now }
 
--- ---- a call that stands, on any signal
+-- ---- an established call, on any signal
 
 answer-stays : (key : TKey) (branch : Option (List ℕ)) (stage : Stage) (site : Site) (now : Standing) (x : Pair) (asked : TKey) (m : Said) (c : Call) (desk : Desk) → AsksOthersAt key stage → FlyOthers key c.flights →
     Stays key desk (answer_to branch site now asked m (at_stage x stage c) desk)
@@ -519,7 +519,7 @@ row-hears key site now x stage (signal.Due what) c desk a fly other =
     hears key site now.at false desk _ (stays-if key desk (is_due_at stage c.successes what) _ _ (rung-stays key site now.at stage x (at_stage x stage c) desk a) (as-it-was key desk (at_stage x stage c) desk a (nothing key desk)))
 row-hears key site now x stage (signal.Ended asked) c desk a fly other = hears key site now.at false desk _ (record { unseen = nothing key desk; asks = a })
 
--- what is in flight was dismissed before
+-- the requests in flight were dismissed before
 hears-after : (key : TKey) (site : Site) (at : ℕ) (within : Bool) (desk before : Desk) (s : Step) → IsUnseen key desk before → Hears key site at within before s → Hears key site at within desk s
 hears-after key site at within desk before s u h = record { signs = h.signs; adds = adds-then key desk before s.desk [] h.signs u h.adds; none = h.none; asks = h.asks }
 
@@ -537,9 +537,9 @@ stood-hears key site now x stage heard c desk a fly other =
     (hears-after key site now.at (is_within heard) desk before _ (dismissing-unseen key site d desk fly) (row-hears key site now x stage heard (in_flight.dismissed c) before a tt other))
     (row-hears key site now x stage heard c desk a fly other)
 
--- ---- one that is over, and one whose leg is away
+-- ---- one that is over, and one whose leg is detached
 
--- hears nothing but of requests that it does not wait on
+-- a signal only affects requests for which it does not wait
 abbrev HearsNone : Phase → Type 0
 HearsNone phase = (key : TKey) (site : Site) (now : Standing) (heard : Signal) (c : Call) (desk : Desk) → FlyOthers key c.flights → IsUnseen key desk (row site now heard (record c { phase = phase }) desk).desk
 
@@ -577,7 +577,7 @@ over-none cause key site now (signal.Silent branch method) c desk fly = quiet-go
 over-none cause key site now (signal.Due what) c desk fly = nothing key desk
 over-none cause key site now (signal.Ended asked) c desk fly = nothing key desk
 
--- whatever it hears, it does not leave
+-- on a signal that ends neither an attempt of it nor the call
 step-none : (phase : Phase) (key : TKey) (site : Site) (now : Standing) (heard : Signal) (c : Call) (desk : Desk) → leaves heard (record c { phase = phase }) ≡ false → IsUnseen key desk (row site now heard (record c { phase = phase }) desk).desk →
     IsUnseen key desk (step site now heard (record c { phase = phase }) desk).desk
 unfolding step
@@ -625,7 +625,7 @@ finished-none site at c desk key fly = signs-added key desk (finished_in c.phase
 
 -- ---- while it is offered
 
--- finals alone
+-- final responses alone
 abbrev AreFinals : List Sign → Type 0
 AreFinals [] = Unit {0}
 AreFinals (Invited uri ∷ later) = ⊥
@@ -731,7 +731,7 @@ heard-answers key site at x Caller asked m c desk =
     step-answers key desk (is_bye m) _ _ (gives-up-answers key site at x asked m c desk) (other-answers key site x Caller asked m c desk)
 heard-answers key site at x Callee asked m c desk = other-answers key site x Callee asked m c desk
 
--- what is in flight is dismissed
+-- the requests in flight are dismissed
 each-answers : (key : TKey) (site : Site) (c : Call) (flights : List Flight) (desk : Desk) → Answers key desk (in_flight.dismissed_each site c flights desk)
 each-answers key site c [] desk = no-answer key desk desk (nothing key desk)
 each-answers key site c (flight ∷ flights) desk =
@@ -784,7 +784,7 @@ offered-all (Stood x stage) site now heard c desk key h = absurd (let e : false 
 offered-all (Lent loan) site now heard c desk key h = absurd (let e : false ≡ true = h in cc)
 offered-all (Over cause) site now heard c desk key h = absurd (let e : false ≡ true = h in cc)
 
--- ---- a call that goes on from target to target is offered to one, or over
+-- ---- a call that continues from target to target is offered to one, or over
 
 abbrev Asks : TKey → Step → Type 0
 Asks key s = AsksOthers key s.call.phase

@@ -29,7 +29,7 @@ use Rattle.mmtel_call_laws.proofs.Falling.{Leaves, divert-leaves}
 use Rattle.mmtel_call_laws.proofs.Faring as faring
 use Rattle.mmtel_call_laws.proofs.Untouched.{Untouched, key-untouched, other-untouched, silent-untouched, untouched}
 
--- as many are left as were
+-- as many are left as before
 keeps : (c d : Call) → d.diversions ≡ c.diversions → d.diversions.left ≤ c.diversions.left
 keeps c d e = let f : d.diversions.left ≡ c.diversions.left = ap (λ (v : Diverted). v.left) e in omega arith
 
@@ -62,7 +62,7 @@ goes-leaves : (at : ℕ) (x : Rattle.mmtel_call.specs.declared.calls.Pair.Pair) 
 goes-leaves at x c rows s (answering.Stands y stage r) = keeps c s.call r.same.diversions
 goes-leaves at x c rows s (answering.Leaves y d desk r) = subst (Leaves c.diversions.left) (sym r.is) (keeps c d r.same.diversions)
 
--- ---- a call whose leg is away hears nothing
+-- ---- a call whose leg is detached processes no signal
 
 abbrev pub lent : Loan → Call → Call
 lent loan c = record c { phase = Lent loan }
@@ -85,7 +85,7 @@ lent-row site now loan (signal.Silent branch method) c desk = lent-silent (invit
 lent-row site now loan (signal.Due what) c desk = untouched (lent loan c) desk
 lent-row site now loan (signal.Ended key) c desk = key-untouched key (lent loan c) desk
 
--- no signal leaves it
+-- no signal ends an attempt of it, or the call
 pub no-leaving : (loan : Loan) (heard : Signal) (c : Call) → leaves_on heard (lent loan c) ≡ false
 no-leaving loan (signal.Request side key request) c = refl
 no-leaving loan (signal.Ack side ack) c = refl

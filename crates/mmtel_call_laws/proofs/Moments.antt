@@ -103,7 +103,7 @@ failed-answer NoReply at h = refl
 failed-answer (Deflection target rang) at h = refl
 failed-answer (Other code) at h = refl
 
--- a call that is given up has none
+-- a call that is abandoned has none
 given-answer : (by_caller : Bool) (at : ℕ) → answer_of (faring.given_how by_caller) at ≡ None
 given-answer true at = refl
 given-answer false at = refl
@@ -140,7 +140,7 @@ in-phase-adds (Stood pair stage) s x c ends =
 in-phase-adds (Lent loan) s x c ends = adds-nothing c ends [] (next_step s x (record c { phase = Lent loan })) refl (stays-lent s.site x.now loan x.signal c x.desk).alike.answered
 in-phase-adds (Over cause) s x c ends = adds-nothing c ends [] (next_step s x (record c { phase = Over cause })) refl (answering.stays-over s.site x.now cause x.signal c x.desk).alike.answered
 
--- ---- every story
+-- ---- every trace
 
 begins-keeps : (refusal : Option Cause) (site : Site) (now : Standing) (c : Call) (desk : Desk) → Keeps c.answered (unless_refused refusal site now (caller_of now.at c) c desk)
 begins-keeps None site now c desk = target-keeps c.diversions.left site now (caller_of now.at c) (divert-keeps c.diversions.left site now (caller_of now.at c)) None (first_of c.opening) c desk

@@ -68,9 +68,9 @@ pub last_served-more : (call : precedence.Call) (before : Option Account) (targe
 last_served-more call before [] target = refl
 last_served-more call before (one ∷ later) target = last_served-more call (served_at call one.by one.uri) later target
 
--- ---- rows of what was not answered: each part has a row of the same kind
+-- ---- CDRs of a call that was not answered: each part has a CDR of the same kind
 
--- no answer, no answered moment
+-- without an answer there is no moment of the answer
 unanswered : (kind : Kind) → past_answer kind None ≡ None
 unanswered Origin = refl
 unanswered Terminating = refl
@@ -86,7 +86,7 @@ rows-last : (end : Ending) (last : Option Noted) → end.answered ≡ None → m
 rows-last end None e = refl
 rows-last end (Some meter) e = ap (λ row. row ∷ []) (row-same end meter e)
 
--- so the last one may stand with the others
+-- so the last one may be among the others
 pub rows-unanswered : (end : Ending) (past : List Noted) (first last : Option Noted) → end.answered ≡ None →
     rows_by end (past ++ option_to_list last) first None ≡ rows_by end past first last
 rows-unanswered end past first last e =

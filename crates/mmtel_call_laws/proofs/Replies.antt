@@ -38,7 +38,7 @@ openings_reply_in_their_own own site now arrival desk is had = in_own own site d
 pub ends_reply_in_their_own : EndsReplyInTheirOwn
 ends_reply_in_their_own own site at c desk is had = in_own own site desk.out _ had (rows.finished_good own site desk.out at c desk is.phase (is.opening, is.flights) (nothing own site desk.out))
 
--- ---- a leg is taken out, or put back
+-- ---- a leg is detached, or put back
 
 module _ (own : ℕ → Bool) where
   abbrev Opens : Call → Type 0

@@ -1,4 +1,4 @@
--- What files no row and shows nothing.
+-- What files no CDR and of which nothing is observed.
 use Rattle.std.proofs.Common.{◌≡◌, ℕ, ◌+◌, ◌==◌, Bool, true, false, List, [], ◌∷◌, ◌++◌, refl, ap, sym, ◌∙◌, append_assoc}
 use Rattle.std.proofs.lemmas.List.{append-nil}
 use Rattle.std.specs.List.{filter}
@@ -62,7 +62,7 @@ use Rattle.mmtel_call.specs.declared.calls.Trial.{Trial}
 use Rattle.mmtel_call_laws.specs.Shown.{FlyOthers, Sign, final_sign, sign_of, signs_of}
 use Rattle.mmtel_call_laws.proofs.Each.{each_filter, each_get}
 
--- nothing was filed and nothing shown
+-- nothing was filed and nothing observed
 pub record Quiet (key : TKey) (before after : Desk) : Type 0 where
   pub rows : after.rows ≡ before.rows
   pub signs : signs_of key after.out ≡ signs_of key before.out
@@ -142,7 +142,7 @@ quiet-bye key sip d desk = quiet-then key desk (drew desk) (bye sip d desk) (qui
 pub quiet-final-acked : (key asked : TKey) (sip : Addr) (i : Invitation) (m : HeardMessage) (desk : Desk) → Quiet key desk (final_acked sip asked i m desk)
 quiet-final-acked key asked sip i m desk = quiet-emit key desk _ refl
 
--- ---- answers to requests
+-- ---- responses to requests
 
 pub quiet-unheard : (key : TKey) (site : Site) (c : Call) (asked : TKey) (m : Said) (fault : DialogueFault) (desk : Desk) → (asked.0 == key.0) ≡ false → Quiet key desk (unheard site c asked m fault desk)
 quiet-unheard key site c asked m (OldCSeq last) desk e = quiet-reply key asked _ _ _ desk e
@@ -154,7 +154,7 @@ quiet-unlisted key site c asked m desk e =
     quiet-if key desk (is_method (codes "OPTIONS") m.heard.start) (answered_to site c asked m 200 (allowed (further_methods site)) desk) (if is_method (codes "REFER") m.heard.start then replied_to site c asked m 403 desk else replied_to site c asked m 481 desk) (quiet-reply key asked _ _ _ desk e)
     (quiet-if key desk (is_method (codes "REFER") m.heard.start) (replied_to site c asked m 403 desk) (replied_to site c asked m 481 desk) (quiet-reply key asked _ _ _ desk e) (quiet-reply key asked _ _ _ desk e))
 
--- ---- an INVITE that the call does not wait on
+-- ---- an INVITE for which the call does not wait
 
 success-quiet : (key : TKey) (sip : Addr) (l : Loose) (remote : Remote) (d : Option Dialogue) (desk : Desk) → Quiet key desk (on_success_in sip l remote d desk).desk
 success-quiet key sip l remote None desk =
@@ -194,9 +194,9 @@ taken-quiet key site asked m at (Some t) c desk =
     (step-if key desk (is_fork t m) _ _ (rest-quiet key site.sip asked m.heard (as_loose t) desk)
     (quiet-if key desk (is_talking c.phase) (acked_again t t.invitation.ack desk) desk (again-quiet key t t.invitation.ack desk) (quiet key desk)))
 
--- ---- what is in flight
+-- ---- requests in flight
 
--- what is armed for the session of a 2xx
+-- the deadline for the session of a 2xx
 pub quiet-expiry : (key : TKey) (timer : Bool) (time : Option ℕ) (at : ℕ) (c : Call) (desk : Desk) → Quiet key desk (record desk { out = desk.out ++ (if timer then expiry_in time at c else []) })
 quiet-expiry key true None at c desk = record { rows = refl; signs = ap (λ (es : List Emit). signs_of key es) (append-nil desk.out) }
 quiet-expiry key true (Some time) at c desk = quiet-emit key desk (emit.Arm c.opening.number (due.Expired (next_success c)) (at + time)) refl
@@ -303,7 +303,7 @@ update_at-quiet key Talking side site x asked m c desk e =
     unless-quiet key (updating c.flights) (updated_across site x side asked m) site side asked m c desk e (asked-quiet key site.sip (codes "UPDATE") (leg_of (other_of side) x).dialogue (shown_to site c.opening c.diversions x.service side (leg_of (other_of side) x).dialogue.peer m) m.heard desk refl)
 update_at-quiet key (Asking asking q) side site x asked m c desk e = quiet-reply key asked _ _ _ desk e
 
--- what a side of an offered call asks, but for BYE
+-- requests of a side of an offered call, except BYE
 pub quiet-heard : (key : TKey) (side : Side) (site : Site) (x : Trial) (asked : TKey) (m : Said) (c : Call) (desk : Desk) → (asked.0 == key.0) ≡ false → Quiet key desk (on_other site x side asked m c desk).desk
 quiet-heard key side site x asked m c desk e =
     step-if key desk (is_prack m) (on_prack_of side site x asked m c desk) _ (prack-quiet key side site x asked m c desk e)

@@ -1,4 +1,4 @@
--- Every story: the call stands where the moves of the precedence of services come to over its endings.
+-- Every trace: the phase of the call is the one to which the moves of the precedence of services lead over its endings.
 use Rattle.std.proofs.Common.{◌≡◌, ℕ, zero, suc, ◌+◌, ◌-◌, ◌≤◌, ◌<◌, Bool, true, false, List, [], ◌∷◌, ◌++◌, length, drop, refl, ap, sym, subst, ◌∙◌, arith}
 use Rattle.std.proofs.lemmas.Bool.Decides.{nat_tests}
 use Rattle.std.proofs.lemmas.List.{append-nil, drop_at}
@@ -51,18 +51,18 @@ use Rattle.mmtel_call_laws.proofs.Lowering.{step-leaves}
 use Rattle.mmtel_call_laws.proofs.Turning.{ends_by, ringing-came, talking-came}
 use Rattle.mmtel_call_laws.proofs.Untouched.{Untouched}
 
--- things stand at later targets as they stood in the story
+-- the states at later targets are those in the trace
 abbrev pub Fits : Start → List Heard → (ℕ → Standing) → Type 0
 Fits s heard later = (j : ℕ) → j < made_after s heard → later j ≡ stood_after s heard j
 
 abbrev pub call_in : Start → (ℕ → Standing) → precedence.Call
 call_in s later = known_as s.site s.now (opening_in s) later
 
--- what was shown so far is due of the targets that were reached, and of the result
+-- what was observed so far is what is due for the targets that were reached, and for the result
 abbrev pub Told : Start → List Heard → Kept → Type 0
 Told s heard kept = AreOwn s heard → signs_of s.arrival.key (emits_while_offered s heard) ≡ signs_of_targets (opening_in s) kept.targets ++ sign_of_result (moves.result_in kept.phase)
 
--- the call stands where so many moves over its endings come to
+-- the phase of the call is the one to which this many moves over its endings lead
 abbrev pub Tied : Start → List Heard → (ℕ → Standing) → Type 0
 Tied s heard later =
     (m : ℕ) × Agrees s.site s.now (opening_in s) later (moves.moves m (call_in s later) (at_first (call_in s later) (endings_after s heard))) (call_after s heard) (rows_after s heard) (over_at s heard)
@@ -79,7 +79,7 @@ empty_kept phase = record { done = 0; targets = []; phase = phase; endings = [] 
 pub plus-zero : (n : ℕ) → n + 0 ≡ n
 plus-zero n = omega arith
 
--- by what refuses it
+-- by the cause that refuses it
 begins-came : (law : TurnsAreMoves) (refusal : Option Cause) (site : Site) (now : Standing) (o : Opening) (later : ℕ → Standing) (desk : Desk) (rows : List Row) (old : List Sign) → IsKnown now o → desk.rows ≡ rows → (Unit {0} → signs_of o.key desk.out ≡ old) →
     let c = new_call site o in
     let s = unless_refused refusal site now (caller_of now.at c) c desk in
@@ -120,7 +120,7 @@ refusal-known site now o later known =
     ap (λ sheet. refusal_by o.invite.heard.wants o.served sheet (Rattle.mmtel_call_decisions.specs.Decisions.of_target site o now.at (first_of o).uri)) known.sheet
     ∙ ap (λ (k : Circumstances). refusal_by o.invite.heard.wants o.served (option_map (Rattle.mmtel_precedence.specs.Calls.sheet_at now) o.served.origin) k) (of_target-known site now o later now.at (first_of o).uri known)
 
--- what stands behind what was there
+-- what is appended to what was there
 pub added-is : {A : Type 0} (before behind after : List A) → after ≡ before ++ behind → added before after ≡ behind
 added-is before behind after e = ap (λ l. drop (length before) l) e ∙ drop_at before behind (length before) refl
 
@@ -132,7 +132,7 @@ opens-came law s later fits =
     subst (λ refusal. Comes s.site s.now o later (Unit {0}) [] (empty_kept (first_phase refusal (call_in s later))) s.desk.rows (signs_of s.arrival.key s.desk.out) (first_step s) s.now.at) (refusal-known s.site s.now o later (is-known s))
     (begins-came law (refusal_of s.site s.now.at o) s.site s.now o later (told_caller s.site (new_call s.site o) 100 (drew s.desk)) s.desk.rows (signs_of s.arrival.key s.desk.out) (is-known s) refl (λ p. (quiet-provisional s.arrival.key s.arrival.key _ _ _ (drew s.desk) refl).signs) fits)
 
--- of a step whose desk had nothing on it
+-- of a step whose output was empty before
 shown-of : (key : TKey) (old new : List Emit) (signs : List Sign) → old ≡ [] → signs_of key new ≡ signs_of key old ++ signs → signs_of key (added old new) ≡ signs
 shown-of key old new signs e f = ap (λ l. signs_of key (drop (length l) new)) e ∙ f ∙ ap (λ l. signs_of key l ++ signs) e
 
@@ -150,13 +150,13 @@ tied-first law s later fits =
 
 -- ---- and later
 
--- moves after moves
+-- moves after other moves
 pub moves-more : (j m : ℕ) (call : precedence.Call) (kept : Kept) → moves.moves m call (moves.moves j call kept) ≡ moves.moves (j + m) call kept
 unfolding moves.moves
 moves-more zero m call kept = ap (λ i. moves.moves i call kept) (let e : m ≡ 0 + m = omega arith in e)
 moves-more (suc j) m call kept = moves-more j m call _ ∙ ap (λ i. moves.moves i call kept) (let e : suc (j + m) ≡ suc j + m = omega arith in e)
 
--- the story goes on so, where the moves over what ended come to it
+-- the trace continues in this way, if the moves over what ended lead to it
 abbrev Next : Start → List Heard → (ℕ → Standing) → List Ended → Call → List Row → (at : ℕ) → (Kept → Type 0) → Type 0
 Next s earlier later ends d rows at told =
     (m : ℕ) × Agrees s.site s.now (opening_in s) later (moves.moves m (call_in s later) (at_first (call_in s later) (endings_after s earlier ++ ends))) d rows at
@@ -176,14 +176,14 @@ next-of law s earlier later ends m n d rows at told agrees shown =
 rows-of : (before : List Row) (filed old new : List Row) → before ≡ [] → new ≡ old ++ filed → before ++ added old new ≡ filed
 rows-of before filed old new e f = ap (λ l. l ++ added old new) e ∙ added-is old filed new f
 
--- the call is as its phase is said to be
+-- the call has the phase that is claimed
 pub in-phase : (c : Call) (phase : Phase) → c.phase ≡ phase → c ≡ record c { phase = phase }
 in-phase c phase e = ap (λ p. record c { phase = p }) e
 
 abbrev at_if_over : Phase → ℕ → ℕ → ℕ
 at_if_over phase before now = if is_over phase then before else now
 
--- what was shown before and now
+-- what was observed before and now
 abbrev Then : Start → Heard → List Heard → Call → Kept → Type 0
 Then s x earlier c kept =
     AreOwn s (x ∷ earlier) →
@@ -319,7 +319,7 @@ next-over extend s x earlier later c filed before m cause agrees p told flown =
     (over-same s.site s.now o later kept c filed before cause x.desk.rows new agrees p flown u)))
     (subst (Then s x earlier c) (sym still) (then-still s x earlier c kept (ap is_offered p.phase) told)))
 
--- wherever it stands
+-- whatever its phase
 next-at : (turn_law : TurnsAreMoves) (end_law : EndingsAreMoves) (extend : LaterEndingsExtend) (s : Start) (x : Heard) (earlier : List Heard) (later : ℕ → Standing) (c : Call) (filed : List Row) (before m : ℕ) →
     let kept = moves.moves m (call_in s later) (at_first (call_in s later) (endings_after s earlier)) in
     Agrees s.site s.now (opening_in s) later kept c filed before →
@@ -330,7 +330,7 @@ next-at turn_law end_law extend s x earlier later c filed before m agrees stands
 next-at turn_law end_law extend s x earlier later c filed before m agrees stands told fly flown (Talks pair stage answered p) = next-talking extend s x earlier later c filed before m pair stage answered agrees p told
 next-at turn_law end_law extend s x earlier later c filed before m agrees stands told fly flown (Ends cause p) = next-over extend s x earlier later c filed before m cause agrees p told (flown (ap is_over p.phase))
 
--- ---- every story
+-- ---- every trace
 
 lt-true : (made j : ℕ) → j < made → nat_lt j made ≡ true
 lt-true made j e = grind (arith, nat_tests)
@@ -352,7 +352,7 @@ stood-now made j then_ now_ e = go (nat_lt j made) (lt-false made j e)
     go true f = absurd cc
     go false f = refl
 
--- what fits a story fits what was heard of it before
+-- later states that fit a trace fit the trace without its last signal
 pub fits-earlier : (s : Start) (x : Heard) (earlier : List Heard) (later : ℕ → Standing) → Fits s (x ∷ earlier) later → Fits s earlier later
 unfolding call_after stood_after
 fits-earlier s x earlier later fits j most =

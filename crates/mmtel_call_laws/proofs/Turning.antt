@@ -1,4 +1,4 @@
--- One thing that is heard: the call stands where the moves of the precedence of services bring it, over what ends then.
+-- One signal: the phase of the call is the one to which the moves of the precedence of services lead, over what ends then.
 use Rattle.std.proofs.Common.{◌==◌, ◌≡◌, ℕ, ◌+◌, arith, Bool, true, false, List, [], ◌∷◌, ◌++◌, refl, ap, sym, subst, ◌∙◌}
 use Rattle.std.proofs.lemmas.List.{append-nil}
 use Rattle.std.specs.Prelude.{Option, Some, None, count_by, if◌then◌else◌, nat_lt, option_to_list}
@@ -55,7 +55,7 @@ ends_by at end = option_to_list (option_map (ended_at at) end)
 
 -- ---- the move on the end of an attempt
 
--- while it rings, nothing is still to come
+-- while it rings, no move is pending
 abbrev pub ringing : Kept → Reach → Kept
 ringing kept reach = record kept { phase = moves.Ringing (account_at reach); endings = [] }
 
@@ -87,7 +87,7 @@ only-answers c sheet NoReply e = absurd (due-unanswered _ _ e)
 only-answers c sheet (Deflection target rang) e = absurd (due-unanswered _ _ e)
 only-answers c sheet (Other code) e = absurd cc
 
--- a final that is handed on has the status of the cause
+-- a final response that is relayed has the status of the cause
 same-code : (code other : ℕ) → (other == code) ≡ true → other ≡ code
 same-code code other e = grind (arith, nat_tests)
 
@@ -127,7 +127,7 @@ after-comes law site now first later caller service reach m (EndRefuse cause) c 
 
 -- ---- while it rings
 
--- what is known of a call that rings, which was opened so, at this step
+-- what is known at this step of a call that rings, with this opening
 pub record AtStep (site : Site) (now first : Standing) (later : ℕ → Standing) (kept : Kept) (c : Call) (filed : List Row) (x : Trial) (reach : Reach) (s : Step) (o : Opening) : Type 0 where
   pub known : IsKnown first o
   pub left : c.diversions.left + kept.done ≡ total site o
@@ -138,7 +138,7 @@ pub record AtStep (site : Site) (now first : Standing) (later : ℕ → Standing
 abbrev pub counted : Kept → Type 0
 counted kept = count_by is_diverted_to kept.targets ≡ kept.done
 
--- the legs of an attempt that is left, once its meter lies with the others
+-- the legs of an attempt that ended without a 2xx, after its meter was added to the past ones
 ready-by : (site : Site) (now first : Standing) (later : ℕ → Standing) (kept : Kept) (c d : Call) (filed : List Row) (x : Trial) (reach : Reach) (s : Step) →
     AtStep site now first later kept c filed x reach s d.opening → counted kept → Alike c d → IsReady site first later x.caller (with_past x.callee.leg.meter d) (ringing kept reach)
 ready-by site now first later kept c d filed x reach s step made same =
@@ -179,7 +179,7 @@ went-on turn_law end_law site now first later kept c d filed rows P old x reach 
     (λ e. not_answered (only-answers (decisions.of_caller o now.at (is_diverted d)) (its_sheet x.attempt.service) how e)) step.known (ready-by site now first later kept c d filed x reach s step made same)
     (record { sheet = p.sheet; served = p.served; reached = p.reached }) none shown step.stands))
 
--- its caller gave up, or did not acknowledge an answer
+-- its caller abandoned it, or did not acknowledge a reliable response
 refuses-so : (by_caller : Bool) (c : Circumstances) (sheet : Option Sheet) → turn_on c sheet (faring.given_how by_caller) ≡ EndRefuse (faring.given_cause by_caller)
 refuses-so true c sheet = refl
 refuses-so false c sheet = refl
@@ -225,7 +225,7 @@ given-up by_caller end_law site now first later kept c d filed rows P old x y re
       ([], sym (append-nil kept.targets), shown),
     ))
 
--- it goes on to ring
+-- it continues to ring
 still-came : (site : Site) (now first : Standing) (later : ℕ → Standing) (kept : Kept) (c : Call) (filed : List Row) (before : Desk) (P : Type 0) (x y : Trial) (reach : Reach) (s : Step) (o : Opening) →
     AtStep site now first later kept c filed x reach s o → counted kept → kept.endings ≡ [] → c.opening ≡ o → faring.StillRings P x c before s y → Comes site first o later P kept.targets (with_later kept []) before.rows (signs_of o.key before.out) s now.at
 unfolding moves.moves
@@ -357,7 +357,7 @@ talking-came-at site first later at kept c d filed rows x y stage moment desk p 
       },
     )
 
--- it stands or both sides leave
+-- it remains established or both sides leave
 pub talking-came : (site : Site) (first : Standing) (o : Opening) (later : ℕ → Standing) (at : ℕ) (kept : Kept) (c : Call) (filed rows : List Row) (x : Pair) (stage : Stage) (moment : ℕ) (s : Step) →
     IsTalking site first o later kept c filed x stage moment → c.diversions.left + kept.done ≡ total site o → c.diversions.count ≡ received_in o + kept.done → counted kept → kept.endings ≡ [] → c.opening ≡ o →
     answering.GoesOn at x c rows s → Came site first o later kept rows s at

@@ -1,4 +1,4 @@
--- What files no row, and what a signal of a request that the call does not wait on leaves as it is.
+-- What files no CDR, and what does not change in a call on a signal of a request for which it does not wait.
 use Rattle.std.proofs.Common.{◌≡◌, ◌∙◌, ℕ, zero, suc, ◌+◌, Bool, true, false, List, [], ◌∷◌, drop, refl, take}
 use Rattle.std.specs.List.{filter}
 use Rattle.std.specs.Prelude.{Option, Some, None, if◌then◌else◌, codes, nat_lt, position, slice_get, not}
@@ -48,7 +48,7 @@ pub record Alike (c d : Call) : Type 0 where
 pub alike : (c : Call) → Alike c c
 alike c = record { opening = refl; diversions = refl; answered = refl; past = refl }
 
--- ---- no rows
+-- ---- no CDRs
 
 pub if-rows : (b : Bool) (one two : Desk) (rows : List Row) → one.rows ≡ rows → two.rows ≡ rows → (if b then one else two).rows ≡ rows
 if-rows true one two rows e f = e
@@ -67,7 +67,7 @@ unlisted-rows site c key m desk =
     if-rows (is_method (codes "OPTIONS") m.heard.start) (answered_to site c key m 200 (allowed (further_methods site)) desk) (if is_method (codes "REFER") m.heard.start then replied_to site c key m 403 desk else replied_to site c key m 481 desk) desk.rows refl
     (if-rows (is_method (codes "REFER") m.heard.start) (replied_to site c key m 403 desk) (replied_to site c key m 481 desk) desk.rows refl refl)
 
--- ---- what is in flight is dismissed
+-- ---- requests in flight are dismissed
 
 pub settled-rows : (site : Site) (own : Option ℕ) (c : Call) (desk : Desk) → (settled site own c desk).rows ≡ desk.rows
 settled-rows site own c desk = if-rows site.reliable _ desk desk.rows refl refl
@@ -87,9 +87,9 @@ dismissing-rows site c desk =
     settled_in-rows c.phase site c (dismissed_all site c desk) ∙ each-rows site c (filter is_updating c.flights) _
     ∙ each-rows site c (filter (λ flight. not (is_updating flight)) c.flights) desk
 
--- ---- a request that the call does not wait on
+-- ---- a request for which the call does not wait
 
--- the hold is another one only where an UPDATE was in flight
+-- the hold state only changes if an UPDATE was in flight
 pub record Untouched (c : Call) (rows : List Row) (s : Step) : Type 0 where
   pub phase : s.call.phase ≡ c.phase
   pub alike : Alike c s.call
@@ -137,7 +137,7 @@ taken-untouched site key m at (Some t) c desk =
     (record { phase = refl; alike = record { opening = refl; diversions = refl; answered = refl; past = refl }; hold = λ e. refl; flights = λ e. e; none = rest-rows site.sip key m.heard (as_loose t) desk })
     (record { phase = refl; alike = record { opening = refl; diversions = refl; answered = refl; past = refl }; hold = λ e. refl; flights = λ e. e; none = if-rows (is_talking c.phase) (acked_again t t.invitation.ack desk) desk desk.rows (acked-rows t t.invitation.ack desk) refl }))
 
--- what is in flight has its final
+-- a request in flight gets its final response
 
 take-none : {A : Type 0} (n : ℕ) (xs : List A) → xs ≡ [] → take n xs ≡ []
 take-none zero xs e = refl

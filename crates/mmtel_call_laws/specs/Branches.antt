@@ -1,3 +1,3 @@
--- What the laws cite of this: the INVITEs of a call were sent, and what is in flight, each once.
+-- What the theorems cite here: the INVITEs of a call, and its requests in flight, were sent, each once.
 pub mod Sent
 pub mod Laws

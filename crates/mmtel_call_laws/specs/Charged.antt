@@ -1,5 +1,5 @@
--- Who is charged in a story, by the targets of its Outcome: the account that is served as the caller, from the opening on; each account that is reached; and each that
--- diverts, from when the next target is reached (TS 32.260 §5).
+-- Who is charged in a trace, by the targets of its Outcome: the account that is served as the caller, from the opening on; each account that is reached; and each that diverts,
+-- from when the next target is reached (TS 32.260 §5).
 use Rattle.std.specs.Prelude.{ℕ, suc, List, [], ◌∷◌, ◌++◌, Option, None, option_to_list}
 use Rattle.std.specs.Option.{option_map}
 use Rattle.mmtel_charging.specs.Meters.{Noted}
@@ -19,25 +19,25 @@ use Rattle.mmtel_call.specs.declared.calls.Call.{Call}
 use Rattle.mmtel_call.specs.declared.calls.Phase.{Phase}
 use Rattle.mmtel_call.specs.declared.calls.Phase.TheVariants.{Lent, Offered, Over, Stood}
 
--- ---- whose parts began, and when
+-- ---- which parts began, and when
 
--- that of an account, if there is one
+-- the part of an account, if there is one
 abbrev pub part_of : Kind → CallNo → (at : ℕ) → Option Account → Option Noted
 part_of kind number at account = option_map (begun kind number at) account
 
--- of the call's own account
+-- that of the call's own account
 abbrev pub origin_part : precedence.Call → CallNo → Option Noted
 origin_part call number = part_of Origin number call.opening.at call.served.origin
 
--- of the account that is served at the target which is reached after k diversions
+-- that of the account that is served at the target which is reached after k diversions
 abbrev pub served_part : precedence.Call → CallNo → (k : ℕ) → Target → Option Noted
 served_part call number k target = part_of Terminating number (standing_after call k).at (served_at call target.by target.uri)
 
--- of the account that diverts to it, if one does
+-- that of the account that diverts to it, if one does
 abbrev pub diverting_part : precedence.Call → CallNo → (k : ℕ) → (diverts : Option Account) → Option Noted
 diverting_part call number k diverts = part_of Diversion number (standing_after call k).at diverts
 
--- from the target that is reached after k diversions, to which this account diverts: all but that of the last target
+-- those from the target that is reached after k diversions, to which this account diverts: all but that of the last target
 abbrev pub past_parts : precedence.Call → CallNo → (k : ℕ) → (diverts : Option Account) → List Target → List Noted
 past_parts call number k diverts [] = []
 past_parts call number k diverts (target ∷ []) = option_to_list (diverting_part call number k diverts)
@@ -46,7 +46,7 @@ past_parts call number k diverts (target ∷ next ∷ later) =
     ++ option_to_list (served_part call number k target)
     ++ past_parts call number (suc k) (served_at call target.by target.uri) (next ∷ later)
 
--- and that of the last
+-- that of the last target
 abbrev pub last_part : precedence.Call → CallNo → (k : ℕ) → List Target → Option Noted
 last_part call number k [] = None
 last_part call number k (target ∷ []) = served_part call number k target
@@ -57,11 +57,11 @@ abbrev pub parts_of : precedence.Call → CallNo → List Target → List Noted
 parts_of call number targets =
     option_to_list (origin_part call number) ++ past_parts call number 0 None targets ++ option_to_list (last_part call number 0 targets)
 
--- the rows of them, once the call has ended so
+-- their CDRs, after the call ended in this way
 abbrev pub rows_of_parts : Ending → precedence.Call → CallNo → List Target → List Row
 rows_of_parts end call number targets = rows_by end (past_parts call number 0 None targets) (origin_part call number) (last_part call number 0 targets)
 
--- ---- whose meters run
+-- ---- which meters run
 
 abbrev pub running_in : Phase → (past : List Noted) → List Noted
 running_in (Offered x) past = option_to_list x.caller.meter ++ past ++ option_to_list x.callee.leg.meter

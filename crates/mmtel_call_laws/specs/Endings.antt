@@ -1,4 +1,4 @@
--- How the attempts of a story ended, by what was heard of them while they were on their way (RFC 3261 §9, §15, §17.1.1 and §21, RFC 3262 §3, TS 24.604 §4.5.2.6).
+-- How the attempts of a trace ended, by what was received for them while they were current (RFC 3261 §9, §15, §17.1.1 and §21, RFC 3262 §3, TS 24.604 §4.5.2.6).
 use Rattle.std.specs.Prelude.{ℕ, ◌==◌, ◌&&◌, not, Bool, if◌then◌else◌, Option, Some, None, List, [], ◌∷◌, ◌++◌, is_ok, option_to_list}
 use Rattle.std.specs.Option.{option_map}
 use Rattle.std.specs.Str.{bytes_eq}
@@ -23,9 +23,9 @@ use Rattle.mmtel_call.specs.declared.signals.Signal.{Signal}
 use Rattle.mmtel_call.specs.declared.signals.Signal.TheVariants as signal
 use Rattle.mmtel_call_laws.specs.Story.{Heard, Start, call_after}
 
--- ---- what ends the attempt that is on its way, if it does
+-- ---- what ends the current attempt, if anything
 
--- the INVITE of this branch is that of the attempt
+-- whether the INVITE of this branch is that of the attempt
 abbrev pub is_its : Trial → List ℕ → Bool
 is_its x branch = bytes_eq x.attempt.invitation.branch branch
 
@@ -34,12 +34,12 @@ abbrev pub end_by_answer : Trial → Said → Option (List ℕ) → Option End
 end_by_answer x m None = None
 end_by_answer x m (Some branch) = if is_its x branch then end_by_response (status_of m.heard.start) (redirect_of m) x.attempt.rang else None
 
--- no response at all; one that rang had one
+-- no response at all; an attempt that rang had a response
 abbrev pub end_by_silence : Trial → Option (List ℕ) → Option End
 end_by_silence x None = None
 end_by_silence x (Some branch) = if is_its x branch && not x.attempt.rang then end_by events.Silence x.attempt.rang else None
 
--- the no-reply time, or the longest time, of this attempt; and the time of an answer of it that waits for its PRACK (RFC 3262 §3)
+-- the deadline of the no-reply time, or of the longest time, of this attempt; and that of a reliable response to it that waits for its PRACK (RFC 3262 §3)
 abbrev pub end_by_deadline : Trial → AcksView → DueWord → Option End
 end_by_deadline x acks (due.NoReply number) = if number == x.attempt.number then end_by events.NoReplyTime x.attempt.rang else None
 end_by_deadline x acks (due.NoPrack own) = if has_own own acks.waiting then end_by events.AckTime x.attempt.rang else None
@@ -47,7 +47,7 @@ end_by_deadline x acks (due.Cap number) = if number == x.attempt.number then end
 end_by_deadline x acks (due.NoAck number) = None
 end_by_deadline x acks (due.Expired number) = None
 
--- the BYE of the caller, where it is in order
+-- the BYE of the caller, if it is in order
 abbrev pub end_by_request : Trial → Side → Said → Option End
 end_by_request x Caller m = if is_ok (says x.caller m in_flight.Theirs) && is_bye m then end_by events.CallerGaveUp x.attempt.rang else None
 end_by_request x Callee m = None
@@ -61,14 +61,14 @@ end_of_attempt x c (signal.Silent branch method) = end_by_silence x (invite_sile
 end_of_attempt x c (signal.Due what) = end_by_deadline x c.acks what
 end_of_attempt x c (signal.Ended key) = None
 
--- while no attempt is on its way, none ends
+-- while no attempt is current, none ends
 abbrev pub end_in : Phase → Call → Signal → Option End
 end_in (Offered x) c heard = end_of_attempt x c heard
 end_in (Stood x stage) c heard = None
 end_in (Lent loan) c heard = None
 end_in (Over cause) c heard = None
 
--- ---- one after the other
+-- ---- in order
 
 abbrev pub ended_at : (at : ℕ) → End → Ended
 ended_at at how = record { at = at; how = how }
@@ -76,7 +76,7 @@ ended_at at how = record { at = at; how = how }
 abbrev pub ending_by : Heard → Call → List Ended
 ending_by x c = option_to_list (option_map (ended_at x.now.at) (end_in c.phase c x.signal))
 
--- the last thing that was heard stands first; the endings stand in the order in which they came
+-- what was received last is first in its list; the endings are in the order in which they occurred
 unfoldable pub endings_after : Start → List Heard → List Ended
 endings_after s [] = []
 endings_after s (x ∷ earlier) = endings_after s earlier ++ ending_by x (call_after s earlier)

@@ -1,5 +1,5 @@
--- What a call keeps from step to step: how it opened, in every story; and, once it stands or a leg of it is away, its parts, until both sides have left (TS 32.260 §5).
--- With these laws whoever knows more of a call than signals tells what it comes to.
+-- The invariants of a call from step to step: how it opened, in every trace; and, once it is established or a leg of it is detached, its parts, until both sides have left (TS
+-- 32.260 §5). With these theorems the result of a call also follows from traces that contain more than signals.
 use Rattle.std.specs.Prelude.{◌≡◌, true, false, ℕ, Bool, List, [], ◌++◌, Option, None, is_some}
 use Rattle.mmtel_charging.specs.Meters.{Noted}
 use Rattle.mmtel_charging.specs.declared.rows.Row.{Row}
@@ -25,7 +25,7 @@ use Rattle.mmtel_call_laws.specs.Story.{Heard, Start, call_after, is_over, openi
 
 -- ---- the parts of a call that run
 
--- its caller's, those that are past, and that of the target which it came to last
+-- that of its caller, those that are past, and that of the target that it reached last
 pub record Parts : Type 0 where
   pub first : Option Noted
   pub past : List Noted
@@ -40,7 +40,7 @@ parts_in (Over cause) past = record { first = None; past = past; last = None }
 abbrev pub parts_now : Call → Parts
 parts_now c = parts_in c.phase c.past
 
--- those that Outcome says began
+-- those that began according to Outcome
 abbrev pub parts_begun : Start → List Heard → Parts
 parts_begun s heard = record {
   first = origin_part (known_after s heard) s.arrival.number;
@@ -50,7 +50,7 @@ parts_begun s heard = record {
 
 -- ---- one step
 
--- what stays of a call
+-- what does not change in a call
 pub record StaysSame (c d : Call) : Type 0 where
   pub opening : d.opening ≡ c.opening
   pub diversions : d.diversions ≡ c.diversions
@@ -63,7 +63,7 @@ stands_in (Stood x stage) = true
 stands_in (Lent loan) = true
 stands_in (Over cause) = false
 
--- it stands, and its parts run on
+-- it is still established, and its parts continue
 pub record StillStands (c : Call) (rows : List Row) (s : Step) : Type 0 where
   pub same : StaysSame c s.call
   pub stands : stands_in s.call.phase ≡ true
@@ -74,7 +74,7 @@ pub record StillStands (c : Call) (rows : List Row) (s : Step) : Type 0 where
 abbrev pub ended_at : Call → (at : ℕ) → Ending
 ended_at c at = record { answered = c.answered; at = at; holds = c.hold.holds; cause = Ended }
 
--- both sides have left, nothing is in flight, and of each part a row was filed
+-- both sides have left, nothing is in flight, and for each part a CDR was filed
 pub record HasLeft (at : ℕ) (c : Call) (rows : List Row) (s : Step) : Type 0 where
   pub same : StaysSame c s.call
   pub over : s.call.phase ≡ Over Ended
@@ -86,7 +86,7 @@ pub data GoesOn (at : ℕ) (c : Call) (rows : List Row) (s : Step) : Type 0 wher
   Stands : StillStands c rows s → GoesOn at c rows s
   Leaves : HasLeft at c rows s → GoesOn at c rows s
 
--- it is over, and stays so
+-- it is over, and remains over
 pub record StaysOver (c : Call) (rows : List Row) (s : Step) : Type 0 where
   pub same : StaysSame c s.call
   pub phase : s.call.phase ≡ c.phase
@@ -95,23 +95,23 @@ pub record StaysOver (c : Call) (rows : List Row) (s : Step) : Type 0 where
   pub flights : s.call.flights ≡ []
   pub none : s.desk.rows ≡ rows
 
--- ---- the laws
+-- ---- the theorems
 
 pub record CallsGoOn : Type 0 where
-  -- a call stays the one that was opened
+  -- a call remains the one that was opened
   pub opening : (s : Start) (heard : List Heard) → (call_after s heard).opening ≡ opening_in s
-  -- while it is not over, those parts run that Outcome says began
+  -- while it is not over, those parts run that began according to Outcome
   pub parts : (s : Start) (heard : List Heard) → is_over (call_after s heard).phase ≡ false → parts_now (call_after s heard) ≡ parts_begun s heard
-  -- while it is offered, it goes by the record that the account of the last target of Outcome had when the call reached it
+  -- while it is offered, it uses the record that the account of the last target of Outcome had when the call reached that target
   pub record_of : (s : Start) (heard : List Heard) (x : Trial) → (call_after s heard).phase ≡ Offered x →
       its_sheet x.attempt.service ≡ last_record (known_after s heard) 0 (outcome_after s heard).targets
-  -- one that stands was answered
+  -- one that is established was answered
   pub answered : (s : Start) (heard : List Heard) → stands_in (call_after s heard).phase ≡ true → is_some (call_after s heard).answered ≡ true
-  -- and one that was answered is over by Ended alone
+  -- and one that was answered is over with the cause `Ended` alone
   pub cause : (s : Start) (heard : List Heard) (cause : Cause) → (call_after s heard).phase ≡ Over cause → is_some (call_after s heard).answered ≡ true → cause ≡ Ended
-  -- on whatever it hears a call that stands goes on to stand, or ends; one that is over stays so
+  -- whatever it receives, a call that is established remains so, or ends; one that is over remains over
   pub standing : (site : Site) (now : Standing) (heard : Signal) (c : Call) (desk : Desk) → stands_in c.phase ≡ true → GoesOn now.at c desk.rows (step site now heard c desk)
   pub ended : (site : Site) (now : Standing) (heard : Signal) (c : Call) (desk : Desk) → is_over c.phase ≡ true → c.flights ≡ [] →
       StaysOver c desk.rows (step site now heard c desk)
-  -- whose PRACKs and UPDATEs all had their answers
+  -- and its PRACKs and UPDATEs all got their final responses
   pub dismissed : (s : Start) (heard : List Heard) → is_over (call_after s heard).phase ≡ true → (call_after s heard).flights ≡ []

@@ -1,4 +1,4 @@
--- What the laws cite of this: what goes out has its own lines.
+-- What the theorems cite here: what is sent has its own lines, without injection.
 pub mod Clean
 pub mod Kept
 pub mod Heard

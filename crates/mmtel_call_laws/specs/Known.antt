@@ -1,4 +1,4 @@
--- The call of a story as the precedence of services knows it, and what Outcome says that it comes to (TS 24.604 §4.5.2.6, TS 24.611 §4.5.2, TS 24.615 §4.5.5).
+-- The call of a trace as the precedence of services uses it, and its Outcome (TS 24.604 §4.5.2.6, TS 24.611 §4.5.2, TS 24.615 §4.5.5).
 use Rattle.std.specs.Prelude.{ℕ, suc, ◌-◌, nat_lt, if◌then◌else◌, List, [], ◌∷◌, Option, Some, None}
 use Rattle.mmtel_history.specs.HistoryInfo.{diversions_in}
 use Rattle.mmtel_lex.specs.declared.values.Uri.{Uri}
@@ -23,15 +23,15 @@ use Rattle.mmtel_call_laws.specs.Story.{Heard, Start, call_after, opening_in}
 
 -- ---- the call
 
--- the peer that leads to a target
+-- the peer that is the next hop for a target
 abbrev pub peer_to : Site → Opening → Uri → Option Peer
 peer_to site o uri = next_hop site.peers.routes o.routes uri
 
--- the diversions that its History-Info told when it came in
+-- the diversions in its History-Info when it arrived
 abbrev pub received_in : Opening → ℕ
 received_in o = diversions_in (received_list o.invite)
 
--- where things stood so when it opened, and so when it reached the targets of its diversions
+-- where the first is the state when it opened, and the others the states when it reached the targets of its diversions
 abbrev pub known_as : Site → (first : Standing) → Opening → (later : ℕ → Standing) → precedence.Call
 known_as site first o later = record {
   privacy = o.invite.heard.wants;
@@ -51,20 +51,20 @@ known_as site first o later = record {
   later = later;
 }
 
--- ---- how things stood
+-- ---- the state at each target
 
--- so many diversions the bound leaves a call when it comes in
+-- how many diversions the bound leaves a call when it arrives
 abbrev pub left_at_first : Start → ℕ
 left_at_first s = s.site.bound - received_in (opening_in s)
 
--- so many were made since
+-- how many were made since
 abbrev pub made_in : Start → Call → ℕ
 made_in s c = left_at_first s - c.diversions.left
 
 abbrev pub made_after : Start → List Heard → ℕ
 made_after s heard = made_in s (call_after s heard)
 
--- when it reached the target of its next diversion after k others: in the first step after which more than k were made; as things stand last, where there was none yet
+-- the state when it reached the target of its next diversion after k others: in the first step after which more than k were made; the last state, if there was no such step yet
 unfoldable pub stood_after : Start → List Heard → (k : ℕ) → Standing
 stood_after s [] k = s.now
 stood_after s (x ∷ earlier) k = if nat_lt k (made_after s earlier) then stood_after s earlier k else x.now
@@ -72,18 +72,18 @@ stood_after s (x ∷ earlier) k = if nat_lt k (made_after s earlier) then stood_
 abbrev pub known_after : Start → List Heard → precedence.Call
 known_after s heard = known_as s.site s.now (opening_in s) (stood_after s heard)
 
--- ---- what it comes to
+-- ---- its Outcome
 
 abbrev pub outcome_after : Start → List Heard → precedence.Outcome
 outcome_after s heard = outcome (known_after s heard) (endings_after s heard)
 
--- the record of the account that is served at the last of these targets, the first of which was reached after k diversions; as it stood when the call reached that
+-- the record of the account that is served at the last of these targets, the first of which was reached after k diversions; as it was when the call reached that target
 abbrev pub last_record : precedence.Call → (k : ℕ) → List Target → Option Sheet
 last_record call k [] = None
 last_record call k (target ∷ []) = sheet_of (reach_of call k target.uri target.by)
 last_record call k (target ∷ next ∷ later) = last_record call (suc k) (next ∷ later)
 
--- the result of a call so far, by whether it was answered and where it stands
+-- the result of a call so far, by whether it was answered and by its phase
 abbrev pub over_by : Option ℕ → precedence.Result → precedence.Result
 over_by None result = result
 over_by (Some at) result = precedence.Answered

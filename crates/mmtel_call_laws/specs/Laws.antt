@@ -1,4 +1,4 @@
--- What is said of every story of a call, in the subject's words.
+-- What is claimed of every trace of a call, in the terms of SIP.
 use Rattle.std.specs.Prelude.{◌++◌, ◌≡◌, ℕ, ◌+◌, Bool, false, true, List, [], map, count_by}
 use Rattle.mmtel_charging.specs.Meters.{Noted}
 use Rattle.mmtel_charging.specs.declared.rows.Kind.{Kind}
@@ -29,42 +29,42 @@ use Rattle.mmtel_call_laws.specs.Story.{Heard, Start, added, call_after, first_s
 abbrev pub ComesToItsOutcome : Type 0
 ComesToItsOutcome = (s : Start) (heard : List Heard) → result_of (call_after s heard) ≡ (outcome_after s heard).result
 
--- ---- what goes out
+-- ---- what is sent
 
--- while it is offered the targets have the INVITEs that Outcome says, in order, and then the caller has one final, by the result: a 2xx where the call was answered, and
--- else one with the status of the cause
+-- while it is offered, the targets get the INVITEs that Outcome gives, in order, and then the caller gets one final response, by the result: a 2xx if the call was answered,
+-- otherwise one with the status of the cause
 abbrev pub ShowsItsOutcome : Type 0
 ShowsItsOutcome = (s : Start) (heard : List Heard) → AreOwn s heard →
     signs_of s.arrival.key (emits_while_offered s heard) ≡ signs_of_targets (opening_in s) (outcome_after s heard).targets ++ sign_of_result (outcome_after s heard).result
 
--- the requests whose answers it waits for are other ones than the one of this server transaction
+-- the requests whose responses it awaits are other ones than that of this server transaction
 abbrev pub WaitsForOthers : (key : TKey) → Call → Type 0
 WaitsForOthers key c = AsksOthers key c.phase × FlyOthers key c.flights
 
--- whatever a call hears, in whatever story, as long as each later request has a server transaction of its own
+-- whatever a call receives, in any trace, as long as each later request has a server transaction of its own
 pub record ShowsNothingLater : Type 0 where
-  -- so have those whose answers it waits for, an INVITE of a side and what is in flight beside it: as it opens, and after each step
+  -- so have those whose responses it awaits, an INVITE of a side and the requests in flight beside it: as it opens, and after each step
   pub opens : (s : Start) (key : TKey) → WaitsForOthers key (first_step s).call
   pub asks : (site : Site) (now : Standing) (heard : Signal) (c : Call) (desk : Desk) (key : TKey) → WaitsForOthers key c → IsOthers key heard →
       WaitsForOthers key (step site now heard c desk).call
-  -- while it is offered no INVITE is passed on, so all counts that is seen
+  -- while it is offered no INVITE is relayed, so everything observed counts
   pub all : (site : Site) (now : Standing) (heard : Signal) (c : Call) (desk : Desk) (key : TKey) → is_offered c.phase ≡ true →
       shown_by key heard (added desk.out (step site now heard c desk).desk.out) ≡ signs_of key (added desk.out (step site now heard c desk).desk.out)
-  -- once it is not offered any more it has no INVITE to a target go out, and no final to the INVITE that opened it: neither by what it hears,
+  -- once it is not offered any more, it sends no INVITE to a target, and no final response to the INVITE that opened it: neither on what it receives,
   pub none : (site : Site) (now : Standing) (heard : Signal) (c : Call) (desk : Desk) (key : TKey) → is_offered c.phase ≡ false → WaitsForOthers key c → IsOthers key heard →
       shown_by key heard (added desk.out (step site now heard c desk).desk.out) ≡ []
-  -- nor where it ends without a leg that was taken out of it
+  -- nor where it ends without a leg that was detached from it
   pub ends : (site : Site) (at : ℕ) (c : Call) (desk : Desk) (key : TKey) → FlyOthers key c.flights → signs_of key (added desk.out (finished site at c desk).desk.out) ≡ []
 
 -- ---- the bound
 
--- so many diversions are left as the bound leaves after those that the call came with and those that were made
+-- as many diversions are left as the bound leaves after those that the call came with and those that were made
 abbrev pub DiversionsAreCounted : Type 0
 DiversionsAreCounted = (s : Start) (heard : List Heard) → (call_after s heard).diversions.left + diversions_made (outcome_after s heard) ≡ left_at_first s
 
 -- ---- charging
 
--- a part that began, whenever it was answered
+-- a part that began, regardless of when it was answered
 pub record Begun : Type 0 where
   pub kind : Kind
   pub account : Account
@@ -77,24 +77,24 @@ begun_of m = record { kind = m.kind; account = m.account; call = m.call; began =
 abbrev pub begun_in_row : Row → Begun
 begun_in_row row = record { kind = row.kind; account = row.account; call = row.call; began = row.began }
 
--- the parts that began in a story, in that order
+-- the parts that began in a trace, in that order
 abbrev pub parts_after : Start → List Heard → List Noted
 parts_after s heard = parts_of (known_after s heard) s.arrival.number (outcome_after s heard).targets
 
--- how it ended by this cause: when it was answered, when it was over, and how often it was held
+-- how it ended with this cause: when it was answered, when it was over, and how often it was held
 abbrev pub ended_by : Start → List Heard → Cause → Ending
 ended_by s heard cause = record { answered = (call_after s heard).answered; at = over_at s heard; holds = (call_after s heard).hold.holds; cause = cause }
 
--- the rows of it
+-- their CDRs
 abbrev pub charges_after : Start → List Heard → Cause → List Row
 charges_after s heard cause = rows_of_parts (ended_by s heard cause) (known_after s heard) s.arrival.number (outcome_after s heard).targets
 
 pub record ChargingIsExact : Type 0 where
   -- it was answered when an attempt was
   pub answered : (s : Start) (heard : List Heard) → (call_after s heard).answered ≡ answer_in (endings_after s heard)
-  -- while the call is not over no row is filed, and what began runs
+  -- while the call is not over no CDR is filed, and the parts that began run
   pub runs : (s : Start) (heard : List Heard) → is_over (call_after s heard).phase ≡ false → (running (call_after s heard) ≡ parts_after s heard) × (rows_after s heard ≡ [])
-  -- once it is over nothing runs, and of each part that began a row was filed, in the order begun
+  -- once it is over no part runs, and for each part that began a CDR was filed, in the order begun
   pub filed : (s : Start) (heard : List Heard) (cause : Cause) → (call_after s heard).phase ≡ Over cause →
       (running (call_after s heard) ≡ []) × (rows_after s heard ≡ charges_after s heard cause)
   -- of each kind of part: as many began as run or were filed

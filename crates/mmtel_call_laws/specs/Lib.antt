@@ -1,4 +1,4 @@
--- What the laws cite: what a call comes to, what it keeps, and who is charged;
+-- What the theorems cite: the result of a call, its invariants, and who is charged;
 pub mod Story
 pub mod Endings
 pub mod Known
@@ -6,11 +6,11 @@ pub mod Charged
 pub mod Shown
 pub mod Laws
 pub mod GoingOn
--- what its caller is told of its diversions; what it keeps of its attempt is what went out and was heard;
+-- the notifications of its diversions that its caller gets; that what it keeps of its attempt is what was sent and received;
 pub mod Notices
 pub mod Trace
 pub mod Session
--- what it sends has its own lines and was sent once; and what nobody may learn from it.
+-- that what it sends has its own lines and was sent once; and noninterference: what nobody may learn from it.
 pub mod Heads
 pub mod Branches
 pub mod Replies

@@ -1,3 +1,3 @@
--- What the laws cite of this: what the caller is told of the diversions.
+-- What the theorems cite here: the notifications of diversions that the caller gets.
 pub mod Due
 pub mod Laws

@@ -1,5 +1,5 @@
--- In which server transactions a call replies: in those of its own requests, which are the INVITE that opened it and those that it hears (RFC 3261 §8.2.6, §17.2). Which
--- transactions these are is given.
+-- In which server transactions a call replies: in those of its own requests, which are the INVITE that opened it and those that it receives (RFC 3261 §8.2.6, §17.2). The set of
+-- these transactions is a parameter.
 use Rattle.std.specs.Prelude.{◌≡◌, true, ℕ, Bool, List}
 use Rattle.mmtel_call_decisions.specs.Site.{Site}
 use Rattle.mmtel_call_decisions.specs.declared.openings.Arrival.{Arrival}
@@ -23,7 +23,7 @@ use Rattle.mmtel_transaction.specs.declared.words.Emit.TheVariants as emit
 use Rattle.mmtel_types.specs.declared.sides.Side.{Side}
 use Rattle.mmtel_call_laws.specs.Heads.Emits.{Each}
 
--- what goes out is no reply, or one in these transactions
+-- what is sent is no reply, or one in these transactions
 abbrev pub IsRepliedIn : (own : ℕ → Bool) → Emit → Type 0
 IsRepliedIn own (emit.Ask peer m) = Unit {0}
 IsRepliedIn own (emit.Reply key m) = own key.0 ≡ true
@@ -33,7 +33,7 @@ IsRepliedIn own (emit.Settled key settled) = Unit {0}
 IsRepliedIn own (emit.Arm call what at) = Unit {0}
 IsRepliedIn own (emit.ArmSeat room seat what at) = Unit {0}
 
--- a request that is heard is of these
+-- a request that is received is of these
 abbrev pub SignalIsOf : (own : ℕ → Bool) → Signal → Type 0
 SignalIsOf own (signal.Request side key request) = own key.0 ≡ true
 SignalIsOf own (signal.Ack side ack) = Unit {0}
@@ -43,7 +43,7 @@ SignalIsOf own (signal.Silent branch method) = Unit {0}
 SignalIsOf own (signal.Due what) = Unit {0}
 SignalIsOf own (signal.Ended key) = Unit {0}
 
--- so is the INVITE of a side that waits for its answer,
+-- so is the INVITE of a side that awaits its response,
 abbrev pub StageIsOf : (own : ℕ → Bool) → Stage → Type 0
 StageIsOf own (Answered waiting success) = Unit {0}
 StageIsOf own (Parting waiting success) = Unit {0}
@@ -69,7 +69,7 @@ pub record CallIsOf (own : ℕ → Bool) (c : Call) : Type 0 where
   pub phase : PhaseIsOf own c.phase
   pub flights : FlightsAreOf own c.flights
 
--- ---- each reply of a step is in them, where those that lay on the desk are, and the call stays one of them
+-- ---- each reply of a step is in them, if those that were in the output before are, and the requests of the call remain in them
 
 pub record RepliesIn (own : ℕ → Bool) (s : Step) : Type 0 where
   pub call_in : CallIsOf own s.call
@@ -83,12 +83,12 @@ abbrev pub OpeningsReplyInTheirOwn : Type 0
 OpeningsReplyInTheirOwn = (own : ℕ → Bool) (site : Site) (now : Standing) (arrival : Arrival) (desk : Desk) → own arrival.key.0 ≡ true →
     Each (IsRepliedIn own) desk.out → RepliesIn own (opened site now arrival desk)
 
--- of the end of a call whose leg is away
+-- of the end of a call whose leg is detached
 abbrev pub EndsReplyInTheirOwn : Type 0
 EndsReplyInTheirOwn = (own : ℕ → Bool) (site : Site) (at : ℕ) (c : Call) (desk : Desk) → CallIsOf own c → Each (IsRepliedIn own) desk.out →
     RepliesIn own (finished site at c desk)
 
--- a leg is taken out, or put back
+-- a leg is detached, or put back
 abbrev pub LentCallsKeepTheirOwn : Type 0
 LentCallsKeepTheirOwn = (own : ℕ → Bool) (side : Side) (c : Call) → CallIsOf own c → CallIsOf own (lent_in c.phase side c)
 

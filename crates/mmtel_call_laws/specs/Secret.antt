@@ -1,4 +1,4 @@
--- What the laws cite of this: what nobody may learn from a call.
+-- What the theorems cite here: noninterference, that is, what nobody may learn from a call.
 pub mod Roles
 pub mod Parts
 pub mod Seen

@@ -1,3 +1,3 @@
--- What the laws cite of this: which deadline of its session counts for a call, by what went out and was heard, and that the call ends by it.
+-- What the theorems cite here: which deadline of its session counts for a call, by what was sent and received, and that the call ends by it.
 pub mod Seen
 pub mod Laws

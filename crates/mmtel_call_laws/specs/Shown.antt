@@ -1,4 +1,4 @@
--- What a call shows to the outside while it is offered: the INVITEs to its targets, and the final to its caller (RFC 3261 §13.2.1, §13.3.1, §16.6, §16.7).
+-- What is observed of a call from outside while it is offered: the INVITEs to its targets, and the final response to its caller (RFC 3261 §13.2.1, §13.3.1, §16.6, §16.7).
 use Rattle.std.specs.Prelude.{◌≡◌, true, false, ℕ, ◌==◌, nat_lt, Bool, if◌then◌else◌, List, [], ◌∷◌, ◌++◌, Option, Some, None, codes}
 use Rattle.mmtel_answers.specs.Said.{status_of as status_in}
 use Rattle.mmtel_history.specs.EntryUri.{with_cause}
@@ -24,21 +24,21 @@ use Rattle.mmtel_call.specs.declared.signals.Signal.TheVariants as signal
 use Rattle.mmtel_call_laws.specs.Heads.Emits.{Each}
 use Rattle.mmtel_call_laws.specs.Story.{Heard, Start, added, call_after, first_step, next_step}
 
--- ---- what is seen of what goes out
+-- ---- what is observed in what is sent
 
 pub data Sign : Type 0 where
   -- an INVITE, with this Request-URI
   Invited : (uri : List ℕ) → Sign
   -- a 2xx to the INVITE that opened the call
   Accepted : Sign
-  -- any other final to it
+  -- any other final response to it
   Refused : (code : ℕ) → Sign
 
--- a status; a provisional one is no final
+-- by a status; a provisional one is no final response
 abbrev pub final_sign : (code : ℕ) → List Sign
 final_sign code = if nat_lt code 200 then [] else if nat_lt code 300 then Accepted ∷ [] else Refused code ∷ []
 
--- of what goes out, where the INVITE that opened the call is of this server transaction
+-- of what is sent, where the INVITE that opened the call has this server transaction
 abbrev pub sign_of : (key : TKey) → Emit → List Sign
 sign_of key (emit.Ask peer m) = if is_method (codes "INVITE") m.start then Invited (request_uri m.start) ∷ [] else []
 sign_of key (emit.Reply asked m) = if asked.0 == key.0 then final_sign (status_in m.start) else []
@@ -52,7 +52,7 @@ abbrev pub signs_of : (key : TKey) → List Emit → List Sign
 signs_of key [] = []
 signs_of key (e ∷ later) = sign_of key e ++ signs_of key later
 
--- ---- what is seen of a step, whether or not the call is offered
+-- ---- what is observed of a step, whether or not the call is offered
 
 -- an INVITE that a side sends within the call (RFC 3261 §14),
 abbrev pub is_within : Signal → Bool
@@ -64,20 +64,20 @@ is_within (signal.Silent branch method) = false
 is_within (signal.Due what) = false
 is_within (signal.Ended asked) = false
 
--- which the other side has too: all but the first INVITE, which is that one
+-- which is relayed to the other side: all but the first INVITE, which is that one
 abbrev pub but_passed_on : List Sign → List Sign
 but_passed_on [] = []
 but_passed_on (Invited uri ∷ later) = later
 but_passed_on (Accepted ∷ later) = Accepted ∷ but_passed_on later
 but_passed_on (Refused code ∷ later) = Refused code ∷ but_passed_on later
 
--- where this was heard, and this went out
+-- where this was received, and this was sent
 abbrev pub shown_by : (key : TKey) → Signal → List Emit → List Sign
 shown_by key heard out = if is_within heard then but_passed_on (signs_of key out) else signs_of key out
 
--- ---- what Outcome says of it
+-- ---- what Outcome gives
 
--- the Request-URI: that of the first target is as it was asked for, that of a diversion has its cause (RFC 4458)
+-- the Request-URI: that of the first target is as the INVITE requested it, that of a diversion has its cause (RFC 4458)
 abbrev pub asked_uri : Opening → Option DueDiversion → Uri → List ℕ
 asked_uri o None uri = request_uri o.invite.heard.start
 asked_uri o (Some due) uri = with_cause due.cause (uri_text uri)
@@ -91,13 +91,13 @@ abbrev pub signs_of_targets : Opening → List Target → List Sign
 signs_of_targets o [] = []
 signs_of_targets o (target ∷ later) = sign_if target.offer (asked_uri o target.by target.uri) ++ signs_of_targets o later
 
--- of the result
+-- by the result
 abbrev pub sign_of_result : Result → List Sign
 sign_of_result Pending = []
 sign_of_result Answered = Accepted ∷ []
 sign_of_result (Final cause) = final_sign (status_of cause)
 
--- ---- in a story
+-- ---- in a trace
 
 -- the phase of a call that is offered to a target
 abbrev pub is_offered : Phase → Bool
@@ -106,13 +106,13 @@ is_offered (phases.Stood x stage) = false
 is_offered (phases.Lent loan) = false
 is_offered (phases.Over cause) = false
 
--- what went out as it opened, and in the steps at which it was offered; in order
+-- what was sent as it opened, and in the steps at which it was offered, in order
 unfoldable pub emits_while_offered : Start → List Heard → List Emit
 emits_while_offered s [] = added s.desk.out (first_step s).desk.out
 emits_while_offered s (x ∷ earlier) =
     emits_while_offered s earlier ++ (if is_offered (call_after s earlier).phase then added x.desk.out (next_step s x (call_after s earlier)).desk.out else [])
 
--- a request that is heard later has another server transaction than the INVITE that opened the call
+-- a request that is received later has another server transaction than the INVITE that opened the call
 abbrev pub IsOthers : (key : TKey) → Signal → Type 0
 IsOthers key (signal.Request side asked request) = (asked.0 == key.0) ≡ false
 IsOthers key (signal.Ack side ack) = Unit {0}
@@ -122,7 +122,7 @@ IsOthers key (signal.Silent branch method) = Unit {0}
 IsOthers key (signal.Due what) = Unit {0}
 IsOthers key (signal.Ended asked) = Unit {0}
 
--- a call that waits for the answer to an INVITE of a side waits for that of another request than the INVITE that opened it
+-- a call that waits for the response to an INVITE of a side waits for that to another request than the INVITE that opened it
 abbrev pub AsksOthersAt : (key : TKey) → Stage → Type 0
 AsksOthersAt key (stages.Answered waiting success) = Unit {0}
 AsksOthersAt key (stages.Parting waiting success) = Unit {0}
@@ -135,11 +135,11 @@ AsksOthers key (phases.Stood x stage) = AsksOthersAt key stage
 AsksOthers key (phases.Lent loan) = Unit {0}
 AsksOthers key (phases.Over cause) = Unit {0}
 
--- and so is what is in flight
+-- the same for the requests in flight
 abbrev pub FlyOthers : (key : TKey) → List Flight → Type 0
 FlyOthers key flights = Each (λ (flight : Flight). (flight.asked.key.0 == key.0) ≡ false) flights
 
--- and each step has a desk of its own, on which nothing lies
+-- and each step has an empty output before it
 abbrev pub AreOwn : Start → List Heard → Type 0
 AreOwn s [] = s.desk.out ≡ []
 AreOwn s (x ∷ earlier) = (x.desk.out ≡ []) × IsOthers s.arrival.key x.signal × AreOwn s earlier

@@ -1,5 +1,5 @@
--- A story of one call: how it opened, and what it heard after that, each with how things stood then and the desk that it found. So what is said of every story holds
--- however the call is mixed with other calls, and whatever tokens are drawn.
+-- A trace of one call: how it opened, and what it received after that, each with the state then and the output before. So what is claimed of every trace holds however the call is
+-- interleaved with other calls, and whatever tokens are drawn.
 use Rattle.std.specs.Prelude.{ℕ, Bool, true, false, if◌then◌else◌, List, [], ◌∷◌, ◌++◌, drop, length}
 use Rattle.mmtel_charging.specs.declared.rows.Row.{Row}
 use Rattle.mmtel_desk.specs.Desks.{token}
@@ -19,20 +19,20 @@ use Rattle.mmtel_call.specs.declared.signals.Signal.{Signal}
 
 -- ---- what happens
 
--- how a call opens: the configuration, how things stand, the INVITE, and the desk
+-- how a call opens: the configuration, the state, the INVITE, and the output before
 pub record Start : Type 0 where
   pub site : Site
   pub now : Standing
   pub arrival : Arrival
   pub desk : Desk
 
--- what it hears later: how things stand then, what it hears, and the desk
+-- what it receives later: the state then, what it receives, and the output before
 pub record Heard : Type 0 where
   pub now : Standing
   pub signal : Signal
   pub desk : Desk
 
--- ---- what comes of it; of what was heard the last stands first
+-- ---- what follows from it; of what was received the last is first in the list
 
 abbrev pub first_step : Start → Step
 first_step s = opened s.site s.now s.arrival s.desk
@@ -45,11 +45,11 @@ unfoldable pub call_after : Start → List Heard → Call
 call_after s [] = (first_step s).call
 call_after s (x ∷ earlier) = (next_step s x (call_after s earlier)).call
 
--- what a step brought forth stands behind what was there
+-- what a step added to the output is after what was there
 abbrev pub added : {A : Type 0} → (before after : List A) → List A
 added before after = drop (length before) after
 
--- the rows that were filed in it, in order
+-- the CDRs that were filed in it, in order
 unfoldable pub rows_after : Start → List Heard → List Row
 rows_after s [] = added s.desk.rows (first_step s).desk.rows
 rows_after s (x ∷ earlier) = rows_after s earlier ++ added x.desk.rows (next_step s x (call_after s earlier)).desk.rows
@@ -65,7 +65,7 @@ is_over (Stood x stage) = false
 is_over (Lent loan) = false
 is_over (Over cause) = true
 
--- the moment at which it was over, or else that of the last step
+-- the moment at which it was over, or, if it is not, that of the last step
 unfoldable pub over_at : Start → List Heard → ℕ
 over_at s [] = s.now.at
 over_at s (x ∷ earlier) = if is_over (call_after s earlier).phase then over_at s earlier else x.now.at

@@ -1,3 +1,3 @@
--- What the laws cite of this: what a call keeps of its attempt is what went out and was heard.
+-- What the theorems cite here: what a call keeps of its attempt is what was sent and received.
 pub mod Seen
 pub mod Laws

@@ -1,14 +1,14 @@
-//! Which PRACKs and UPDATEs of a call are in flight. These are laws, and no code.
+//! Which PRACKs and UPDATEs of a call are in flight. These are theorems, without code.
 ghost use Rattle.mmtel_call_laws.specs.Dismissal.{EndsDismiss, NothingIsInFlight, StepsDismiss, StepsGoOn};
 
-/// Each PRACK and UPDATE that a call relays has one final answer (RFC 3262 §3, §4, RFC 3311 §5.1, §5.2): that of the other side, which comes back, or one of the server's own.
-/// After a step in which the attempt is another one, or the call is over, nothing is in flight: what was has its final before all else of that step, a PRACK 481 and an UPDATE
-/// 487, and what follows replies to none of them.
+/// Each PRACK and UPDATE that a call relays gets one final response (RFC 3262 §3, §4, RFC 3311 §5.1, §5.2): that of the other side, which is relayed back, or one of the server's
+/// own. After a step in which the attempt is another one, or the call is over, nothing is in flight: what was has got its final response before everything else in that step, a
+/// PRACK 481 and an UPDATE 487, and what follows replies to none of them.
 pub fn calls_answer_what_is_in_flight()
     ensures left { StepsDismiss }
-    // In each other step nothing changes, or one is relayed in the dialog of the other side, or one has its final.
+    // In each other step nothing changes, or one is relayed in the dialog of the other side, or one gets its final response.
     ensures step { StepsGoOn }
-    // Where a leg is away, and the call ends without it.
+    // Where a leg is detached, and the call ends without it.
     ensures end { EndsDismiss }
     // As a call opens, and once it is over.
     ensures nothing { NothingIsInFlight }

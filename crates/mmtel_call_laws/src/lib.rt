@@ -1,5 +1,5 @@
-//! Laws of a call: what it comes to over every list of signals, what its caller is told, what goes out of it, and what nobody may learn from it. The crate has definitions and
-//! laws, and no code.
+//! Theorems about a call: its result over every list of signals, the notifications that its caller gets, what is sent, and what nobody may learn from it (noninterference). The
+//! crate has definitions and theorems, and no code.
 #![tactic(auto)]
 
 mod branch_laws;

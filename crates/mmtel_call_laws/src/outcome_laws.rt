@@ -1,4 +1,4 @@
-//! What every story of a call comes to. These are laws, and no code.
+//! The result of every trace of a call. These are theorems, without code.
 ghost use Rattle.mmtel_call_laws.specs.GoingOn.{CallsGoOn};
 ghost use Rattle.mmtel_call_laws.specs.Laws.{ChargingIsExact, ComesToItsOutcome, DiversionsAreCounted, ShowsItsOutcome, ShowsNothingLater};
 
@@ -6,7 +6,7 @@ use mmtel_precedence::laws::{
     endings_are_moves, later_endings_extend, moves_give_the_outcome, turns_are_moves,
 };
 
-/// Whatever a call hears, however things stand then, and however it is mixed with others: its result so far is that of its Outcome over how its attempts ended so far (TS
+/// Whatever a call receives, whatever the state is then, and however it is interleaved with others: its result so far is that of its Outcome over how its attempts ended so far (TS
 /// 24.604 §4.5.2.6).
 pub fn calls_come_to_their_outcome()
     ensures law { ComesToItsOutcome }
@@ -17,11 +17,11 @@ pub fn calls_come_to_their_outcome()
     moves_give_the_outcome();
 }
 
-/// What goes out while a call is offered is what Outcome says: an INVITE to each target to which it is offered, in order, with the Request-URI that it has there (RFC
-/// 4458), and at the end one final to the caller, by the result (RFC 3261 §13.3.1).
+/// What is sent while a call is offered is what Outcome gives: an INVITE to each target to which it is offered, in order, with the Request-URI that it has there (RFC 4458), and at
+/// the end one final response to the caller, by the result (RFC 3261 §13.3.1).
 pub fn calls_show_their_outcome()
     ensures law { ShowsItsOutcome }
-    // Once it is not offered any more it has no INVITE to a target go out, and no final to the INVITE that opened it, whatever it hears, also while a leg of it is away.
+    // Once it is not offered any more it sends no INVITE to a target, and no final response to the INVITE that opened it, whatever it receives, also while a leg of it is detached.
     ensures later { ShowsNothingLater }
 {
     turns_are_moves();
@@ -30,7 +30,7 @@ pub fn calls_show_their_outcome()
     moves_give_the_outcome();
 }
 
-/// The diversions that are left are those that the bound leaves after the ones that the call came with, without those that were made; so they stay within the bound.
+/// The diversions that are left are those that the bound leaves after the ones that the call came with, minus those that were made; so they remain within the bound.
 pub fn diversions_are_counted()
     ensures law { DiversionsAreCounted }
 {
@@ -40,8 +40,8 @@ pub fn diversions_are_counted()
     moves_give_the_outcome();
 }
 
-/// Of each account that a call reaches, of the one that it is made by, and of each that diverts it, one part begins, at its moment; it runs as long as the call, and has
-/// one row then, in the order begun (TS 32.260 §5).
+/// For each account that a call reaches, for the one that makes it, and for each that diverts it, one part begins, at its moment; it runs as long as the call, and gives one CDR
+/// then, in the order begun (TS 32.260 §5).
 pub fn charging_is_exact()
     ensures law { ChargingIsExact }
 {
@@ -51,8 +51,8 @@ pub fn charging_is_exact()
     moves_give_the_outcome();
 }
 
-/// A call stays the one that was opened, and what began runs while it is not over. Whatever an answered call hears, it stands with its parts as they were, or both sides
-/// leave and each part has its row; one that is over stays so.
+/// A call remains the one that was opened, and the parts that began run while it is not over. Whatever an answered call receives, it remains established with its parts unchanged,
+/// or both sides leave and each part has its CDR; one that is over remains over.
 pub fn calls_go_on()
     ensures law { CallsGoOn }
 {

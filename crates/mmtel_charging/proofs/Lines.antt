@@ -1,4 +1,4 @@
--- No field of a row calls for quotes, so the record that the writer writes is the row's line.
+-- No field of a row needs quotes, so the record that the writer writes is the row's line.
 use Rattle.std.proofs.Common.{◌≡◌, ℕ, ◌<◌, ◌≤◌, ◌^◌, ◌+◌, ◌++◌, List, [], ◌∷◌, length, false, refl, ap, sym, ◌∙◌, arith, append_assoc, append-nil, decimal, codes, take, get_or, Option, Some, None, IfSome}
 use Rattle.std.proofs.lemmas.Fmt.{decimal_is_IsNumeral}
 use Rattle.std.proofs.lemmas.Bool.Decides.{nat_tests}
@@ -16,7 +16,7 @@ use Rattle.mmtel_charging.specs.declared.rows.Row.{Row}
 use Rattle.mmtel_charging.specs.Writing.{InRange}
 use Rattle.mmtel_charging.specs.Rows.{columns, fields_of, line_of, moment_field, word_of}
 
--- no byte of the field calls for quotes
+-- no byte of the field needs quotes
 abbrev pub IsPlain : List ℕ → Type 0
 IsPlain field = list_any (needs_byte default_writer) field ≡ false
 
@@ -71,7 +71,7 @@ cause-plain Full = refl
 cause-plain Ended = refl
 cause-plain Unacknowledged = refl
 
--- plain fields are written as they are, with a comma between each two
+-- plain fields are written unchanged, with a comma between each two
 fields-line : (x : List ℕ) (rest : List (List ℕ)) → ArePlain (x ∷ rest)
     → field_text default_writer x ++ fields_text default_writer rest ≡ join_with_byte 44 (x ∷ rest)
 unfolding fields_text

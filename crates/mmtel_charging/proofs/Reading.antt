@@ -1,4 +1,4 @@
--- What the writer wrote reads back: the header's fields, and each row's.
+-- What the writer wrote is parsed as what was written: the header's fields, and each row's.
 use Rattle.std.proofs.Common.{◌≡◌, ℕ, zero, suc, ◌<◌, ◌≤◌, ◌+◌, ◌++◌, List, [], ◌∷◌, length, refl, ap, sym, ◌∙◌, arith, codes, map}
 use Rattle.std.specs.List.{flat_map}
 use Rattle.std.proofs.lemmas.List.{length-append}

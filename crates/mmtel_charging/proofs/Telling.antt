@@ -1,4 +1,4 @@
--- From the fields of a row back to the row.
+-- The row is determined by its fields.
 use Rattle.std.proofs.Common.{◌≡◌, ℕ, ◌<◌, ◌^◌, List, [], ◌∷◌, refl, ap, sym, ◌∙◌, decimal, codes, get_or, arith, length, Option, Some, None, IfSome, if◌then◌else◌}
 use Rattle.std.proofs.lemmas.Fmt.{decimal_is_IsNumeral, decimal_nonempty}
 use Rattle.std.specs.Str.{bytes_eq}
@@ -13,7 +13,7 @@ use Rattle.mmtel_charging.specs.Writing.{InRange}
 pub number-again : (m n : ℕ) → m < 2 ^ 64 → n < 2 ^ 64 → decimal m ≡ decimal n → m ≡ n
 number-again m n h k e = sym (decimal_is_IsNumeral m h).1 ∙ ap (digits_value 10) e ∙ (decimal_is_IsNumeral n k).1
 
--- the digits of a moment, read back; nothing is no moment
+-- the digits of a moment, parsed; an empty text is no moment
 abbrev moment_of : List ℕ → Option ℕ
 moment_of [] = None
 moment_of (b ∷ s) = Some (digits_value 10 (b ∷ s))
@@ -44,13 +44,13 @@ moment_of-field (Some moment) h = let filled = decimal_nonempty moment h in from
 moment-again : (a b : Option ℕ) → IfSome a (λ moment. moment < 2 ^ 64) → IfSome b (λ moment. moment < 2 ^ 64) → moment_field a ≡ moment_field b → a ≡ b
 moment-again a b h k e = sym (moment_of-field a h) ∙ ap moment_of e ∙ moment_of-field b k
 
--- rows are the same where each field is
+-- rows are equal where each field is
 same-row : (a b : Row) → a.kind ≡ b.kind → a.account.0 ≡ b.account.0 → a.call.0 ≡ b.call.0 → a.began ≡ b.began → a.answered ≡ b.answered → a.ended ≡ b.ended → a.holds ≡ b.holds
     → a.cause ≡ b.cause → a ≡ b
 same-row a b kind account call began answered ended holds cause =
     λ i. record { kind = kind i; account = record { 0 = account i }; call = record { 0 = call i }; began = began i; answered = answered i; ended = ended i; holds = holds i; cause = cause i }
 
--- rows with the same fields are the same
+-- rows with equal fields are equal
 pub row-again : AreToldApart → (a b : Row) → InRange a → InRange b → fields_of a ≡ fields_of b → a ≡ b
 row-again apart a b h k e =
     let nth : (i : ℕ) → get_or (fields_of a) i [] ≡ get_or (fields_of b) i [] = λ i. ap (λ fields. get_or fields i []) e in

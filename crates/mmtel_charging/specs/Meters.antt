@@ -1,5 +1,5 @@
--- What a meter has noted, and the row that it gives: one account's part in one call, as charging data of a call has it (TS 32.260 §5: who is charged, from when to when,
--- and why it ended).
+-- What a meter has recorded, and the row that it gives: one account's part in one call, as charging data of a call has it (TS 32.260 §5: who is charged, from when to when, and
+-- why it ended).
 use Rattle.std.specs.Prelude.{ℕ, Option}
 use Rattle.mmtel_types.specs.declared.numbers.Account.{Account}
 use Rattle.mmtel_types.specs.declared.numbers.CallNo.{CallNo}
@@ -7,7 +7,7 @@ use Rattle.mmtel_types.specs.declared.causes.Cause.{Cause}
 use Rattle.mmtel_charging.specs.declared.rows.Kind.{Kind}
 use Rattle.mmtel_charging.specs.declared.rows.Row.{Row}
 
--- for what, who, in which call, since when, and when it was answered; moments in milliseconds since 1970-01-01T00:00:00Z
+-- for which part, of whom, in which call, since when, and when it was answered; moments in milliseconds since 1970-01-01T00:00:00Z
 pub record Noted : Type 0 where
   pub kind : Kind
   pub account : Account

@@ -14,7 +14,7 @@ word_of Terminating = codes "terminating"
 word_of Diversion = codes "diversion"
 word_of Participant = codes "participant"
 
--- a moment in decimal digits; where there is none, nothing
+-- a moment in decimal digits; empty where there is none
 abbrev pub moment_field : Option ℕ → List ℕ
 moment_field None = []
 moment_field (Some moment) = decimal moment
@@ -38,6 +38,6 @@ line_of fields = join_with_byte 44 fields ++ codes "\n"
 abbrev pub text_of : List Row → List ℕ
 text_of rows = codes "kind,account,call,began,answered,ended,holds,cause,status\n" ++ flat_map (λ row. line_of (fields_of row)) rows
 
--- what a CSV reader with its usual settings gives of a text: the fields of each record
+-- what a CSV reader with its usual settings returns for a text: the fields of each record
 abbrev pub records_of : List ℕ → List (List (List ℕ))
 records_of text = records default_config (strip_bom text)

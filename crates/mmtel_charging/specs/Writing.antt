@@ -8,15 +8,15 @@ use Rattle.mmtel_types.specs.Causes as causes
 use Rattle.mmtel_charging.specs.Rows.{columns, fields_of}
 use Rattle.mmtel_charging.specs.declared.rows.Row.{Row}
 
--- the bytes that it holds, those that it keeps back too
+-- the bytes that it has written, those that it still buffers included
 abbrev pub written : Writer (Vec ℕ Global) → List ℕ
 written writer = (writer_under writer).items ++ writer_pending writer
 
--- what is written before the rows and with them, as the writer has it
+-- what is written before the rows and with them, in the form that the writer takes
 abbrev pub records_text : List Row → List ℕ
 records_text rows = row_text default_writer columns ++ flat_map (λ row. row_text default_writer (fields_of row)) rows
 
--- it has its usual settings and stands between two records
+-- it has its usual settings and is between two records
 pub record IsReady (writer : Writer (Vec ℕ Global)) : Type 0 where
   pub setup : writer_setup writer ≡ default_writer
   pub fields : fields_written writer ≡ 0

@@ -1,14 +1,14 @@
-//! Rows that are filed, and rows that were handed over.
+//! Rows that are appended to a list, and rows that were handed over.
 ghost use Rattle.std.specs.Prelude.{◌≡◌, ◌++◌, ◌≤◌, ◌<◌, drop, length, option_to_list, OnErr, OnOk};
 
 use mmtel_scan::{List, NoMemory};
 use std::alloc::Global;
 
-/// Files a row in a list, where there is one: that of a meter that was closed.
+/// Appends a row to a list, where there is one: that of a meter that was closed.
 ///
 /// # Errors
 ///
-/// Want of memory alone; the list is then as before, and the row is given up.
+/// Out of memory only; the list is then as before, and the row is dropped.
 pub fn file_some<T: Drop>(alloc: Global, rows: &mut List<T>, row: Option<T>) -> Result<(), NoMemory>
     ensures filed { OnOk result (rows.new ≡ rows.old ++ option_to_list row) }
     ensures refused { OnErr result (rows.new ≡ rows.old) }
@@ -22,7 +22,7 @@ pub fn file_some<T: Drop>(alloc: Global, rows: &mut List<T>, row: Option<T>) -> 
     }
 }
 
-/// Takes the first row.
+/// Removes the first row.
 fn drop_one<T: Drop>(rows: &mut List<T>)
     requires { 0 < length rows.old }
     ensures { rows.new ≡ drop 1 rows.old }
@@ -30,7 +30,7 @@ fn drop_one<T: Drop>(rows: &mut List<T>)
     drop(rows.remove(0));
 }
 
-/// Takes so many rows from the front, which were handed over.
+/// Removes so many rows from the front, which were handed over.
 #[tactic(auto, using(crate::proofs::Dropped::dropped))]
 pub fn drop_first<T: Drop>(rows: &mut List<T>, count: usize)
     requires { count ≤ length rows.old }

@@ -1,5 +1,5 @@
-//! Charging: meters, which run from when a part of a call begins and must be spent, the rows that they give, which are filed and handed over, and the text of rows as
-//! CSV (RFC 4180).
+//! Charging: meters, which run from when an account's part in a call begins and must be spent, the rows (CDRs) that they give, which are filed and handed over, and the text of
+//! rows as CSV (RFC 4180).
 #![tactic(auto)]
 
 mod filing;

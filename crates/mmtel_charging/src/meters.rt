@@ -6,10 +6,9 @@ use crate::rows::{Kind, Row};
 use mmtel_types::{Account, CallNo, Cause, Moment};
 use std::marker::Model;
 
-/// What runs while an account has a part in a call, from when that part begins to the row that it gives.
+/// An open charging record: it runs while an account has a part in a call, from when that part begins until its row is made.
 ///
-/// A meter must be spent: it is not `Drop`, so a program that loses one does not compile, and `close` alone takes one.
-/// Contracts see what it has noted.
+/// A meter must be spent: it is not `Drop`, so a program that loses one does not compile, and `close` alone takes one. Its value in contracts is what it has recorded.
 #[derive(Debug)]
 pub struct Meter {
     kind: Kind,
@@ -28,7 +27,7 @@ impl Model for Meter {
 }
 
 impl Meter {
-    /// Begins an account's part in a call, not answered yet. A participant's meter has the number of the conference room as its call.
+    /// Begins an account's part in a call, not answered yet. A participant's meter has the number of the conference as its call.
     pub fn start(kind: Kind, account: Account, call: CallNo, now: Moment) -> Meter
         ensures noted { result ≡ record { kind = kind; account = account; call = call; began = now; answered = None } }
     {
@@ -41,21 +40,21 @@ impl Meter {
         }
     }
 
-    /// For what it runs.
+    /// The kind of part for which it runs.
     pub fn kind(&self) -> Kind
         ensures kind { result ≡ self.now.kind }
     {
         self.kind
     }
 
-    /// Notes the moment at which the call was answered, in place of any that was noted before.
+    /// Records the moment at which the call was answered, in place of any that was recorded before.
     pub fn answered(&mut self, now: Moment)
         ensures noted { self.new ≡ record self.old { answered = Some now } }
     {
         self.answered = Some(now);
     }
 
-    /// Ends the account's part in the call, and gives its row.
+    /// Ends the account's part in the call, and returns its row.
     pub fn close(self, now: Moment, holds: u32, cause: Cause) -> Row
         ensures row { result ≡ row_of self now holds cause }
     {

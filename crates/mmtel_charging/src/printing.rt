@@ -11,7 +11,7 @@ use mmtel_scan::{NoMemory, Text};
 use mmtel_types::{Moment, causes_are_told_apart};
 use std::alloc::Global;
 
-/// The digits of a moment, in milliseconds since 1970-01-01T00:00:00Z; where there is none, nothing.
+/// The digits of a moment, in milliseconds since 1970-01-01T00:00:00Z; empty where there is none.
 fn moment_digits(buffer: &mut Buffer, moment: Option<Moment>) -> &str
     ensures digits { result.now ≡ moment_field moment }
     ensures fits { IfSome moment (λ number. number < 2 ^ 64) }
@@ -22,7 +22,7 @@ fn moment_digits(buffer: &mut Buffer, moment: Option<Moment>) -> &str
     }
 }
 
-/// Writes one record. A writer into memory fails for want of memory alone.
+/// Writes one record. A writer into memory fails only where memory runs out.
 fn put(writer: &mut Writer<Vec<u8>>, fields: &[&[u8]]) -> Result<(), NoMemory>
     requires { IsReady writer.old }
     ensures ready { IfOk result (λ _. IsReady writer.new) }
@@ -71,7 +71,7 @@ fn put_row(writer: &mut Writer<Vec<u8>>, row: &Row) -> Result<(), NoMemory>
 ///
 /// # Errors
 ///
-/// Want of memory alone.
+/// Out of memory only.
 pub fn rows_text(alloc: Global, rows: &[Row]) -> Result<Text, NoMemory>
     ensures text { IfOk result (λ text. text ≡ text_of rows.now) }
     ensures reads_back { IfOk result (λ text. records_of text ≡ columns ∷ map fields_of rows.now) }
@@ -109,7 +109,7 @@ fn rows_written(alloc: Global, rows: &[Row]) -> Result<Vec<u8>, NoMemory>
     }
 }
 
-/// A law, and no code: rows with the same fields are the same, so what a CSV reader gives of a text of rows tells the rows.
+/// A theorem, without code: rows with equal fields are equal, so the rows are determined by what a CSV reader returns for their text.
 pub fn rows_are_told_apart(one: Row, other: Row)
     ensures told_apart { fields_of one ≡ fields_of other → one ≡ other }
 {
@@ -118,7 +118,7 @@ pub fn rows_are_told_apart(one: Row, other: Row)
     causes_are_told_apart();
 }
 
-/// A law, and no code: what the type of a row says of its numbers.
+/// A theorem, without code: the bounds that the type of a row implies for its numbers.
 fn numbers_fit(row: Row)
     ensures in_range { InRange row }
 {

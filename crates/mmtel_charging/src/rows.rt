@@ -1,10 +1,10 @@
-//! What a charging row says.
+//! Charging rows (CDRs).
 ghost use Rattle.std.specs.Prelude.{◌≡◌};
 ghost use Rattle.mmtel_charging.specs.Rows.{word_of};
 
 use mmtel_types::{Account, CallNo, Cause, Moment};
 
-/// For what an account is charged.
+/// For which part an account is charged.
 #[derive(Clone, Copy, Debug, PartialEq, Eq)]
 pub enum Kind {
     /// The account's user made the call.
@@ -13,7 +13,7 @@ pub enum Kind {
     Terminating,
     /// The account's user had the call diverted (TS 24.604).
     Diversion,
-    /// The account's user had a seat in a conference room (TS 24.605).
+    /// The account's user was a participant of a conference (TS 24.605).
     Participant,
 }
 
@@ -31,14 +31,14 @@ impl Kind {
     }
 }
 
-/// A charging row: one account's part in one call, from when it began to when it ended.
+/// A charging row (CDR): one account's part in one call, from when it began to when it ended.
 #[derive(Clone, Copy, Debug, PartialEq, Eq)]
 pub struct Row {
-    /// For what the account is charged.
+    /// The part for which the account is charged.
     pub kind: Kind,
     /// The account.
     pub account: Account,
-    /// The call; of a participant, the number of the conference room.
+    /// The call; of a participant, the number of the conference.
     pub call: CallNo,
     /// When its part began.
     pub began: Moment,

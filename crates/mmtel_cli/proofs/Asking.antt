@@ -1,4 +1,4 @@
--- What was prepared, by the command that the words spell.
+-- The report that was prepared, by the command of the arguments.
 use Rattle.std.proofs.Common.{◌≡◌, ℕ, List, Option, Some, None, refl, sym, inl, IfSome}
 use Rattle.mmtel_outside.specs.Shelf.{Shelf}
 use Rattle.mmtel_scan.proofs.ChainLaws.{some_is}
@@ -11,7 +11,7 @@ use Rattle.mmtel_cli.specs.Outside.{Outside}
 use Rattle.mmtel_reports.specs.declared.reports.Report.{Report}
 use Rattle.mmtel_reports.specs.declared.reports.Report.TheVariants.{Usage}
 
--- each command that the words spell is this one
+-- each command of the arguments is this one
 abbrev IsAll : Option Command → List (List ℕ) → Type 0
 IsAll given words = (other : Command) → IsCommand other words → given ≡ Some other
 
@@ -35,7 +35,7 @@ prepares_one words old new before now outcome command spelled all gives calls as
   taking = taking;
 })
 
--- where the words spell none
+-- where the arguments are no command
 none_called : (told : Option Shelf) → IfSome told (λ shelf. told ≡ Some shelf)
 none_called None = tt
 none_called (Some shelf) = refl

@@ -1,4 +1,4 @@
--- What the laws of a run ask of a configuration and a token, which are read so: the home domain and the token are of one line each, each peer has a number and an address of its
+-- What the theorems about a run require of a configuration and a token that were read: the home domain and the token are of one line each, each peer has a number and an address of its
 -- own, and the branches that the server draws are read as they are written.
 use Rattle.std.proofs.Common.{◌≡◌, ◌==◌, ◌<◌, true, ℕ, List, [], ◌∷◌, refl, length, Result, Ok, Err, arith}
 use Rattle.std.proofs.lemmas.Bool.Decides.{nat_tests}
@@ -35,7 +35,7 @@ sixteen s is = grind (arith, nat_tests, is)
 
 -- ---- the configuration
 
--- what is so of one that was read
+-- what holds for one that was read
 pub record Suits (directory : Directory) : Type 0 where
   pub home : IsClean directory.home
   pub apart : are_apart directory.peers.known ≡ true
@@ -58,7 +58,7 @@ module _ (homes : HomesAreClean) (apart : PeersAreApart) (reads : Configurations
   pub directory_suits : IfOk (directory_of text) Suits
   directory_suits = suits_as (directory_of text) refl
 
--- so it is fit to be served
+-- so it can be served
 pub suited : (directory : Directory) (token : List ℕ) → Suits directory → is_token token ≡ true → IsSuited directory token
 suited directory token suits right = record {
   home = suits.home;

@@ -1,4 +1,4 @@
--- What the files gave, stage by stage.
+-- The results of reading the files, stage by stage.
 use Rattle.std.proofs.Common.{◌≡◌, ℕ, List, refl, sym, subst, Option, Some, None, Result, Ok, Err, IfSome}
 use Rattle.mmtel_directory.specs.Directory.{directory_of}
 use Rattle.mmtel_cli.proofs.Stopping.{stopped_untouched}
@@ -15,7 +15,7 @@ use Rattle.mmtel_reports.specs.declared.reports.Report.{Report}
 use Rattle.mmtel_reports.specs.declared.reports.Report.TheVariants.{Line, File, Memory}
 use Rattle.mmtel_outside.specs.declared.files.FileFault.TheVariants.{Failed}
 
--- the told answer, or none where nothing is told
+-- the exposed result, or none where nothing is exposed
 abbrev pub told_answer : Option Shelf → List ℕ → Option (List ℕ)
 told_answer None name = None
 told_answer (Some shelf) name = answer_at shelf name
@@ -33,7 +33,7 @@ pub told_next-is : (told : Option Shelf) (name : List ℕ) → IfSome told (λ s
 told_next-is None name = tt
 told_next-is (Some shelf) name = refl
 
--- a read that failed, and one that gave a text, are the told answers
+-- a read that failed, and one that returned a text, are the exposed results
 pub none-is : (told after : Option Shelf) (name : List ℕ) → ReadsTold told after name (Err Failed) → IfSome told (λ shelf. None ≡ answer_at shelf name)
 none-is None after name h = tt
 none-is (Some shelf) after name h = sym (h.1.failed.0 refl)
@@ -42,7 +42,7 @@ pub some-is : (told after : Option Shelf) (name text : List ℕ) → ReadsTold t
 some-is None after name text h = tt
 some-is (Some shelf) after name text h = sym h.1.ok
 
--- what the files told of the next name they tell of it after a call
+-- what the files exposed for the next name they expose for it after a call
 pub next-is : (told after : Option Shelf) (name text : List ℕ) (script : Option (List ℕ)) (other : List ℕ) → ReadsTold told after name (Ok text)
     → IfSome after (λ shelf. script ≡ answer_at shelf other) → IfSome told (λ shelf. script ≡ answer_at (called shelf) other)
 next-is None after name text script other h k = tt
@@ -95,7 +95,7 @@ module _ (old new : KeeperSeen) where
     is_due = refl;
   }
 
--- the calls that were made once the configuration's text was there
+-- the calls that were made once the configuration's text was read
 pub called_config : (told mid after : Option Shelf) (name config : List ℕ) (outcome : Report) → ReadsTold told mid name (Ok config)
     → IfSome mid (λ shelf. HasCalled outcome after shelf (shelf_of_directory shelf (directory_of config)))
     → IfSome told (λ shelf. HasCalled outcome after (called shelf) (shelf_of_config (called shelf) (answer_at shelf name)))
@@ -133,7 +133,7 @@ module _ (old new : Outside) where
       GivesServe told old new name token turns outcome
   gives_serve told after name config token turns outcome h d = record { text = Some config; told_text = some-is told after name config h; is_due = d }
 
--- ---- where memory ran out, or a file could not be read, and nothing was asked of the keeper and of the link
+-- ---- where memory ran out, or a file could not be read, and neither the keeper nor the link was called
 
 module _ (keeper : KeeperSeen) where
   pub gives_memory : (told : Option Shelf) (asked : Asked) (directory : Result Directory ℕ) → GivesScript told keeper keeper asked directory Memory
@@ -168,7 +168,7 @@ module _ (seen : Outside) where
       → GivesServe told seen seen name token turns File
   gives_no_serve told after name token turns h = record { text = None; told_text = none-is told after name h; is_due = (refl, refl) }
 
-  -- for want of memory there is nothing to be said of the configuration, and nothing was asked of the keeper and of the link
+  -- where memory runs out nothing is stated of the configuration, and neither the keeper nor the link was called
   pub serves_short : (directory : Result Directory ℕ) (token : List ℕ) (turns : ℕ) → ServesDirectory directory token turns seen seen Memory
   serves_short (Ok directory) token turns = λ suited. UnservedReading refl refl
   serves_short (Err line) token turns = (refl, refl)

@@ -1,4 +1,4 @@
--- The link, where no serving comes to it, and the count of its faults of taking in.
+-- The link, where serving does not reach it, and the count of its arrival faults.
 use Rattle.std.proofs.Common.{◌≡◌, ℕ, List, ap, inl, inr, Option, Some, None}
 use Rattle.mmtel_words.specs.CommandLine.{Command, Serve, Replay, Check, Charges, Workload}
 use Rattle.mmtel_cli.proofs.Saying.{four_rose}
@@ -17,7 +17,7 @@ module _ (written : Written) where
   abbrev EndsSo : Report → Type 0
   EndsSo outcome = Ends outcome written
 
-  -- ---- where it is as before
+  -- ---- where it is unchanged
 
   early_spared : {L : Type 0} (outcome : Report) (near away : L) → SparesLink outcome near away → EndsSo outcome → (written.status ≡ 0 → ⊥) → (written.status ≡ 4 → ⊥) → (written.status ≡ 8 → ⊥) →
       away ≡ near
@@ -41,7 +41,7 @@ module _ (written : Written) where
   early_by (Some (Charges config)) outcome near away unbound ends zero four eight = unbound
   early_by (Some (Workload calls salt)) outcome near away unbound ends zero four eight = unbound
 
-  -- ---- its count of taking in
+  -- ---- its count of arrival faults
 
   counted : (outcome : Report) (taking taken : ℕ) → CountsLink outcome taking taken → EndsSo outcome → (written.status ≡ 4 → ⊥) → taken ≡ taking
   counted Usage taking taken counts ends four = counts
@@ -63,7 +63,7 @@ module _ (written : Written) where
   counted_by (Some (Charges config)) outcome taking taken counts ends four = counts
   counted_by (Some (Workload calls salt)) outcome taking taken counts ends four = counts
 
--- of another command than `serve`, and without one
+-- for another command than `serve`, and for none
 other_by : {L : Type 0} (words : List (List ℕ)) (command : Option Command) (outcome : Report) (near away : L) → AsksFor words command → UnboundBy command outcome near away
     → ((config token : List ℕ) (turns : ℕ) → IsServe config token turns words → ⊥) → away ≡ near
 other_by words None outcome near away asks unbound never = unbound

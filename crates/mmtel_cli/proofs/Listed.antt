@@ -1,4 +1,4 @@
--- A text that lists what was offered in a run.
+-- A text that lists the outputs of a run.
 use Rattle.std.proofs.Common.{◌≡◌, ℕ, List, Result, Ok, Err, IfOk}
 use Rattle.mmtel_directory.specs.declared.directories.Directory.{Directory}
 use Rattle.mmtel_in_force.specs.Texts.{Texts}

@@ -1,4 +1,4 @@
--- A run, by what the files, the keeper and the link gave.
+-- A run, by the results of the files, the keeper and the link.
 use Rattle.std.proofs.Common.{◌≡◌, true, ◌↔◌, ◌⊎◌, ◌∙◌, ℕ, List, refl, subst, sym, inl, inr, nat_eq, codes, Option, Some, None, Result, Ok, Err, IfSome}
 use Rattle.std.proofs.lemmas.Bool.{cases_Bool, eqb-true, eqb-false}
 use Rattle.std.specs.Prelude.{IfOk}
@@ -36,7 +36,7 @@ use Rattle.mmtel_cli.specs.Runs.{EndsOfServe, EndsOfServing, EndsServed, EndsSer
 use Rattle.mmtel_reports.specs.declared.reports.Report.{Report}
 use Rattle.mmtel_reports.specs.declared.reports.Report.TheVariants.{Usage, Line, Link, File, Keeper, Memory, Listing, Sound, Served, Unsound}
 
--- ---- a run, where it is known what is due
+-- ---- a run, where the report that is due is known
 
 module _ (outcomes : CallsOfRunsComeToOutcome) (charged : SeatsOfRunsAreChargedOnce) (sends : RunsSendCleanMessages) (homes : HomesAreClean)
     (reads : ConfigurationsAreRead) (apart : PeersAreApart) (old new : Outside) (written : Written) where
@@ -48,7 +48,7 @@ module _ (outcomes : CallsOfRunsComeToOutcome) (charged : SeatsOfRunsAreChargedO
 
   -- ---- where memory ran out
 
-  -- status 8 tells of that alone
+  -- status 8 means that alone
   memory_at_eight : (outcome : Report) → EndsSo outcome → written.status ≡ 8 → outcome ≡ Memory
   memory_at_eight Usage ends eight = absurd (let wrong : 1 ≡ 8 = sym ends.0 ∙ eight in cc)
   memory_at_eight (Line n) ends eight = absurd (let wrong : 2 ≡ 8 = sym ends.0 ∙ eight in cc)
@@ -262,7 +262,7 @@ module _ (outcomes : CallsOfRunsComeToOutcome) (charged : SeatsOfRunsAreChargedO
     ends = ends_of_records old.keeper old.keeper gives.text outcome (gives.is_due old.keeper) ends;
   }
 
-  -- ---- the rows of a keeper
+  -- ---- the CDRs of a keeper
 
   ends_of_store : (directory : Result Directory ℕ) (outcome : Report) → IsDue old.keeper new.keeper outcome (due_of_store directory) → EndsSo outcome
       → EndsOfStore directory old.keeper new.keeper written ⊎ OutOfMemory
@@ -379,7 +379,7 @@ module _ (outcomes : CallsOfRunsComeToOutcome) (charged : SeatsOfRunsAreChargedO
       let P : Report → Type 0 = λ r. EndsSo r in
       RanShort (subst P out.memory ends) out.kept out.unheard
 
--- ---- the calls of files
+-- ---- the calls of the files
 
 where_told : (told : Option Shelf) (P : Shelf → Type 0) → ((shelf : Shelf) → told ≡ Some shelf → P shelf) → IfSome told P
 where_told None P each = tt
@@ -428,7 +428,7 @@ module _ (shelf : Shelf) (words : List (List ℕ)) (status : ℕ) (after : Optio
     worked = λ count. λ salt. λ spelled. called_never (called_by command (Workload count salt) asks (asks.alone (Workload count salt) spelled) calls);
   }
 
-  -- for want of memory in reading the words
+  -- for memory that runs out in parsing the arguments
   called_none : (last : Shelf) → after ≡ Some shelf → status ≡ 8 → Called status after shelf (called shelf) last
   called_none last same eight = record { all = λ other. absurd (other eight); some = λ e. inl same }
 
@@ -445,7 +445,7 @@ module _ (shelf : Shelf) (words : List (List ℕ)) (status : ℕ) (after : Optio
 not_eight : (n status : ℕ) → status ≡ n → (n ≡ 8 → ⊥) → status ≡ 8 → ⊥
 not_eight n status is other eight = other (sym is ∙ eight)
 
--- status 1 comes exactly where no command was found
+-- status 1 occurs exactly where no command was found
 other_status : (P : Type 0) (n status : ℕ) (outcome : Report) → status ≡ n → (n ≡ 1 → ⊥) → (outcome ≡ Usage → ⊥) → (outcome ≡ Usage) ↔ P → (status ≡ 1) ↔ P
 other_status P n status outcome is other asked usage = (λ one. absurd (other (sym is ∙ one)), λ p. absurd (asked (usage.1 p)))
 
@@ -467,7 +467,7 @@ status_one P Sound written usage ends = done_status P (codes "ok\n") Sound writt
 status_one P Served written usage ends = other_status P 0 written.status Served ends.0 (λ w. cc) (λ w. cc) usage
 status_one P (Unsound line) written usage ends = other_status P 3 written.status (Unsound line) ends.0 (λ w. cc) (λ w. cc) usage
 
--- by what was found due
+-- by the report
 called_all : (n status : ℕ) (told : Option Shelf) (none first last : Shelf) → status ≡ n → (n ≡ 8 → ⊥) → told ≡ Some last → Called status told none first last
 called_all n status told none first last is other called = record { all = λ e. called; some = λ e. absurd (not_eight n status is other e) }
 
@@ -506,7 +506,7 @@ module _ {L K : Type 0} (words : List (List ℕ)) (old new : Outside) (before no
   pub calls_told : IfSome before.files (λ shelf. CalledFor shelf words written.status now.files)
   calls_told = where_told before.files (λ shelf. CalledFor shelf words written.status now.files) calls_of
 
--- ---- the keeper, where no run comes to it
+-- ---- the keeper, where no run calls it
 
 early_spared : {K : Type 0} (outcome : Report) (keeper later : K) (written : Written) → Spares outcome keeper later
     → Ends outcome written

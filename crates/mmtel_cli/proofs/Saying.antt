@@ -1,4 +1,4 @@
--- What the statement on a whole run says of each status.
+-- What the statement on a whole run implies for each status.
 use Rattle.std.proofs.Common.{◌≡◌, ◌⊎◌, ◌==◌, Bool, true, false, ℕ, List, [], ◌∷◌, refl, subst, sym, ap, ◌∙◌, inl, inr, nat_eq, codes, Option, Some, None, Result, Ok, Err}
 use Rattle.std.proofs.lemmas.Bool.{eqb-false}
 use Rattle.std.specs.List.{list_any}
@@ -34,7 +34,7 @@ use Rattle.mmtel_cli.specs.Sayings.{ChecksAreTold, ChecksOne, ChargesOne, WorksO
 use Rattle.mmtel_cli.specs.Sayings.{ChargesKeep, EightIsShort, ShortCharges, ShortCheck, ShortReplay, ShortServe, ShortWords, ShortWork}
 use Rattle.mmtel_cli.specs.Sayings.{RefusesOne, ZeroIsListed, OneIsUsage, ThreeIsRefused, FourRose, SixRose, SevenRose, ZeroKept, StatusesAreThese, NoFaultNoFailure}
 
--- ---- the words spell one command at most
+-- ---- the arguments are one command at most
 
 same_asked : (a b : Asked) (words : List (List ℕ)) → IsOnly (Replay a) words → IsReplay b words → a ≡ b
 same_asked a b words one other = let same : Replay b ≡ Replay a = one.alone (Replay b) other in cc
@@ -51,7 +51,7 @@ same_serve a b token other turns count words one is =
     let same : Serve b other count ≡ Serve a token turns = one.alone (Serve b other count) is in
     (cc, cc, cc)
 
--- what tells the commands apart
+-- what distinguishes the commands
 abbrev name_of : Command → ℕ
 name_of (Serve config token turns) = 0
 name_of (Replay asked) = 1
@@ -59,11 +59,11 @@ name_of (Check records) = 2
 name_of (Charges config) = 3
 name_of (Workload calls salt) = 4
 
--- so words of one command are of no command of another name
+-- so arguments of one command are of no command of another name
 no_other : (one other : Command) (words : List (List ℕ)) → IsOnly one words → IsCommand other words → nat_eq (name_of other) (name_of one) ≡ false → ⊥
 no_other one other words only spelled apart = eqb-false (name_of other) (name_of one) apart (ap name_of (only.alone other spelled))
 
--- ---- files that are there and good
+-- ---- files that exist and are valid
 
 module _ (shelf : Shelf) (old new : Outside) (words : List (List ℕ)) (asked : Asked) (directory : Directory) (events : List Event)
     (written : Written) where
@@ -102,12 +102,12 @@ module _ (shelf : Shelf) (old new : Outside) (words : List (List ℕ)) (asked : 
   good_run good (RanNone refused) = absurd (refused.none (Replay asked) good.spelled)
   good_run good (RanShort memory spared unheard) = inr memory.0
 
--- a keeper that can be bound, migrated and loaded is one that was not refused
+-- a keeper that can be bound, migrated and loaded is one that did not fail
 opens : (path : List ℕ) (calls since : Option KeeperCalls) (told : KeeperCalls) (refused : Bool) → IsOpened path calls since refused → calls ≡ Some told → refuses told ≡ refused
 opens path None since told refused opened is = absurd cc
 opens path (Some calls) since told refused opened is = let same : calls ≡ told = some_is calls told is in ap refuses (sym same) ∙ opened.1
 
--- and so one that can be bound and give its rows
+-- and so is one that can be bound and whose CDRs can be read
 asks : (path : List ℕ) (calls since : Option KeeperCalls) (told : KeeperCalls) (refused : Bool) → IsAskedRows path calls since refused → calls ≡ Some told
     → refuses_rows told ≡ refused
 asks path None since told refused asked is = absurd cc
@@ -179,7 +179,7 @@ checks_are_told shelf old new words text written there (RanWork w) =
 checks_are_told shelf old new words text written there (RanNone refused) = absurd (refused.none (Check there.records) there.spelled)
 checks_are_told shelf old new words text written there (RanShort memory spared unheard) = inr memory.0
 
--- ---- a store whose rows are asked for
+-- ---- a store whose CDRs are read
 
 kept_ends : (text : Option (List ℕ)) (there : List ℕ) (directory : Directory) (old new : KeeperSeen) (written : Written)
     → text ≡ Some there → directory_of there ≡ Ok directory
@@ -246,7 +246,7 @@ module _ (old new : Outside) (directory : Directory) (token : List ℕ) (turns :
   there_or_eight (inl ends) = inl ends
   there_or_eight (inr memory) = inr memory.0
 
-  -- where the link could not be bound or not take in, its count of taking in rose
+  -- where the link could not be bound or failed to receive, its count of arrival faults rose
   failed_rose : LinkFails directory token turns old new → Rose old.link.taking new.link.taking
   failed_rose (inl un) = un.unlinked.rose
   failed_rose (inr served) = subst (λ (n : ℕ). Rose n new.link.taking) served.linked.taking served.run.cause
@@ -258,7 +258,7 @@ module _ (old new : Outside) (directory : Directory) (token : List ℕ) (turns :
   served_unless willing stood (inl (EndsUnkept not wrote)) = absurd (never_unwilling directory.store old.keeper new.keeper willing not)
   served_unless willing stood (inr eight) = inr eight
 
-  -- a keeper that refuses is not loaded, and a link that fails is not bound
+  -- a keeper that fails is not loaded, and a link that fails is not bound
   never_loaded : (calls : KeeperCalls) (loaded : Texts) (opening : KeeperSeen) → old.keeper.calls ≡ Some calls → refuses calls ≡ true →
       IsLoaded directory.store loaded old.keeper opening → ⊥
   never_loaded calls loaded opening is unwilling opened =
@@ -314,7 +314,7 @@ serving_wants_a_link shelf old new calls words directory token turns written goo
 
 -- ---- each status
 
--- what a run's end says of the status, of what it means at 0, at 3, at 4 and at 6, and of the sink
+-- what a run's end implies for the status, for its meaning at 0, at 3, at 4 and at 6, and for the sink
 record Ending (Zero Three Four Six : Type 0) (status : ℕ) (faults now : ℕ) : Type 0 where
   known : list_any (λ known. known == status) (0 ∷ 1 ∷ 2 ∷ 3 ∷ 4 ∷ 5 ∷ 6 ∷ 7 ∷ 8 ∷ []) ≡ true
   other : status ≡ 1 → ⊥
@@ -408,7 +408,7 @@ module _ (Zero Three Four Six : Type 0) (written : Written) where
     fine = λ four. λ five. λ six. λ seven. refl;
   })
 
-  -- a text that is due of a command that is done
+  -- a text that is due for a command that is done
   ending_written : (text : List ℕ) → Zero → WroteListing text written → EndingAt written.status
   ending_written text zero (inl w) = subst EndingAt (sym w.0) (record {
     known = refl;
@@ -579,7 +579,7 @@ module _ (words : List (List ℕ)) (config token : List ℕ) (turns : ℕ) (spel
 
 -- ---- of each command
 
--- what it means at 0, at 3, at 4 and at 6 may be weakened
+-- its meaning at 0, at 3, at 4 and at 6 may be weakened
 weaker : (Zero Zero' Three Three' Four Four' Six Six' : Type 0) (written : Written) → (Zero → Zero') → (Three → Three') → (Four → Four') → (Six → Six')
     → Ending Zero Three Four Six written.status written.faults_before written.faults_after → Ending Zero' Three' Four' Six' written.status written.faults_before written.faults_after
 weaker Zero Zero' Three Three' Four Four' Six Six' written z t f s e = record {
@@ -607,7 +607,7 @@ module _ (told : Option Shelf) (old new : Outside) (words : List (List ℕ)) (wr
   abbrev EndsAny : Type 0
   EndsAny = Ending DoneSo (RefusesOne words) TakingRose KeeperRose written.status written.faults_before written.faults_after
 
-  -- the words spell a command, or memory ran out in reading them, and it ended so
+  -- the arguments are a command, or memory ran out in parsing them, and it ended so
   record EndsSome : Type 0 where
     some : SpellsNone words → written.status ≡ 8
     end : EndsAny
@@ -659,7 +659,7 @@ module _ (told : Option Shelf) (old new : Outside) (words : List (List ℕ)) (wr
     end = ending_memory DoneSo (RefusesOne words) TakingRose KeeperRose written memory.0;
   }
 
-  -- or they spell none
+  -- or they are none
   ends_so : Ran told old new words written → EndsSome ⊎ Refused words written
   ends_so (RanServe v) = inl (of_serve v)
   ends_so (RanReplay r) = inl (of_replay r)
@@ -669,7 +669,7 @@ module _ (told : Option Shelf) (old new : Outside) (words : List (List ℕ)) (wr
   ends_so (RanNone refused) = inr refused
   ends_so (RanShort memory spared unheard) = inl (of_short memory)
 
--- ---- the sayings
+-- ---- the statements about each status
 
 -- another status than that of `usage`
 not_usage : (n status : ℕ) → status ≡ 1 → (n ≡ 1 → ⊥) → status ≡ n → ⊥

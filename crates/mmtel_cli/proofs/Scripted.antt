@@ -1,4 +1,4 @@
--- A run over a script: all of its events are heard, and what was read of a web connection says as much as all of it.
+-- A run over a script: all of its events are received, and what was read of a web connection is the same request as all of it.
 use Rattle.std.proofs.Common.{◌≡◌, ◌≤◌, ◌-◌, ◌^◌, min, ℕ, Bool, true, false, List, [], ◌∷◌, ◌++◌, length, slice_get, drop, refl, sym, ap, ◌∙◌, subst, inl, inr, Option}
 use Rattle.std.proofs.Common.{Some, None, Ok, arith}
 use Rattle.std.specs.Option.{option_map, option_to_list}
@@ -37,7 +37,7 @@ use Rattle.mmtel_cli.specs.Keeping.{IsBoundStill}
 use Rattle.mmtel_cli.specs.KnownEvents.{IsUnheard, OffersAllOf}
 use Rattle.mmtel_cli.specs.Listings.{OffersRun}
 
--- ---- events of which only so much was read
+-- ---- events of which only so many bytes were read
 
 abbrev request_in : Digest → Request
 request_in Nothing = http.unfinished
@@ -68,9 +68,9 @@ module _ (all : ReadOutSaysAll) (d : Directory) where
       rw same refl
   call_cut n (event.Quiet at) read = refl
 
--- ---- what happened, with whole events
+-- ---- the records of events, with whole events
 
--- what happened with these whole events says and does the same
+-- with these whole events a run reads and stores the same
 record WholeOf (d : Directory) (events : List Event) (happened : List Happened) : Type 0 where
   whole : List Happened
   heard : events_in whole ≡ events
@@ -82,7 +82,7 @@ record WholeOf (d : Directory) (events : List Event) (happened : List Happened) 
 whole_none : (d : Directory) → WholeOf d [] []
 whole_none d = record { whole = []; heard = refl; read = refl; uploads = refl; counted = λ faults. λ count. λ e. e; asked = λ old. λ new. λ e. e }
 
--- a notice of so much
+-- a notice of this moment and parsed event
 abbrev noticing : (at : ℕ) → Digest → (took : Bool) → Notice
 noticing at said took = record { at = at; digest = said; took = took }
 
@@ -130,9 +130,9 @@ module _ (all : ReadOutSaysAll) (d : Directory) where
       let rest : events_in happened ≡ heard_of events reads = cc in
       whole_more n e events one happened first read.0 (whole_of events reads happened rest (omega (arith, long)) read.1)
 
--- ---- runs of which the same is noticed
+-- ---- runs that read the same of their events
 
--- what is true of a run by what is noticed of it alone
+-- what holds for a run by what it reads of its events alone
 abbrev IsShortBy : Directory → List ℕ → Texts → List Notice → Type 0
 IsShortBy d token loaded xs = (fuel : ℕ) → IsEnoughAfter d token fuel xs (beginning loaded) → IsShort (after d token fuel xs (beginning loaded))
 
@@ -200,7 +200,7 @@ rose_between faults asked between count a rose b = omega (arith, a, rose, b)
 rose_behind : (faults between count : ℕ) → StandsAtLeast faults between → Rose between count → Rose faults count
 rose_behind faults between count a rose = omega (arith, a, rose)
 
--- where it did not rise, the rows were taken
+-- where it did not rise, the CDRs were accepted
 took_unless : (took : Bool) (faults asked between count : ℕ) → StandsAtLeast faults asked → HandedCounted took asked between → StandsAtLeast between count →
     (Rose faults count → ⊥) → took ≡ true
 took_unless true faults asked between count a handed b kept = refl
@@ -279,7 +279,7 @@ all_came [] reads end = omega arith
 all_came (e ∷ es) [] end = absurd cc
 all_came (e ∷ es) (n ∷ reads) end = let rest = all_came es reads end in omega (arith, rest)
 
--- what came is what was heard of the script's events
+-- what came is what was received of the script's events
 pub came_of : (ear later : Ear) (es : List Event) → ear.reads ≡ [] → HeardMore (Some ear) (Some later) es → es ≡ heard_of ear.events later.reads
 came_of ear later es unread told =
     let nothing : heard_of ear.events ear.reads ≡ [] = ap (heard_of ear.events) unread ∙ nothing_heard ear.events in
@@ -295,7 +295,7 @@ long_enough ear later turns count false es enough unread told counted ends =
     let all : length es ≡ length (heard_of ear.events later.reads) = ap length (came_of ear later es unread told) in
     omega (arith, enough, ends, counted, all)
 
--- no read of a script fails, so each of its connections was read out
+-- no read of a script fails, so each of its connections was read to the end of its request
 read_out : UnfailedAreReadOut → (ear later : Ear) (reads : List ℕ) → ear.reads ≡ [] → later.reads ≡ ear.reads ++ reads → EachRead 0 0 (to_come ear) reads
     → EachReadOut ear.events later.reads
 read_out unfailed ear later reads unread is read =
@@ -312,7 +312,7 @@ given_by : (d : Directory) (token : List ℕ) (loaded : Texts) (happened : List 
     → Went d token loaded happened [] server out → Gives d token loaded happened out
 given_by d token loaded happened server out went = record { fuel = went.fuel; enough = went.enough; exact = went.did.offered }
 
--- what the keeper holds behind the beginning of a run
+-- what the keeper holds after the beginning of a run
 abbrev Holds : Directory → List ℕ → Texts → ℕ → List Happened → (held left : Option Held) → Type 0
 Holds d token loaded fuel happened held left =
     (rows : List Row) × ((world_after d token loaded fuel happened).filed ≡ rows) × (left ≡ option_map (with_all (uploads_of d.names happened) rows) held)

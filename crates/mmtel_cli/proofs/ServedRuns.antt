@@ -1,4 +1,4 @@
--- What serving a link came to, of a server that was just made.
+-- The effect of serving a link, for a server that was just made.
 use Rattle.std.proofs.Common.{◌≡◌, ◌⊎◌, ℕ, Bool, true, false, List, [], ◌++◌, length, sym, subst, inr, Option, Some, None, Result, Ok, Err}
 use Rattle.std.specs.Prelude.{OnOk, OnErr}
 use Rattle.mmtel_directory.specs.declared.directories.Directory.{Directory}
@@ -68,7 +68,7 @@ module _ (directory : Directory) (old new : LinkSeen) where
 
 -- ---- the run
 
--- what is seen beside the server
+-- what is observed beside the server
 abbrev beside : ServingState → Outside
 beside state = record { link = state.link; keeper = state.keeper }
 
@@ -112,7 +112,7 @@ module _ (directory : Directory) (token : List ℕ) (loaded : Texts) (turns : �
     clean = λ short. clean directory token loaded [] serves short suited.home suited.text;
   }
 
-  -- of a run from its first event on, what was given where memory ran out
+  -- for a run from its first event on, what was passed where memory ran out
   gave_up_to : (happened : List Happened) → StoppedGiving happened old.server old.link.given new.link.given → IsShortRun directory token loaded happened → (fuel : ℕ)
       → IsEnough directory token loaded fuel happened → GaveUpToLast directory token loaded happened fuel old.link.given new.link.given
   gave_up_to happened s short fuel enough =
@@ -166,7 +166,7 @@ module _ (directory : Directory) (token : List ℕ) (loaded : Texts) (turns : �
 
 -- ---- with the keeper and the link before it
 
--- what is so of a server of this configuration over a link that was bound and a keeper that was loaded
+-- what holds for a server of this configuration over a link that was bound and a keeper that was loaded
 serves_link : (directory : Directory) (token : List ℕ) (loaded : Texts) (turns : ℕ) (start ready new : Outside) (result : Result Bool DriveFault)
     → IsSuited directory token → IsLinked directory start.link ready.link → IsLoaded directory.store loaded start.keeper ready.keeper
     → ServesRun directory token loaded turns ready new result → ServesLink directory token turns start new result
@@ -180,7 +180,7 @@ serves_link directory token loaded turns start ready new result suited linked op
 }
 
 module _ (turns : ℕ) (old new : ServingState) where
-  -- what else is so of its link
+  -- what else holds for its link
   abbrev Beside : Type 0
   Beside = ListensStill old.link.calls new.link.calls × ((LostNoMore old.link.given new.link.given ⊎ Rose old.link.giving new.link.giving) × StandsOrRose old.link.giving new.link.giving)
 
@@ -227,6 +227,6 @@ just_made directory token loaded server begins =
     let went = begins [] in
     record { fuel = went.fuel; enough = went.enough; stands = went.did.stands }
 
--- the count of taking in, where it stood before
+-- the count of arrival faults, where it was unchanged before
 pub counts_on : (outcome : Report) (before between now : ℕ) → between ≡ before → CountsLink outcome between now → CountsLink outcome before now
 counts_on outcome before between now same counts = subst (λ (n : ℕ). CountsLink outcome n now) same counts

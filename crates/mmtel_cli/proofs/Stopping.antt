@@ -28,7 +28,7 @@ use Rattle.mmtel_cli.specs.KnownEvents.{IsUnheard, StopsAllOf}
 use Rattle.mmtel_cli.specs.Listings.{OffersRun}
 use Rattle.mmtel_cli.specs.Stopped.{HasStopped, KeptUpTo, StoppedBehind, StoppedOver, StoppedReading, StoppedRun}
 
--- ---- before anything was asked
+-- ---- before any call
 
 pub stopped_untouched : (keeper : KeeperSeen) (wanted : Due) → HasStopped keeper keeper wanted
 stopped_untouched keeper due.Usage = refl
@@ -42,7 +42,7 @@ stopped_untouched keeper (due.Unsound line) = refl
 
 -- ---- in a run
 
--- what the keeper holds behind the beginning of a run
+-- what the keeper holds after the beginning of a run
 pub holds_all : (d : Directory) (token : List ℕ) (loaded : Texts) (happened : List Happened) (held left : Option Held) (fuel : ℕ)
     → ((rows : List Row) × ((world_after d token loaded fuel happened).filed ≡ rows) × (left ≡ option_map (with_all (uploads_of d.names happened) rows) held))
     → left ≡ option_map (with_all (uploads_of d.names happened) (world_after d token loaded fuel happened).filed) held
@@ -58,7 +58,7 @@ kept_up_to d token loaded happened server serves old new went charged = record {
   charged = λ short. λ fuel. λ enough. charged d token loaded [] fuel serves short enough;
 }
 
--- a count that stood or rose, and is 0 now, was 0 before
+-- a count that was unchanged or rose, and is 0 now, was 0 before
 stood_at_zero : (before : ℕ) → StandsOrRose before 0 → before ≡ 0
 stood_at_zero before (inl same) = sym same
 stood_at_zero before (inr rose) = absurd (omega (arith, rose))
@@ -66,7 +66,7 @@ stood_at_zero before (inr rose) = absurd (omega (arith, rose))
 never_rose : Rose 0 0 → ⊥
 never_rose rose = omega (arith, rose)
 
--- no read of a script fails, so each of its connections was read out
+-- no read of a script fails, so each of its connections was read to the end of its request
 read_out_but : UnfailedAreReadOut → (before : ℕ) (events : List Event) (reads : List ℕ) → EachRead 0 before events reads → StandsOrRose before 0 → EachReadOut events reads
 read_out_but unfailed before events reads each stands =
     unfailed 0 0 events reads (subst (λ (n : ℕ). EachRead 0 n events reads) (stood_at_zero before stands) each) never_rose
@@ -92,7 +92,7 @@ module _ (unfailed : UnfailedAreReadOut) (d : Directory) (token : List ℕ) (loa
         kept = kept_up_to d token loaded driven.happened old.server serves old.keeper new.keeper driven.made.keeper driven.made.charged;
       }
 
-  -- the same of a link of which it is known that it has two counts of 0 and none of whose events was heard
+  -- the same for a link of which it is known that its two counts are 0 and that none of its events was received
   stopped_known : (ear later : Option Ear) (giving gave events : ℕ) → HeardMore ear later (events_in driven.happened) → ReadButLast ear later giving gave
       → giving ≡ 0 → gave ≡ 0 → IsUnheard events ear → StopsAllOf ear d token loaded old.keeper new.keeper
   stopped_known None later giving gave events told read stood stands fresh = absurd fresh
@@ -103,7 +103,7 @@ module _ (unfailed : UnfailedAreReadOut) (d : Directory) (token : List ℕ) (loa
   stops_all_of events stood stands fresh =
       stopped_known old.link.ear new.link.ear old.link.giving new.link.giving events driven.made.told driven.read stood stands fresh
 
--- or it ran out in listing what was offered
+-- or it ran out in listing the outputs
 pub stopped_behind : {T E : Type 0} (result : Result T E) (directory : Directory) (token : List ℕ) (loaded : Texts) (events : List Event) (old new : KeeperSeen)
     (offers : List Offer) → OffersRun directory token loaded events old new offers → OnErr result (StoppedOver directory token loaded events old new)
 stopped_behind (Ok x) directory token loaded events old new offers run = tt

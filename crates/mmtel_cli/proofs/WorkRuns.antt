@@ -1,4 +1,4 @@
--- The run of a workload: nothing is asked of its keeper but to take charging rows, and it takes them all. So what is noticed of it is known from its events.
+-- The run of a workload: its keeper is called only to accept CDRs, and accepts them all. So what the run reads of its events is determined by these.
 use Rattle.std.proofs.Common.{◌≡◌, ℕ, zero, suc, Bool, true, false, List, [], ◌∷◌, ◌++◌, map, refl, sym, subst, ap, ◌∙◌, Option, Some, None, arith}
 use Rattle.std.specs.Prelude.{⊤}
 use Rattle.mmtel_charging.specs.declared.rows.Row.{Row}
@@ -45,7 +45,7 @@ each_zero (one ∷ happened) before counted =
     let handed = handed_zero one.took counted.1.between (subst (λ (n : ℕ). HandedCounted one.took counted.1.between n) later counted.1.handed) in
     counted_zero one.kept before (subst (λ (n : ℕ). Counted one.kept before n) handed.1 counted.1.counted)
 
--- so the keeper took what waited at the end of each event
+-- so the keeper accepted what waited at the end of each event
 abbrev AllTook : List Happened → Type 0
 AllTook [] = ⊤
 AllTook (one ∷ happened) = (one.took ≡ true) × AllTook happened
@@ -82,7 +82,7 @@ datagrams_work (suc before) salt =
     let call = call_behind salt before in
     datagrams_more (work_events before salt) (events_of call) (datagrams_work before salt) (datagrams_of call (acts_of call.kind))
 
--- ---- what is noticed
+-- ---- what the run reads of its events
 
 same_notice : (d : Directory) (e : Event) (kept : Kept) (rows : List Row) (took : Bool) → IsDatagram e → took ≡ true
     → notice_of d (record { event = e; kept = kept; rows = rows; took = took }) ≡ notice_of d (taken e)
@@ -104,7 +104,7 @@ noticed d happened events heard are counted =
     let these = subst (λ (l : List Event). AreDatagrams l) (sym heard) are in
     same_notices d happened these (all_took happened 0 counted) ∙ ap (λ (l : List Event). notices d (map taken l)) heard
 
--- ---- what follows of a run
+-- ---- what follows for a run
 
 abbrev rows_in : Option Held → List Row
 rows_in None = []
@@ -123,7 +123,7 @@ module _ (d : Directory) (calls salt : ℕ) (held : Held) (offers : List Offer)
       let P : List Notice → Type 0 = λ l. (fuel : ℕ) → IsEnoughAfter d work_token fuel l (beginning work_loaded) → IsShort (after d work_token fuel l (beginning work_loaded)) in
       subst P (sym same)
 
-  -- it offers what the definitions of the run give
+  -- its outputs are those of the definitions of the run
   pub offers_known : IsShortRun d work_token work_loaded (work_happened calls salt) → Gives d work_token work_loaded (work_happened calls salt) offers
   offers_known short =
       let given = run.exact (short_by short) in
@@ -133,7 +133,7 @@ module _ (d : Directory) (calls salt : ℕ) (held : Held) (offers : List Offer)
         exact = given.exact ∙ ap (λ (l : List Notice). (after d work_token given.fuel l (beginning work_loaded)).offers) same;
       }
 
-  -- and its keeper holds the rows that they file
+  -- and its keeper holds the CDRs that they file
   pub rows_known : IsShortRun d work_token work_loaded (work_happened calls salt) → (fuel : ℕ) → IsEnough d work_token work_loaded fuel (work_happened calls salt)
       → held.rows ≡ (world_after d work_token work_loaded fuel (work_happened calls salt)).filed
   rows_known short fuel enough =

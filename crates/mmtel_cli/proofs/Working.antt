@@ -1,4 +1,4 @@
--- A workload: what was offered, and what was counted.
+-- A workload: its outputs, and what was counted.
 use Rattle.std.proofs.Common.{◌≡◌, ℕ, List, length, subst, Result, Ok, Err}
 use Rattle.std.specs.Prelude.{IfOk}
 use Rattle.mmtel_charging.specs.declared.rows.Row.{Row}
@@ -12,7 +12,7 @@ use Rattle.mmtel_cli.specs.Listings.{OffersRun}
 use Rattle.mmtel_cli.proofs.WorkRuns.{offers_known, rows_known}
 use Rattle.mmtel_cli.specs.Workloads.{Counts, diversions_in, keeper_of, nothing_held, work_loaded, work_text, work_token}
 
--- what was offered over this token and these texts was offered over those of a workload
+-- the outputs over this token and these texts are those over the token and the texts of a workload
 pub offers_work : {E : Type 0} (directory : Directory) (result : Result (List Offer) E) (token : List ℕ) (loaded : Texts) (events : List Event) (opening held : Held)
     → token ≡ work_token → loaded ≡ work_loaded → IfOk result (OffersRun directory token loaded events (keeper_of opening) (keeper_of held))
     → IfOk result (OffersRun directory work_token work_loaded events (keeper_of opening) (keeper_of held))
@@ -26,7 +26,7 @@ run_of_calls directory calls salt events opening held offers heard empty run =
     let by_events = subst (λ (l : List Event). OffersRun directory work_token work_loaded l (keeper_of opening) (keeper_of held) offers) heard run in
     subst (λ (h : Held). OffersRun directory work_token work_loaded (work_events calls salt) (keeper_of h) (keeper_of held) offers) empty by_events
 
--- what was told counts the offers of the run and the rows of its keeper
+-- the text has the numbers of the outputs of the run and of the CDRs of its keeper
 pub counts_told : {E : Type 0} (directory : Directory) (calls salt : ℕ) (result : Result (List ℕ) E) (events : List Event) (opening held : Held) (offers : List Offer)
     (rows : List Row)
     → events ≡ work_events calls salt → opening ≡ nothing_held → rows ≡ held.rows

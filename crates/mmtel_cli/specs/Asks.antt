@@ -1,42 +1,42 @@
--- What the words ask for.
+-- Which command the arguments are.
 use Rattle.std.specs.Prelude.{◌≡◌, ℕ, List, Some, None, Option}
 use Rattle.mmtel_words.specs.CommandLine.{Asked, Command, Serve, Replay, Check, Charges, Workload, IsCommand}
 use Rattle.mmtel_words.specs.declared.wanted.Replay.{Replay as Wish}
 
--- the words that ask to serve by this configuration, with this token, in so many turns
+-- the arguments of a `serve` with this configuration, with this token, in so many turns
 abbrev pub IsServe : (config token : List ℕ) → (turns : ℕ) → List (List ℕ) → Type 0
 IsServe config token turns words = IsCommand (Serve config token turns) words
 
--- what is asked of `replay`, by its texts
+-- the parameters of `replay`, by their texts
 abbrev pub asked_by : Wish → Asked
 asked_by replay = record { config = replay.config; script = replay.script; token = replay.token }
 
--- the words that ask this of `replay`
+-- the arguments of a `replay` with these parameters
 abbrev pub IsReplay : Asked → List (List ℕ) → Type 0
 IsReplay asked words = IsCommand (Replay asked) words
 
--- the words that ask to check this file
+-- the arguments of a `check` of this file
 abbrev pub IsCheck : List ℕ → List (List ℕ) → Type 0
 IsCheck records words = IsCommand (Check records) words
 
--- the words that ask for the rows of this configuration's store
+-- the arguments of a `charges` of this configuration's store
 abbrev pub IsCharges : List ℕ → List (List ℕ) → Type 0
 IsCharges config words = IsCommand (Charges config) words
 
--- the words that ask for so many calls by this salt
+-- the arguments of a `workload` of so many calls by this salt
 abbrev pub IsWorkload : (calls salt : ℕ) → List (List ℕ) → Type 0
 IsWorkload calls salt words = IsCommand (Workload calls salt) words
 
--- the words ask for this command, and for no other
+-- the arguments are this command, and no other
 pub record IsOnly (command : Command) (words : List (List ℕ)) : Type 0 where
   pub spelled : IsCommand command words
   pub alone : (other : Command) → IsCommand other words → other ≡ command
 
--- the words spell no command
+-- the arguments are no command
 abbrev pub SpellsNone : List (List ℕ) → Type 0
 SpellsNone words = (command : Command) → IsCommand command words → ⊥
 
--- the words ask for this one and no other, or for none
+-- the arguments are this command and no other, or none
 abbrev pub AsksFor : List (List ℕ) → Option Command → Type 0
 AsksFor words None = SpellsNone words
 AsksFor words (Some command) = IsOnly command words

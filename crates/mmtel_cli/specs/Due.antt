@@ -1,6 +1,6 @@
--- What a run is due to write, by what the files gave: of `replay` the configuration comes first, then the script, then the listing of what the server offers; of `check` the
--- file is a service record or is none; of `charges` the rows that the keeper holds; of `workload` what a server makes of its calls. `serve` is due to write nothing but that
--- its configuration is not there or not good; what else becomes of it is said of the link and the keeper (`Serving`).
+-- The report that is due, by the contents of the files: for `replay` the configuration comes first, then the script, then the listing of the server's outputs; for `check` the
+-- file is a service record or is none; for `charges` the CDRs that the keeper holds; for `workload` the numbers for its calls. `serve` reports only that
+-- its configuration does not exist or is not valid; its other effects are stated of the link and the keeper (`Serving`).
 use Rattle.std.specs.Prelude.{ℕ, List, Some, None, Ok, Err}
 use Rattle.std.specs.declared.option.Option.{Option}
 use Rattle.std.specs.declared.result.Result.{Result}
@@ -15,65 +15,65 @@ use Rattle.mmtel_uploads.specs.declared.uploads.Upload.{Upload}
 use Rattle.mmtel_uploads.specs.declared.uploads.Upload.TheVariants.{Accepted, Refused}
 
 pub data Due : Type 0 where
-  -- the words are of no command
+  -- the arguments are no command
   Usage : Due
-  -- that line is the first that breaks the grammar of its file
+  -- that line is the first that is not of the grammar of its file
   Line : (number : ℕ) → Due
   -- a file cannot be read
   File : Due
-  -- the listing of what the server offers in the run of these events
+  -- the listing of the server's outputs in the run of these events
   Run : (directory : Directory) → (token : List ℕ) → (events : List Event) → Due
-  -- the rows that the keeper of this store holds
+  -- the CDRs that the keeper of this store holds
   Rows : (store : List ℕ) → Due
-  -- what a server of this configuration makes of so many calls by the salt
+  -- the numbers of a server of this configuration for so many calls by the salt
   Work : (calls salt : ℕ) → (directory : Directory) → Due
   -- the file is a service record
   Sound : Due
-  -- the file is none, and this line tells its first fault
+  -- the file is none, and this is the line of its first fault
   Unsound : (line : List ℕ) → Due
 
--- what is due once the script was read: the listing of the run of its events, or its first bad line
+-- the report once the script was parsed: the listing of the run of its events, or its first bad line
 abbrev pub due_of_events : Directory → List ℕ → Result (List Event) ℕ → Due
 due_of_events directory token (Ok events) = Run directory token events
 due_of_events directory token (Err line) = Line line
 
--- what is due once the script was asked for
+-- the report once the script was read, or could not be
 abbrev pub due_of_script : Directory → List ℕ → Option (List ℕ) → Due
 due_of_script directory token None = File
 due_of_script directory token (Some script) = due_of_events directory token (events_of directory.peers.known script)
 
--- what is due once the configuration was read; the last argument is what the files give for the script
+-- the report once the configuration was parsed; the last argument is the result of reading the script
 abbrev pub due_of_directory : Result Directory ℕ → List ℕ → Option (List ℕ) → Due
 due_of_directory (Ok directory) token script = due_of_script directory token script
 due_of_directory (Err line) token script = Line line
 
--- what is due once the configuration was asked for
+-- the report once the configuration was read, or could not be
 abbrev pub due_of_config : Option (List ℕ) → List ℕ → Option (List ℕ) → Due
 due_of_config None token script = File
 due_of_config (Some config) token script = due_of_directory (directory_of config) token script
 
--- what is due of a text that is to be checked
+-- the report for a text that is to be checked
 abbrev pub due_of_upload : Upload → Due
 due_of_upload (Accepted sheet) = Sound
 due_of_upload (Refused line) = Unsound line
 
--- what is due once the file that is to be checked was asked for
+-- the report once the file that is to be checked was read, or could not be
 abbrev pub due_of_records : Option (List ℕ) → Due
 due_of_records None = File
 due_of_records (Some text) = due_of_upload (upload_of text)
 
--- what is due of `charges` once the configuration was read
+-- the report of `charges` once the configuration was parsed
 abbrev pub due_of_store : Result Directory ℕ → Due
 due_of_store (Ok directory) = Rows directory.store
 due_of_store (Err line) = Line line
 
--- and once it was asked for
+-- and once it was read, or could not be
 abbrev pub due_of_charges : Option (List ℕ) → Due
 due_of_charges None = File
 due_of_charges (Some config) = due_of_store (directory_of config)
 
--- the files after the calls that are due: of `replay` the first call is for CONFIG, and the second for SCRIPT, where CONFIG is there and good; of `serve`, `check` and `charges`
--- there is one call, and of `workload` and without a command none
+-- the files after the calls that are due: for `replay` the first call is for CONFIG, and the second for SCRIPT, if CONFIG exists and is valid; for `serve`, `check` and `charges`
+-- there is one call, and for `workload` and without a command none
 abbrev pub shelf_of_directory : Shelf → Result Directory ℕ → Shelf
 shelf_of_directory shelf (Ok directory) = called shelf
 shelf_of_directory shelf (Err line) = shelf

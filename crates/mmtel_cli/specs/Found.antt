@@ -1,4 +1,4 @@
--- What was found due, beside what is due.
+-- The report that the program made, compared with the one that is due.
 use Rattle.std.specs.Prelude.{◌≡◌, ℕ, ◌⊎◌, Bool, true, List, Some, None, Ok, ⊤}
 use Rattle.std.specs.declared.option.Option.{Option}
 use Rattle.mmtel_call_laws.specs.Heads.Clean.{IsClean}
@@ -20,7 +20,7 @@ use Rattle.mmtel_cli.specs.Workloads.{Counts}
 use Rattle.mmtel_reports.specs.declared.reports.Report.{Report}
 use Rattle.mmtel_reports.specs.declared.reports.Report.TheVariants.{Usage, Line, Link, File, Keeper, Memory, Listing, Sound, Served, Unsound}
 
--- the text lists the run or the rows that are to be listed, or counts what a workload comes to
+-- the text lists the run or the CDRs that are to be listed, or has the numbers of a workload
 abbrev pub IsListing : (old new : KeeperSeen) → List ℕ → Due → Type 0
 IsListing old new text due.Usage = ⊥
 IsListing old new text (due.Line number) = ⊥
@@ -31,7 +31,7 @@ IsListing old new text (due.Work calls salt directory) = Counts directory calls 
 IsListing old new text due.Sound = ⊥
 IsListing old new text (due.Unsound line) = ⊥
 
--- a run or rows are to be listed, and the keeper could not be bound to the store, or not answer
+-- a run or CDRs are to be listed, and the keeper could not be bound to the store, or failed
 abbrev pub IsUnkept : (old new : KeeperSeen) → Due → Type 0
 IsUnkept old new due.Usage = ⊥
 IsUnkept old new (due.Line number) = ⊥
@@ -42,7 +42,7 @@ IsUnkept old new (due.Work calls salt directory) = ⊥
 IsUnkept old new due.Sound = ⊥
 IsUnkept old new (due.Unsound line) = ⊥
 
--- what was found due is what is due, unless the keeper failed or memory ran out, where the keeper had been asked so much
+-- the report is the one that is due, unless the keeper failed or memory ran out, after these calls of the keeper
 abbrev pub IsDue : (old new : KeeperSeen) → Report → Due → Type 0
 IsDue old new Memory wanted = HasStopped old new wanted
 IsDue old new Usage wanted = wanted ≡ due.Usage
@@ -68,7 +68,7 @@ HasCalled Sound after first last = after ≡ Some last
 HasCalled Served after first last = after ≡ Some last
 HasCalled (Unsound line) after first last = after ≡ Some last
 
--- the count of the files' faults rose where a file could not be read, and is as before otherwise
+-- the count of the files' faults rose where a file could not be read, and is unchanged otherwise
 abbrev pub CountsFiles : Report → ℕ → ℕ → Type 0
 CountsFiles File before now = Rose before now
 CountsFiles Usage before now = now ≡ before
@@ -81,7 +81,7 @@ CountsFiles Sound before now = now ≡ before
 CountsFiles Served before now = now ≡ before
 CountsFiles (Unsound line) before now = now ≡ before
 
--- no file has part in it
+-- the file was read: the report is neither of the arguments nor of a file that could not be read
 abbrev pub IsRead : Report → Type 0
 IsRead File = ⊥
 IsRead Usage = ⊥
@@ -94,7 +94,7 @@ IsRead Sound = ⊤
 IsRead Served = ⊤
 IsRead (Unsound line) = ⊤
 
--- the keeper is as before where neither a run, nor serving, nor `charges` came to it
+-- the keeper is unchanged where it was called neither for a run, nor for serving, nor for `charges`
 abbrev pub Spares : {K : Type 0} → Report → (before after : K) → Type 0
 Spares Usage before after = after ≡ before
 Spares (Line line) before after = after ≡ before
@@ -107,7 +107,7 @@ Spares Sound before after = after ≡ before
 Spares Served before after = ⊤
 Spares (Unsound line) before after = after ≡ before
 
--- of `check` and `workload`, and without a command, it always is
+-- for `check` and `workload`, and without a command, it always is
 abbrev pub SparedBy : {K : Type 0} → Option Command → (before after : K) → Type 0
 SparedBy None before after = after ≡ before
 SparedBy (Some (Serve config token turns)) before after = ⊤
@@ -116,9 +116,9 @@ SparedBy (Some (Check records)) before after = after ≡ before
 SparedBy (Some (Charges config)) before after = ⊤
 SparedBy (Some (Workload calls salt)) before after = after ≡ before
 
--- ---- of `serve`
+-- ---- for `serve`
 
--- what serving asks of a configuration that was read and of a token: the home domain and the token are of one line each, each peer has a number and an address of its own, and
+-- what serving requires of a configuration that was read and of a token: the home domain and the token are of one line each, each peer has a number and an address of its own, and
 -- the branches that the server draws are read as they are written
 pub record IsSuited (directory : Directory) (token : List ℕ) : Type 0 where
   pub home : IsClean directory.home
@@ -126,8 +126,8 @@ pub record IsSuited (directory : Directory) (token : List ℕ) : Type 0 where
   pub apart : are_apart directory.peers.known ≡ true
   pub branches : BranchesAreRead directory token
 
--- a configuration that was read is to be served, and so it came: the link was served; or the keeper could not be loaded, or the link not be bound or not take in what comes
--- next; or memory ran out, where so much had been done
+-- a configuration that was read is to be served, and this was the result: the link was served; or the keeper could not be loaded, or the link not be bound or not receive the
+-- next event; or memory ran out, with so much done before
 abbrev pub IsServedBy : Directory → (token : List ℕ) → (turns : ℕ) → (old new : Outside) → Report → Type 0
 IsServedBy directory token turns old new Memory = IsSuited directory token → StoppedServe directory token turns old new
 IsServedBy directory token turns old new Usage = ⊥
@@ -141,7 +141,7 @@ IsServedBy directory token turns old new Served =
     IsSuited directory token → (closed : Bool) × ServesLink directory token turns old new (Ok closed)
 IsServedBy directory token turns old new (Unsound line) = ⊥
 
--- the keeper was loaded before
+-- the keeper had been loaded before
 abbrev pub IsServing : Report → Type 0
 IsServing Memory = ⊤
 IsServing Usage = ⊥
@@ -154,7 +154,7 @@ IsServing Sound = ⊥
 IsServing Served = ⊤
 IsServing (Unsound line) = ⊥
 
--- the link is as before where serving did not come to it
+-- the link is unchanged where serving did not reach it
 abbrev pub SparesLink : {L : Type 0} → Report → (before after : L) → Type 0
 SparesLink Usage before after = after ≡ before
 SparesLink (Line line) before after = after ≡ before
@@ -167,7 +167,7 @@ SparesLink Sound before after = after ≡ before
 SparesLink Served before after = ⊤
 SparesLink (Unsound line) before after = after ≡ before
 
--- of every other command it always is
+-- for every other command it always is
 abbrev pub UnboundBy : {L : Type 0} → Option Command → Report → (before after : L) → Type 0
 UnboundBy None outcome before after = after ≡ before
 UnboundBy (Some (Serve config token turns)) outcome before after = SparesLink outcome before after
@@ -176,7 +176,7 @@ UnboundBy (Some (Check records)) outcome before after = after ≡ before
 UnboundBy (Some (Charges config)) outcome before after = after ≡ before
 UnboundBy (Some (Workload calls salt)) outcome before after = after ≡ before
 
--- the count of the link's faults of taking in rose where it could not be bound or not take in what comes next, and is as before otherwise
+-- the count of the link's arrival faults rose where it could not be bound or failed to receive, and is unchanged otherwise
 abbrev pub CountsLink : Report → ℕ → ℕ → Type 0
 CountsLink Link before now = Rose before now
 CountsLink Usage before now = now ≡ before
@@ -189,7 +189,7 @@ CountsLink Sound before now = now ≡ before
 CountsLink Served before now = now ≡ before
 CountsLink (Unsound line) before now = now ≡ before
 
--- of every other command it is as before
+-- for every other command it is unchanged
 abbrev pub TakingBy : Option Command → Report → ℕ → ℕ → Type 0
 TakingBy None outcome before now = now ≡ before
 TakingBy (Some (Serve config token turns)) outcome before now = CountsLink outcome before now

@@ -1,4 +1,4 @@
--- What the files gave, whether they tell it or not.
+-- The results of reading the files, whether these expose their contents or not.
 use Rattle.std.specs.Prelude.{◌≡◌, ◌↔◌, ◌⊎◌, ℕ, List, IfSome, Some, None, Ok, Err}
 use Rattle.std.specs.declared.option.Option.{Option}
 use Rattle.std.specs.declared.result.Result.{Result}
@@ -16,13 +16,13 @@ use Rattle.mmtel_server.specs.Seen.{KeeperSeen}
 use Rattle.mmtel_reports.specs.declared.reports.Report.{Report}
 use Rattle.mmtel_reports.specs.declared.reports.Report.TheVariants.{Memory, Usage}
 
--- there is an answer for the script, the told one where the files tell, by which this was found due
+-- there is a result for the script, the exposed one where the files expose it, with which this report was made
 pub record GivesScript (told : Option Shelf) (old new : KeeperSeen) (asked : Asked) (directory : Result Directory ℕ) (outcome : Report) : Type 0 where
   pub script : Option (List ℕ)
   pub told_script : IfSome told (λ shelf. script ≡ answer_at shelf asked.script)
   pub is_due : IsDue old new outcome (due_of_directory directory asked.token script)
 
--- there are answers for both, the told ones where the files tell, by which this was found due
+-- there are results for both, the exposed ones where the files expose them, with which this report was made
 pub record GivesBoth (told : Option Shelf) (old new : KeeperSeen) (asked : Asked) (outcome : Report) : Type 0 where
   pub config : Option (List ℕ)
   pub script : Option (List ℕ)
@@ -30,42 +30,42 @@ pub record GivesBoth (told : Option Shelf) (old new : KeeperSeen) (asked : Asked
   pub told_script : IfSome told (λ shelf. script ≡ answer_at (called shelf) asked.script)
   pub is_due : IsDue old new outcome (due_of_config config asked.token script)
 
--- there is an answer for the file that is to be checked, the told one where the files tell, by which this was found due, over whatever is seen of a keeper
+-- there is a result for the file that is to be checked, the exposed one where the files expose it, with which this report was made, whatever the keeper is
 pub record GivesRecords (told : Option Shelf) (records : List ℕ) (outcome : Report) : Type 0 where
   pub text : Option (List ℕ)
   pub told_text : IfSome told (λ shelf. text ≡ answer_at shelf records)
   pub is_due : (keeper : KeeperSeen) → IsDue keeper keeper outcome (due_of_records text)
 
--- the same of the configuration of `charges`; whatever was found due, the keeper holds what it held
+-- the same for the configuration of `charges`; whatever the report, the keeper holds what it held
 pub record GivesCharges (told : Option Shelf) (old new : KeeperSeen) (config : List ℕ) (outcome : Report) : Type 0 where
   pub text : Option (List ℕ)
   pub told_text : IfSome told (λ shelf. text ≡ answer_at shelf config)
   pub is_due : IsDue old new outcome (due_of_charges text)
   pub held : new.held ≡ old.held
 
--- the configuration of a workload is of the grammar, and by it this was found due, over whatever is seen of a keeper
+-- the configuration of a workload is of the grammar, and with it this report was made, whatever the keeper is
 pub record GivesWork (calls salt : ℕ) (outcome : Report) : Type 0 where
   pub directory : Directory
   pub reads : directory_of work_config ≡ Ok directory
   pub is_due : (keeper : KeeperSeen) → IsDue keeper keeper outcome (due.Work calls salt directory)
 
--- what was found due of `serve` once the configuration was read
+-- the report of `serve` once the configuration was parsed
 abbrev pub ServesDirectory : Result Directory ℕ → (token : List ℕ) → (turns : ℕ) → (old new : Outside) → Report → Type 0
 ServesDirectory (Ok directory) token turns old new outcome = IsServedBy directory token turns old new outcome
 ServesDirectory (Err line) token turns old new outcome = IsDue old.keeper new.keeper outcome (due.Line line) × (new.link ≡ old.link)
 
--- and once it was asked for
+-- and once it was read, or could not be
 abbrev pub ServesConfig : Option (List ℕ) → (token : List ℕ) → (turns : ℕ) → (old new : Outside) → Report → Type 0
 ServesConfig None token turns old new outcome = IsDue old.keeper new.keeper outcome due.File × (new.link ≡ old.link)
 ServesConfig (Some config) token turns old new outcome = ServesDirectory (directory_of config) token turns old new outcome
 
--- there is an answer for the configuration of `serve`, the told one where the files tell, by which this was found due
+-- there is a result for the configuration of `serve`, the exposed one where the files expose it, with which this report was made
 pub record GivesServe (told : Option Shelf) (old new : Outside) (config token : List ℕ) (turns : ℕ) (outcome : Report) : Type 0 where
   pub text : Option (List ℕ)
   pub told_text : IfSome told (λ shelf. text ≡ answer_at shelf config)
   pub is_due : ServesConfig text token turns old new outcome
 
--- the same over what the words ask
+-- the same for each command
 abbrev pub GivesCommand : Option Shelf → (old new : Outside) → Command → Report → Type 0
 GivesCommand told old new (Serve config token turns) outcome = GivesServe told old new config token turns outcome
 GivesCommand told old new (Replay asked) outcome = GivesBoth told old.keeper new.keeper asked outcome
@@ -77,7 +77,7 @@ abbrev pub GivesRun : Option Shelf → (old new : Outside) → Option Command �
 GivesRun told old new None outcome = outcome ≡ Usage
 GivesRun told old new (Some command) outcome = GivesCommand told old new command outcome
 
--- the files as they tell, and the link and the keeper themselves
+-- the files as they expose themselves, and the link and the keeper themselves
 pub record Ports (L K : Type 0) : Type 0 where
   pub files : Option Shelf
   pub link : L
@@ -86,7 +86,7 @@ pub record Ports (L K : Type 0) : Type 0 where
 abbrev pub ports : {L K : Type 0} → Option Shelf → L → K → Ports L K
 ports files link keeper = record { files = files; link = link; keeper = keeper }
 
--- the words ask for this, and so this was found due, these calls of the files were made, and the keeper and the link are as before of a command that asks nothing of them
+-- the arguments are this command, with this report and these calls of the files, and the keeper and the link are unchanged for a command that does not use them
 pub record Prepared {L K : Type 0} (words : List (List ℕ)) (old new : Outside) (before now : Ports L K) (outcome : Report) : Type 0 where
   pub command : Option Command
   pub asks : AsksFor words command
@@ -97,7 +97,7 @@ pub record Prepared {L K : Type 0} (words : List (List ℕ)) (old new : Outside)
   pub unbound : UnboundBy command outcome before.link now.link
   pub taking : TakingBy command outcome old.link.taking new.link.taking
 
--- memory ran out in reading the words, and nothing was asked of the files, of the keeper and of the link
+-- memory ran out in parsing the arguments, and neither the files, the keeper nor the link was called
 pub record RanOut {L K : Type 0} (old new : Outside) (before now : Ports L K) (outcome : Report) : Type 0 where
   pub memory : outcome ≡ Memory
   pub calls : now.files ≡ before.files

@@ -1,9 +1,9 @@
 -- What public clauses cite, which a user of the crate has to believe.
--- What the words ask for:
+-- Which command the arguments are:
 pub mod Asks
--- What is seen of the link and of the keeper:
+-- What contracts observe of the link and of the keeper:
 pub mod Outside
--- A whole run: what was written, answered and asked of the files, the keeper and the link, and offered; and what follows of each status:
+-- A whole run: its text, its status, its calls of the files, the keeper and the link, and its outputs; and what follows for each status:
 pub mod Runs
 pub mod Listings
 pub mod Keeping
@@ -11,7 +11,7 @@ pub mod Serving
 pub mod Stopped
 pub mod Workloads
 pub mod Sayings
--- The reports that are due, and how each is written (of calls below the top call):
+-- The reports that are due, and how each is written (by the calls below the top-level function):
 pub mod Due
 -- What private functions alone cite.
 pub mod KnownEvents

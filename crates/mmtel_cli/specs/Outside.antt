@@ -1,4 +1,4 @@
--- What is seen of the link and of the keeper of a run, as one value: one stands before what is done, and one after it.
+-- What contracts observe of the link and of the keeper of a run, as one value: one before an operation, and one after it.
 use Rattle.mmtel_keeper.specs.declared.keepers.Keeper.{Ghosts as Keeper}
 use Rattle.mmtel_link.specs.declared.links.Link.{Ghosts as Link}
 use Rattle.mmtel_server.specs.Seen.{KeeperSeen, LinkSeen, keeper_seen, link_seen}

@@ -1,4 +1,4 @@
--- What a whole run of the program wrote, answered and asked of the files, the keeper and the link, over the words as the grammar of the command line spells them.
+-- A whole run of the program: its text, its status and its calls of the files, the keeper and the link, by the arguments and the grammar of the command line.
 use Rattle.std.specs.Prelude.{◌≡◌, ◌≢◌, ℕ, ◌⊎◌, Bool, List, codes, IfSome, Some, None, Ok, Err}
 use Rattle.std.specs.declared.option.Option.{Option}
 use Rattle.std.specs.declared.result.Result.{Result}
@@ -35,15 +35,15 @@ use Rattle.mmtel_cli.specs.Workloads.{Counts, work_config}
 
 -- ---- what was written, and the status
 
--- want of memory: status 8, and `memory`
+-- out of memory: status 8, and `memory`
 abbrev pub WroteMemory : Written → Type 0
 WroteMemory written = Said (codes "memory\n") 8 written
 
--- no words of the command: status 1, and `usage`
+-- arguments that are no command: status 1, and `usage`
 abbrev pub WroteUsage : Written → Type 0
 WroteUsage written = Said (codes "usage\n") 1 written
 
--- the first line that breaks a grammar: status 2, and its number
+-- the first line that is not of a grammar: status 2, and its number
 abbrev pub WroteLine : ℕ → Written → Type 0
 WroteLine line written = Said (line_text line) 2 written
 
@@ -51,60 +51,60 @@ WroteLine line written = Said (line_text line) 2 written
 abbrev pub WroteFile : Written → Type 0
 WroteFile written = Said (codes "file\n") 5 written
 
--- a keeper that could not be bound, or not be migrated, not be loaded or not give its rows: status 6, and `keeper`
+-- a keeper that could not be bound, migrated, loaded or read: status 6, and `keeper`
 abbrev pub WroteKeeper : Written → Type 0
 WroteKeeper written = Said (codes "keeper\n") 6 written
 
--- a link that could not be bound, or not take in what comes next: status 4, and `link`
+-- a link that could not be bound, or failed to receive the next event: status 4, and `link`
 abbrev pub WroteLink : Written → Type 0
 WroteLink written = Said (codes "link\n") 4 written
 
--- a file that is no service record: status 3, and the line that tells its first fault
+-- a file that is no service record: status 3, and the line of its first fault
 abbrev pub WroteFault : List ℕ → Written → Type 0
 WroteFault line written = Said line 3 written
 
--- ---- what was offered
+-- ---- the outputs
 
 -- the run of these events was listed
 pub record Listed (directory : Directory) (token : List ℕ) (events : List Event) (old new : KeeperSeen) (written : Written) : Type 0 where
-  -- the keeper was bound to the store of the configuration, migrated, and gave these texts,
+  -- the keeper was bound to the store of the configuration, migrated, and returned these texts,
   pub loaded : Texts
   pub opening : KeeperSeen
   pub opened : IsLoaded directory.store loaded old opening
-  -- this is what the server offered over them,
+  -- these are the outputs of the server over them,
   pub offers : List Offer
   pub run : OffersRun directory token loaded events opening new offers
-  -- the branches that the server draws are read as they are written, which the secret of the run asks for;
+  -- the branches that the server draws are read as they are written, which noninterference requires;
   pub branches : BranchesAreRead directory token
-  -- where the run is short, each of its calls came to what the precedence of services makes of how its attempts ended and of how things stood when it reached each target,
-  -- within the bound on diversions, and is charged so,
+  -- where the run is short, each of its calls has the outcome that the precedence of services determines from how its attempts ended and from the states in which it reached each
+  -- target, within the bound on diversions, and is charged so,
   pub outcome : IsShortRun directory token loaded run.happened → CallsComeToOutcome directory token loaded run.happened
-  -- whoever is seated in a conference room has a meter of their account, and whoever has left a seat is charged for it once; all rows stand in the order of the steps,
+  -- each participant of a conference that has joined has a meter of its account, and each that has left is charged once; all CDRs are in the order of the steps,
   pub seats : IsShortRun directory token loaded run.happened → SeatsAreChargedOnce directory token loaded run.happened
-  -- each message that was built has its own lines and nobody else's, and what was offered to peers are the texts of these,
+  -- each message that was built has no injected header fields, and the texts that were sent to peers are those of these,
   pub clean : IsShortRun directory token loaded run.happened → SendsCleanMessages directory token loaded run.happened
-  -- and its listing was written: whole with status 0, and else a front of it with status 7
+  -- and its listing was written: whole with status 0, and else a prefix of it with status 7
   pub wrote : WroteListing (listing_of offers) written
 
--- ---- how a run ends, by what the files answer
+-- ---- how a run ends, by the contents of the files
 
--- once the script was read: the run was listed, or the keeper could not be bound to the store of the configuration, not be migrated or not be loaded
+-- once the script was parsed: the run was listed, or the keeper could not be bound to the store of the configuration, migrated or loaded
 abbrev pub EndsOfEvents : Directory → List ℕ → Result (List Event) ℕ → (old new : KeeperSeen) → Written → Type 0
 EndsOfEvents directory token (Ok events) old new written =
     Listed directory token events old new written ⊎ (IsNotLoaded directory.store old new × WroteKeeper written)
 EndsOfEvents directory token (Err line) old new written = WroteLine line written
 
--- once the script was asked for
+-- once the script was read, or could not be
 abbrev pub EndsOfScript : Directory → List ℕ → Option (List ℕ) → (old new : KeeperSeen) → Written → Type 0
 EndsOfScript directory token None old new written = WroteFile written
 EndsOfScript directory token (Some script) old new written = EndsOfEvents directory token (events_of directory.peers.known script) old new written
 
--- once the configuration was read; `script` is what the files answer for the script
+-- once the configuration was parsed; `script` is the result of reading the script
 abbrev pub EndsOfDirectory : Result Directory ℕ → List ℕ → Option (List ℕ) → (old new : KeeperSeen) → Written → Type 0
 EndsOfDirectory (Ok directory) token script old new written = EndsOfScript directory token script old new written
 EndsOfDirectory (Err line) token script old new written = WroteLine line written
 
--- once the configuration was asked for
+-- once the configuration was read, or could not be
 abbrev pub EndsOfConfig : Option (List ℕ) → List ℕ → Option (List ℕ) → (old new : KeeperSeen) → Written → Type 0
 EndsOfConfig None token script old new written = WroteFile written
 EndsOfConfig (Some config) token script old new written = EndsOfDirectory (directory_of config) token script old new written
@@ -116,33 +116,33 @@ abbrev pub EndsOfUpload : Upload → Written → Type 0
 EndsOfUpload (upload.Accepted sheet) written = WroteListing (codes "ok\n") written
 EndsOfUpload (upload.Refused line) written = WroteFault line written
 
--- once the file was asked for
+-- once the file was read, or could not be
 abbrev pub EndsOfRecords : Option (List ℕ) → Written → Type 0
 EndsOfRecords None written = WroteFile written
 EndsOfRecords (Some text) written = EndsOfUpload (upload_of text) written
 
--- ---- how the writing of a keeper's rows ends
+-- ---- how the writing of a keeper's CDRs ends
 
--- the keeper was bound to the store and gave these rows, and their text was written: whole with status 0, and else a front of it with status 7 (RFC 4180, 3GPP TS 32.260 §5)
+-- the keeper was bound to the store and returned these CDRs, and their text was written: whole with status 0, and else a prefix of it with status 7 (RFC 4180, 3GPP TS 32.260 §5)
 pub record ListedRows (store : List ℕ) (old new : KeeperSeen) (written : Written) : Type 0 where
   pub rows : List Row
   pub given : GivesRows store rows old new
   pub wrote : WroteListing (text_of rows) written
 
--- once the configuration was read: its store's rows were written, or the keeper could not be bound to it or not give them
+-- once the configuration was parsed: its store's CDRs were written, or the keeper could not be bound to it or read
 abbrev pub EndsOfStore : Result Directory ℕ → (old new : KeeperSeen) → Written → Type 0
 EndsOfStore (Ok directory) old new written =
     ListedRows directory.store old new written ⊎ (GivesNoRows directory.store old new × WroteKeeper written)
 EndsOfStore (Err line) old new written = WroteLine line written
 
--- once the configuration was asked for
+-- once the configuration was read, or could not be
 abbrev pub EndsOfCharges : Option (List ℕ) → (old new : KeeperSeen) → Written → Type 0
 EndsOfCharges None old new written = WroteFile written
 EndsOfCharges (Some config) old new written = EndsOfStore (directory_of config) old new written
 
 -- ---- how a workload ends
 
--- the text counts what a server of its configuration makes of so many calls by the salt, and was written: whole with status 0, and else a front of it with status 7
+-- the text has the numbers of a server of its configuration for so many calls by the salt, and was written: whole with status 0, and else a prefix of it with status 7
 pub record Counted (directory : Directory) (calls salt : ℕ) (written : Written) : Type 0 where
   pub text : List ℕ
   pub counts : Counts directory calls salt text
@@ -150,38 +150,38 @@ pub record Counted (directory : Directory) (calls salt : ℕ) (written : Written
 
 -- ---- how serving ends
 
--- the turns were made, or the link was closed: the link was served over what the keeper gave, as the definitions of the run say (`ServesRun`), and nothing was written
+-- the turns were done, or the link was closed: the link was served over what the keeper returned, as the definitions of the run determine (`ServesRun`), and nothing was written
 pub record ServedLink (directory : Directory) (token : List ℕ) (turns : ℕ) (old new : Outside) (written : Written) : Type 0 where
   pub closed : Bool
   pub serves : ServesLink directory token turns old new (Ok closed)
   pub wrote : WroteNothing written
 
--- or the link could not be bound or not take in what comes next; or the keeper could not be bound to the store of the configuration, not be migrated or not be loaded
+-- or the link could not be bound or failed to receive; or the keeper could not be bound to the store of the configuration, migrated or loaded
 pub data EndsServing (directory : Directory) (token : List ℕ) (turns : ℕ) (old new : Outside) (written : Written) : Type 0 where
   EndsServed : ServedLink directory token turns old new written → EndsServing directory token turns old new written
   EndsUnlinked : LinkFails directory token turns old new → WroteLink written → EndsServing directory token turns old new written
   EndsUnkept : IsNotLoaded directory.store old.keeper new.keeper → WroteKeeper written → EndsServing directory token turns old new written
 
--- once the configuration was read
+-- once the configuration was parsed
 abbrev pub EndsOfServing : Result Directory ℕ → (token : List ℕ) → (turns : ℕ) → (old new : Outside) → Written → Type 0
 EndsOfServing (Ok directory) token turns old new written = EndsServing directory token turns old new written
 EndsOfServing (Err line) token turns old new written = WroteLine line written
 
--- once it was asked for
+-- once it was read, or could not be
 abbrev pub EndsOfServe : Option (List ℕ) → (token : List ℕ) → (turns : ℕ) → (old new : Outside) → Written → Type 0
 EndsOfServe None token turns old new written = WroteFile written
 EndsOfServe (Some config) token turns old new written = EndsOfServing (directory_of config) token turns old new written
 
 -- ---- a run
 
--- the answers that the files gave for CONFIG and SCRIPT: None where the read failed; where the files tell, those of the first call and of the second
+-- the results of reading CONFIG and SCRIPT: None where the read failed; where the files expose their contents, those of the first call and of the second
 pub record Answered (told : Option Shelf) (asked : Asked) : Type 0 where
   pub config : Option (List ℕ)
   pub script : Option (List ℕ)
   pub told_config : IfSome told (λ shelf. config ≡ answer_at shelf asked.config)
   pub told_script : IfSome told (λ shelf. script ≡ answer_at (called shelf) asked.script)
 
--- the words spell a `replay`, and it ended as the files' answers and the keeper's say; or memory ran out, where the keeper had been asked so much (`Stopped`)
+-- the arguments are a `replay`, and it ended as the contents of the files and of the keeper determine; or memory ran out, after these calls of the keeper (`Stopped`)
 pub record Replayed (told : Option Shelf) (old new : KeeperSeen) (words : List (List ℕ)) (written : Written) : Type 0 where
   pub asked : Asked
   pub spelled : IsOnly (Replay asked) words
@@ -189,7 +189,7 @@ pub record Replayed (told : Option Shelf) (old new : KeeperSeen) (words : List (
   pub ends : EndsOfConfig answers.config asked.token answers.script old new written ⊎ WroteMemory written
   pub stopped : written.status ≡ 8 → HasStopped old new (due_of_config answers.config asked.token answers.script)
 
--- the words spell a `check`, and it ended as the files' answer for RECORDS says, which is that of the first call where the files tell; or memory ran out
+-- the arguments are a `check`, and it ended as the result of reading RECORDS determines, which is that of the first call where the files expose it; or memory ran out
 pub record Checked (told : Option Shelf) (words : List (List ℕ)) (written : Written) : Type 0 where
   pub records : List ℕ
   pub spelled : IsOnly (Check records) words
@@ -197,8 +197,8 @@ pub record Checked (told : Option Shelf) (words : List (List ℕ)) (written : Wr
   pub told_text : IfSome told (λ shelf. text ≡ answer_at shelf records)
   pub ends : EndsOfRecords text written ⊎ WroteMemory written
 
--- the words spell a `charges`, and it ended as the files' answer for CONFIG, which is that of the first call where the files tell, and the keeper's say; or memory ran out,
--- where the keeper had been asked so much; whatever the status, it holds what it held
+-- the arguments are a `charges`, and it ended as the result of reading CONFIG, which is that of the first call where the files expose it, and the keeper's determine; or memory ran
+-- out, after these calls of the keeper; whatever the status, the keeper holds what it held
 pub record Charged (told : Option Shelf) (old new : KeeperSeen) (words : List (List ℕ)) (written : Written) : Type 0 where
   pub config : List ℕ
   pub spelled : IsOnly (Charges config) words
@@ -208,7 +208,7 @@ pub record Charged (told : Option Shelf) (old new : KeeperSeen) (words : List (L
   pub stopped : written.status ≡ 8 → HasStopped old new (due_of_charges text)
   pub held : new.held ≡ old.held
 
--- the words spell a `workload`; its configuration is of the grammar, so no line of that is told, and it ended so; or memory ran out
+-- the arguments are a `workload`; its configuration is of the grammar, so no line of it is reported, and it ended so; or memory ran out
 pub record Worked (words : List (List ℕ)) (written : Written) : Type 0 where
   pub calls : ℕ
   pub salt : ℕ
@@ -217,8 +217,8 @@ pub record Worked (words : List (List ℕ)) (written : Written) : Type 0 where
   pub reads : directory_of work_config ≡ Ok directory
   pub ends : Counted directory calls salt written ⊎ WroteMemory written
 
--- the words spell a `serve`, and it ended as the files' answer for CONFIG, which is that of the first call where the files tell, and the keeper's and the link's say; or memory
--- ran out, where so much had been done
+-- the arguments are a `serve`, and it ended as the result of reading CONFIG, which is that of the first call where the files expose it, and the keeper's and the link's determine;
+-- or memory ran out, with so much done before
 pub record HasServed (told : Option Shelf) (old new : Outside) (words : List (List ℕ)) (written : Written) : Type 0 where
   pub config : List ℕ
   pub token : List ℕ
@@ -229,12 +229,12 @@ pub record HasServed (told : Option Shelf) (old new : Outside) (words : List (Li
   pub ends : EndsOfServe text token turns old new written ⊎ WroteMemory written
   pub stopped : written.status ≡ 8 → StopsOfServe text token turns old new
 
--- the words spell no command
+-- the arguments are no command
 pub record Refused (words : List (List ℕ)) (written : Written) : Type 0 where
   pub none : SpellsNone words
   pub said : WroteUsage written
 
--- one of these; or memory ran out in reading the words, and nothing was asked of the keeper and of the link
+-- one of these; or memory ran out in parsing the arguments, and neither the keeper nor the link was called
 pub data Ran (told : Option Shelf) (old new : Outside) (words : List (List ℕ)) (written : Written) : Type 0 where
   RanServe : HasServed told old new words written → Ran told old new words written
   RanReplay : Replayed told old.keeper new.keeper words written → Ran told old new words written
@@ -244,15 +244,15 @@ pub data Ran (told : Option Shelf) (old new : Outside) (words : List (List ℕ))
   RanNone : Refused words written → Ran told old new words written
   RanShort : WroteMemory written → new.keeper ≡ old.keeper → new.link ≡ old.link → Ran told old new words written
 
--- ---- the calls of files
+-- ---- the calls of the files
 
 -- at every status but 8 the calls that are due were made; at 8 none, the first of them, or all
 pub record Called (status : ℕ) (after : Option Shelf) (none first last : Shelf) : Type 0 where
   pub all : status ≢ 8 → after ≡ Some last
   pub some : status ≡ 8 → (after ≡ Some none) ⊎ ((after ≡ Some first) ⊎ (after ≡ Some last))
 
--- of `replay` CONFIG and then SCRIPT, each once and no other name, SCRIPT only where CONFIG is there and good; of `check` RECORDS, and of `serve` and `charges` CONFIG, once and
--- no other name; nothing of `workload` and without a command
+-- for `replay` CONFIG and then SCRIPT, each once and no other name, SCRIPT only where CONFIG exists and is valid; for `check` RECORDS, and for `serve` and `charges` CONFIG, once
+-- and no other name; none for `workload` and without a command
 pub record CalledFor (shelf : Shelf) (words : List (List ℕ)) (status : ℕ) (after : Option Shelf) : Type 0 where
   pub none : SpellsNone words → after ≡ Some shelf
   pub served : (config token : List ℕ) (turns : ℕ) → IsServe config token turns words → Called status after shelf (called shelf) (called shelf)
@@ -263,12 +263,12 @@ pub record CalledFor (shelf : Shelf) (words : List (List ℕ)) (status : ℕ) (a
 
 -- ---- counts of faults
 
--- the count of the files' faults rose at status 5, and is as before at every other
+-- the count of the files' faults rose at status 5, and is unchanged at every other
 pub record CountsAtFive (status before now : ℕ) : Type 0 where
   pub rose : status ≡ 5 → Rose before now
   pub kept : status ≢ 5 → now ≡ before
 
--- and so the count of the link's faults of taking in at status 4
+-- and so the count of the link's arrival faults at status 4
 pub record CountsAtFour (status before now : ℕ) : Type 0 where
   pub rose : status ≡ 4 → Rose before now
   pub kept : status ≢ 4 → now ≡ before

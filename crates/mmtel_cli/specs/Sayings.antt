@@ -1,4 +1,4 @@
--- What the one statement on a whole run says of each status, and where the files, the keeper and the link tell what they hold.
+-- What the one statement on a whole run implies for each status, and where the files, the keeper and the link expose their contents.
 use Rattle.std.specs.Prelude.{◌≡◌, ◌==◌, ℕ, true, false, ◌⊎◌, List, [], ◌∷◌, codes, Some, Ok}
 use Rattle.std.specs.List.{list_any}
 use Rattle.std.specs.declared.option.Option.{Option}
@@ -23,7 +23,7 @@ use Rattle.mmtel_cli.specs.Runs.{Counted, CountsAtFive, EndsOfUpload, Listed, Li
 use Rattle.mmtel_cli.specs.Due.{due_of_charges, due_of_config}
 use Rattle.mmtel_cli.specs.Stopped.{HasStopped, StopsOfServe}
 
--- the words spell a `replay` whose files are there and of their grammars
+-- the arguments are a `replay` whose files exist and are of their grammars
 pub record IsGood (shelf : Shelf) (words : List (List ℕ)) (asked : Asked) (directory : Directory) (events : List Event) : Type 0 where
   pub spelled : IsReplay asked words
   pub config : List ℕ
@@ -33,49 +33,49 @@ pub record IsGood (shelf : Shelf) (words : List (List ℕ)) (asked : Asked) (dir
   pub script_there : answer_at (called shelf) asked.script ≡ Some script
   pub script_read : events_of directory.peers.known script ≡ Ok events
 
--- the keeper can be bound, migrated and loaded: it tells so, or its count of faults did not rise
+-- the keeper can be bound, migrated and loaded: it exposes so, or its count of faults did not rise
 abbrev pub IsWilling : (old new : KeeperSeen) → Type 0
 IsWilling old new = ((calls : KeeperCalls) × (old.calls ≡ Some calls) × (refuses calls ≡ false)) ⊎ ¬ (Rose old.faults new.faults)
 
--- and so it can be bound and give its rows
+-- and so it can be bound and its CDRs be read
 abbrev pub IsWillingToGive : (old new : KeeperSeen) → Type 0
 IsWillingToGive old new = ((calls : KeeperCalls) × (old.calls ≡ Some calls) × (refuses_rows calls ≡ false)) ⊎ ¬ (Rose old.faults new.faults)
 
--- of these, the run was listed: exactly what the definitions give, and with the secret kept; or memory ran out
+-- for these, the run was listed: exactly the outputs of the definitions, and noninterference holds; or memory ran out
 abbrev pub GoodOnesAreListed : Type 0
 GoodOnesAreListed =
     (shelf : Shelf) (old new : Outside) (words : List (List ℕ)) (asked : Asked) (directory : Directory) (events : List Event) (written : Written) →
     IsGood shelf words asked directory events → IsWilling old.keeper new.keeper → Ran (Some shelf) old new words written →
     Listed directory asked.token events old.keeper new.keeper written ⊎ (written.status ≡ 8)
 
--- and where the sink met no fault, the status is 0, or 8
+-- and where the sink did not fail, the status is 0, or 8
 abbrev pub GoodOnesSucceed : Type 0
 GoodOnesSucceed =
     (shelf : Shelf) (old new : Outside) (words : List (List ℕ)) (asked : Asked) (directory : Directory) (events : List Event) (written : Written) →
     IsGood shelf words asked directory events → IsWilling old.keeper new.keeper → Ran (Some shelf) old new words written →
     ¬ (Rose written.faults_before written.faults_after) → (written.status ≡ 0) ⊎ (written.status ≡ 8)
 
--- and where the keeper tells that it cannot be bound, not be migrated or not be loaded, the status is 6, or 8
+-- and where the keeper exposes that it cannot be bound, migrated or loaded, the status is 6, or 8
 abbrev pub GoodOnesWantAKeeper : Type 0
 GoodOnesWantAKeeper =
     (shelf : Shelf) (old new : Outside) (calls : KeeperCalls) (words : List (List ℕ)) (asked : Asked) (directory : Directory) (events : List Event) (written : Written) →
     IsGood shelf words asked directory events → old.keeper.calls ≡ Some calls → refuses calls ≡ true → Ran (Some shelf) old new words written →
     (written.status ≡ 6) ⊎ (written.status ≡ 8)
 
--- the words spell a `check` whose file is there, with this text
+-- the arguments are a `check` whose file exists, with this text
 pub record IsThere (shelf : Shelf) (words : List (List ℕ)) (text : List ℕ) : Type 0 where
   pub records : List ℕ
   pub spelled : IsCheck records words
   pub there : answer_at shelf records ≡ Some text
 
--- of these, what the text is was told: `ok` where it is a service record, and else the line of its first fault with status 3; or memory ran out
+-- for these, the result of the check was written: `ok` where it is a service record, and else the line of its first fault with status 3; or memory ran out
 abbrev pub ChecksAreTold : Type 0
 ChecksAreTold =
     (shelf : Shelf) (old new : Outside) (words : List (List ℕ)) (text : List ℕ) (written : Written) →
     IsThere shelf words text → Ran (Some shelf) old new words written →
     EndsOfUpload (upload_of text) written ⊎ (written.status ≡ 8)
 
--- the words spell a `charges` whose configuration is there and of its grammar
+-- the arguments are a `charges` whose configuration exists and is of its grammar
 pub record IsKept (shelf : Shelf) (words : List (List ℕ)) (directory : Directory) : Type 0 where
   pub config : List ℕ
   pub spelled : IsCharges config words
@@ -83,21 +83,21 @@ pub record IsKept (shelf : Shelf) (words : List (List ℕ)) (directory : Directo
   pub there : answer_at shelf config ≡ Some text
   pub read : directory_of text ≡ Ok directory
 
--- of these, the rows that the keeper holds were written; or memory ran out
+-- for these, the CDRs that the keeper holds were written; or memory ran out
 abbrev pub RowsAreListed : Type 0
 RowsAreListed =
     (shelf : Shelf) (old new : Outside) (words : List (List ℕ)) (directory : Directory) (written : Written) →
     IsKept shelf words directory → IsWillingToGive old.keeper new.keeper → Ran (Some shelf) old new words written →
     ListedRows directory.store old.keeper new.keeper written ⊎ (written.status ≡ 8)
 
--- and where the keeper tells that it cannot be bound or not give them, the status is 6, or 8
+-- and where the keeper exposes that it cannot be bound or read, the status is 6, or 8
 abbrev pub RowsWantAKeeper : Type 0
 RowsWantAKeeper =
     (shelf : Shelf) (old new : Outside) (calls : KeeperCalls) (words : List (List ℕ)) (directory : Directory) (written : Written) →
     IsKept shelf words directory → old.keeper.calls ≡ Some calls → refuses_rows calls ≡ true → Ran (Some shelf) old new words written →
     (written.status ≡ 6) ⊎ (written.status ≡ 8)
 
--- the words spell a `serve` whose configuration is there and of its grammar
+-- the arguments are a `serve` whose configuration exists and is of its grammar
 pub record IsServable (shelf : Shelf) (words : List (List ℕ)) (directory : Directory) (token : List ℕ) (turns : ℕ) : Type 0 where
   pub config : List ℕ
   pub spelled : IsServe config token turns words
@@ -105,7 +105,7 @@ pub record IsServable (shelf : Shelf) (words : List (List ℕ)) (directory : Dir
   pub there : answer_at shelf config ≡ Some text
   pub read : directory_of text ≡ Ok directory
 
--- of these, a link whose count of taking in did not rise was served; or memory ran out
+-- for these, a link whose count of arrival faults did not rise was served; or memory ran out
 abbrev pub GoodOnesAreServed : Type 0
 GoodOnesAreServed =
     (shelf : Shelf) (old new : Outside) (words : List (List ℕ)) (directory : Directory) (token : List ℕ) (turns : ℕ) (written : Written) →
@@ -113,21 +113,21 @@ GoodOnesAreServed =
     Ran (Some shelf) old new words written →
     ServedLink directory token turns old new written ⊎ (written.status ≡ 8)
 
--- where the keeper tells that it cannot be bound, not be migrated or not be loaded, the status is 6, or 8
+-- where the keeper exposes that it cannot be bound, migrated or loaded, the status is 6, or 8
 abbrev pub ServingWantsAKeeper : Type 0
 ServingWantsAKeeper =
     (shelf : Shelf) (old new : Outside) (calls : KeeperCalls) (words : List (List ℕ)) (directory : Directory) (token : List ℕ) (turns : ℕ) (written : Written) →
     IsServable shelf words directory token turns → old.keeper.calls ≡ Some calls → refuses calls ≡ true →
     Ran (Some shelf) old new words written → (written.status ≡ 6) ⊎ (written.status ≡ 8)
 
--- and where the keeper can, and the link tells that it cannot be bound, it is 4, or 8
+-- and where the keeper can, and the link exposes that it cannot be bound, it is 4, or 8
 abbrev pub ServingWantsALink : Type 0
 ServingWantsALink =
     (shelf : Shelf) (old new : Outside) (calls : LinkCalls) (words : List (List ℕ)) (directory : Directory) (token : List ℕ) (turns : ℕ) (written : Written) →
     IsServable shelf words directory token turns → IsWilling old.keeper new.keeper → old.link.calls ≡ Some calls → fails_next calls ≡ true →
     Ran (Some shelf) old new words written → (written.status ≡ 4) ⊎ (written.status ≡ 8)
 
--- a run that was listed, whatever the files tell
+-- a run that was listed, whether or not the files expose their contents
 pub record ListsOne (old new : KeeperSeen) (words : List (List ℕ)) (written : Written) : Type 0 where
   pub asked : Asked
   pub spelled : IsReplay asked words
@@ -141,7 +141,7 @@ OfEachRun P =
     (told : Option Shelf) (old new : Outside) (words : List (List ℕ)) (written : Written) →
     Ran told old new words written → P old new words written
 
--- a check of a service record, and `ok` was written, whatever the files tell
+-- a check of a service record, and `ok` was written, whether or not the files expose their contents
 pub record ChecksOne (words : List (List ℕ)) (written : Written) : Type 0 where
   pub records : List ℕ
   pub spelled : IsCheck records words
@@ -150,14 +150,14 @@ pub record ChecksOne (words : List (List ℕ)) (written : Written) : Type 0 wher
   pub sound : upload_of text ≡ Accepted sheet
   pub wrote : WroteListing (codes "ok\n") written
 
--- rows of a keeper that were written, whatever the files tell
+-- CDRs of a keeper that were written, whether or not the files expose their contents
 pub record ChargesOne (old new : KeeperSeen) (words : List (List ℕ)) (written : Written) : Type 0 where
   pub config : List ℕ
   pub spelled : IsCharges config words
   pub directory : Directory
   pub listed : ListedRows directory.store old new written
 
--- a workload that was told
+-- a workload whose numbers were written
 pub record WorksOne (words : List (List ℕ)) (written : Written) : Type 0 where
   pub calls : ℕ
   pub salt : ℕ
@@ -165,7 +165,7 @@ pub record WorksOne (words : List (List ℕ)) (written : Written) : Type 0 where
   pub directory : Directory
   pub counted : Counted directory calls salt written
 
--- a link that was served, whatever the files tell
+-- a link that was served, whether or not the files expose their contents
 pub record ServesOne (old new : Outside) (words : List (List ℕ)) (written : Written) : Type 0 where
   pub config : List ℕ
   pub token : List ℕ
@@ -182,11 +182,11 @@ pub data DoneAtZero (old new : Outside) (words : List (List ℕ)) (written : Wri
   DoneCharges : ChargesOne old.keeper new.keeper words written → DoneAtZero old new words written
   DoneWork : WorksOne words written → DoneAtZero old new words written
 
--- at status 0 a link was served, or there is a listing, or a service record was checked, or the rows of a keeper were written, or what a workload came to
+-- at status 0 a link was served, or there is a listing, or a service record was checked, or the CDRs of a keeper were written, or the numbers of a workload
 abbrev pub ZeroIsListed : Type 0
 ZeroIsListed = OfEachRun (λ old new words written. written.status ≡ 0 → DoneAtZero old new words written)
 
--- status 1 comes exactly where the words spell no command, unless memory ran out
+-- status 1 occurs exactly where the arguments are no command, unless memory ran out
 abbrev pub OneIsUsage : Type 0
 OneIsUsage = OfEachRun (λ old new words written.
     (written.status ≡ 1 → SpellsNone words) × (SpellsNone words → (written.status ≡ 1) ⊎ (written.status ≡ 8)))
@@ -203,7 +203,7 @@ pub record RefusesOne (words : List (List ℕ)) : Type 0 where
 abbrev pub ThreeIsRefused : Type 0
 ThreeIsRefused = OfEachRun (λ old new words written. written.status ≡ 3 → RefusesOne words)
 
--- at status 4 the count of the link's faults of taking in rose
+-- at status 4 the count of the link's arrival faults rose
 abbrev pub FourRose : Type 0
 FourRose = OfEachRun (λ old new words written. written.status ≡ 4 → Rose old.link.taking new.link.taking)
 
@@ -211,7 +211,7 @@ FourRose = OfEachRun (λ old new words written. written.status ≡ 4 → Rose ol
 abbrev pub SixRose : Type 0
 SixRose = OfEachRun (λ old new words written. written.status ≡ 6 → Rose old.keeper.faults new.keeper.faults)
 
--- at status 7 the count of the sink's faults rose, and at 0 it is as before
+-- at status 7 the count of the sink's faults rose, and at 0 it is unchanged
 abbrev pub SevenRose : Type 0
 SevenRose = OfEachRun (λ old new words written. written.status ≡ 7 → Rose written.faults_before written.faults_after)
 
@@ -220,7 +220,7 @@ ZeroKept = OfEachRun (λ old new words written. written.status ≡ 0 → written
 
 -- ---- where memory ran out
 
--- a `serve`, a `replay` and a `charges`, by what the files answered, where no more had been done
+-- a `serve`, a `replay` and a `charges`, by the contents of the files, where no more had been done
 pub record ServesShort (old new : Outside) (words : List (List ℕ)) : Type 0 where
   pub config : List ℕ
   pub token : List ℕ
@@ -242,7 +242,7 @@ pub record ChargesShort (old new : KeeperSeen) (words : List (List ℕ)) : Type 
   pub text : Option (List ℕ)
   pub stopped : HasStopped old new (due_of_charges text)
 
--- so far each command had come; `check` and `workload` ask nothing of the keeper and of the link
+-- how far each command had come; `check` and `workload` call neither the keeper nor the link
 pub data DoneAtEight (old new : Outside) (words : List (List ℕ)) : Type 0 where
   ShortServe : ServesShort old new words → DoneAtEight old new words
   ShortReplay : ReplaysShort old.keeper new.keeper words → DoneAtEight old new words
@@ -255,15 +255,15 @@ pub data DoneAtEight (old new : Outside) (words : List (List ℕ)) : Type 0 wher
 abbrev pub EightIsShort : Type 0
 EightIsShort = OfEachRun (λ old new words written. written.status ≡ 8 → DoneAtEight old new words)
 
--- and of `charges` the keeper holds what it held, whatever the status
+-- and for `charges` the keeper holds what it held, whatever the status
 abbrev pub ChargesKeep : Type 0
 ChargesKeep = OfEachRun (λ old new words written. (config : List ℕ) → IsCharges config words → new.keeper.held ≡ old.keeper.held)
 
--- no other status comes
+-- no other status occurs
 abbrev pub StatusesAreThese : Type 0
 StatusesAreThese = OfEachRun (λ old new words written. list_any (λ known. known == written.status) (0 ∷ 1 ∷ 2 ∷ 3 ∷ 4 ∷ 5 ∷ 6 ∷ 7 ∷ 8 ∷ []) ≡ true)
 
--- and where none of the counts of the files' faults, of the link's of taking in, of the keeper's and of the sink's rose, it is 0, 1, 2, 3 or 8
+-- and where none of the counts of the files' faults, of the link's arrival faults, of the keeper's and of the sink's rose, it is 0, 1, 2, 3 or 8
 abbrev pub NoFaultNoFailure : Type 0
 NoFaultNoFailure = OfEachRun (λ old new words written.
     (earlier since : ℕ) → CountsAtFive written.status earlier since → ¬ (Rose earlier since) → ¬ (Rose old.link.taking new.link.taking) →

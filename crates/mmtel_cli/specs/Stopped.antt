@@ -1,5 +1,5 @@
--- What had been done where memory ran out (status 8): nothing; or the keeper was bound, migrated and asked for what it holds, and no more; or the link was bound, and no more;
--- or events were taken, and what was given, asked, held and counted is that of those before the last one, and of what the last one makes of it a front.
+-- What had been done where memory ran out (status 8): nothing; or the keeper was bound, migrated and called for what it holds, and no more; or the link was bound, and no more;
+-- or events were received, and the outputs, calls, contents and counts are those of the events before the last one, and a prefix of those of the last one.
 use Rattle.std.specs.Prelude.{◌≡◌, ◌≤◌, ◌⊎◌, ℕ, List, ◌++◌, length, Option, Some, None, Result, Ok, Err}
 use Rattle.mmtel_directory.specs.Directory.{directory_of}
 use Rattle.mmtel_directory.specs.declared.directories.Directory.{Directory}
@@ -35,22 +35,22 @@ use Rattle.mmtel_cli.specs.Serving.{IsLinked}
 
 -- ---- the keeper
 
--- where memory ran out in the last of these events, or behind it
+-- where memory ran out in the last of these events, or after it
 pub record KeptUpTo (directory : Directory) (token : List ℕ) (loaded : Texts) (happened : List Happened) (old new : KeeperSeen) : Type 0 where
-  -- the keeper was asked what each event before the last asks of it, and was handed the rows that waited at its end, and so answered; of the last one it was asked no more
-  -- than that, and took none of its rows;
+  -- the keeper was called as each event before the last asks, and for the CDRs that waited at its end, with these results; for the last one it was called for no more
+  -- than that, and accepted none of its CDRs;
   pub asked : IsShortRun directory token loaded happened → EachAnswersButLast directory.names happened old new
   pub counted : EachCountedButLast happened old.faults new.faults
-  -- it is bound to where it was, and holds what it held with the uploads that were kept and the rows that it took;
+  -- it is bound to the same path, and holds what it held with the uploads that were stored and the CDRs that it accepted;
   pub bound : IsShortRun directory token loaded happened → IsBoundStill old.calls new.calls
   pub held : IsShortRun directory token loaded happened → HoldsAll directory token loaded happened old.held new.held
-  -- these, and those that wait, are all that the calls and the seats of the run closed
+  -- these, and those that wait, are all that the calls and the participants of the run closed
   pub charged : IsShortRun directory token loaded happened → (fuel : ℕ) → IsEnough directory token loaded fuel happened →
       RowsCharged directory (world_after directory token loaded fuel happened) happened
 
--- ---- of `replay`
+-- ---- for `replay`
 
--- in the run of a script's events, of which so many came, of web connections with the bytes that were read: each was read out but the last, if memory ran out in that
+-- in the run of a script's events, of which so many came, those of web connections with the bytes that were read: each was read to its end but the last, if memory ran out in that
 pub record StoppedRun (directory : Directory) (token : List ℕ) (loaded : Texts) (events : List Event) (old new : KeeperSeen) : Type 0 where
   pub happened : List Happened
   pub reads : List ℕ
@@ -60,32 +60,32 @@ pub record StoppedRun (directory : Directory) (token : List ℕ) (loaded : Texts
   pub read : EachReadOut events reads
   pub kept : KeptUpTo directory token loaded happened old new
 
--- over a keeper that was loaded: before the first event, in the run, or behind it, in listing what was offered
+-- over a keeper that was loaded: before the first event, in the run, or after it, in listing the outputs
 pub data StoppedOver (directory : Directory) (token : List ℕ) (loaded : Texts) (events : List Event) (old new : KeeperSeen) : Type 0 where
   StoppedFirst : new ≡ old → StoppedOver directory token loaded events old new
   StoppedWithin : StoppedRun directory token loaded events old new → StoppedOver directory token loaded events old new
   StoppedBehind : (offers : List Offer) → OffersRun directory token loaded events old new offers → StoppedOver directory token loaded events old new
 
--- the keeper was bound to the store of the configuration, migrated, and gave these texts
+-- the keeper was bound to the store of the configuration, migrated, and returned these texts
 pub record StoppedLoaded (directory : Directory) (token : List ℕ) (events : List Event) (old new : KeeperSeen) : Type 0 where
   pub loaded : Texts
   pub opening : KeeperSeen
   pub opened : IsLoaded directory.store loaded old opening
   pub over : StoppedOver directory token loaded events opening new
 
--- before the keeper was asked anything, in opening it, or behind that
+-- before the keeper was called, in opening it, or after that
 pub data StoppedReplay (directory : Directory) (token : List ℕ) (events : List Event) (old new : KeeperSeen) : Type 0 where
   StoppedReading : new ≡ old → StoppedReplay directory token events old new
   StoppedOpening : IsOnlyOpened directory.store old new → StoppedReplay directory token events old new
   StoppedRunning : StoppedLoaded directory token events old new → StoppedReplay directory token events old new
 
--- ---- of `charges`
+-- ---- for `charges`
 
--- before the keeper was asked anything; or it was bound and asked for its rows, and no more
+-- before the keeper was called; or it was bound and called for its CDRs, and no more
 abbrev pub StoppedRows : (store : List ℕ) → (old new : KeeperSeen) → Type 0
 StoppedRows store old new = (new ≡ old) ⊎ IsOnlyAsked store old new
 
--- ---- by what is due, where no link is asked
+-- ---- by the report that is due, where the link is not called
 
 abbrev pub HasStopped : (old new : KeeperSeen) → Due → Type 0
 HasStopped old new due.Usage = new ≡ old
@@ -97,9 +97,9 @@ HasStopped old new (due.Work calls salt directory) = new ≡ old
 HasStopped old new due.Sound = new ≡ old
 HasStopped old new (due.Unsound line) = new ≡ old
 
--- ---- of `serve`
+-- ---- for `serve`
 
--- of what is offered in the run in which this happened the link was given all up to the last event, and of what the last one adds a front, where it tells that
+-- of the outputs of the run with these events the link got all up to the last event, and a prefix of what the last one adds, where it exposes that
 pub record GaveUpToLast (directory : Directory) (token : List ℕ) (loaded : Texts) (happened : List Happened) (fuel : ℕ) (old new : Option Given) : Type 0 where
   pub done : List Happened
   pub last : List Happened
@@ -109,31 +109,31 @@ pub record GaveUpToLast (directory : Directory) (token : List ℕ) (loaded : Tex
   pub front : IsCut (gives directory token loaded fuel done) offers (gives directory token loaded fuel happened)
   pub gave : Gave directory.peers.known offers old new
 
--- in taking in what comes next, in doing an event, or in giving what it makes the server offer
+-- in receiving the next event, in processing an event, or in passing its outputs
 pub record StoppedServing (directory : Directory) (token : List ℕ) (loaded : Texts) (turns : ℕ) (old new : Outside) : Type 0 where
-  -- these events came, one a turn; of web connections with the bytes that were read,
+  -- these events came, one a turn; those of web connections with the bytes that were read,
   pub happened : List Happened
   pub heard : HeardMore old.link.ear new.link.ear (events_in happened)
   pub read : ReadsButLast old.link.ear new.link.ear old.link.given new.link.given old.link.giving new.link.giving
   pub ends : length happened ≤ turns
-  -- the link is bound to where it was, its count of taking in stands, and something was lost only where that of giving out rose;
+  -- the link is bound to the same addresses, its count of arrival faults is unchanged, and something was lost only where that of delivery faults rose;
   pub listens : ListensStill old.link.calls new.link.calls
   pub taking : new.link.taking ≡ old.link.taking
   pub lost : LostNoMore old.link.given new.link.given ⊎ Rose old.link.giving new.link.giving
   pub giving : StandsOrRose old.link.giving new.link.giving
-  -- it was given what is due but for the end, so what was sent to the address of an untrusted peer is a front of what keeps the secret of restricted callers,
+  -- it got what is due but for the end, so what was sent to the address of an untrusted peer is a prefix of that for which noninterference holds,
   pub gave : IsShortRun directory token loaded happened → (fuel : ℕ) → IsEnough directory token loaded fuel happened →
       GaveUpToLast directory token loaded happened fuel old.link.given new.link.given
   pub secret : IsShortRun directory token loaded happened → (offers : List Offer) × SeesAlike directory token loaded happened offers
       × ((seer : Peer) (addr : Addr) → addr_of seer directory.peers.known ≡ Some addr →
       (front : List (List ℕ)) × (rest : List (List ℕ)) × (front ++ rest ≡ texts_seen seer offers) × SentTo addr old.link.given new.link.given front)
-  -- so it is of the keeper; and each call came to its outcome, each seat that was left was charged once, and what was offered has its own lines
+  -- the same for the keeper; and each call has its outcome, each participant that left was charged once, and what was sent has no injected header fields
   pub kept : KeptUpTo directory token loaded happened old.keeper new.keeper
   pub outcome : IsShortRun directory token loaded happened → CallsComeToOutcome directory token loaded happened
   pub seats : IsShortRun directory token loaded happened → SeatsAreChargedOnce directory token loaded happened
   pub clean : IsShortRun directory token loaded happened → SendsCleanMessages directory token loaded happened
 
--- the keeper was bound to the store of the configuration, migrated, and gave these texts, and then the link was bound to its addresses
+-- the keeper was bound to the store of the configuration, migrated, and returned these texts, and then the link was bound to its addresses
 pub record StoppedLinked (directory : Directory) (token : List ℕ) (turns : ℕ) (old new : Outside) : Type 0 where
   pub loaded : Texts
   pub ready : Outside
@@ -142,19 +142,19 @@ pub record StoppedLinked (directory : Directory) (token : List ℕ) (turns : ℕ
   pub serving : StoppedServing directory token loaded turns ready new
   pub branches : BranchesAreRead directory token
 
--- before anything was asked of the keeper and the link; in opening the keeper; behind binding the link; or in serving it
+-- before the keeper and the link were called; in opening the keeper; after binding the link; or in serving it
 pub data StoppedServe (directory : Directory) (token : List ℕ) (turns : ℕ) (old new : Outside) : Type 0 where
   UnservedReading : new.keeper ≡ old.keeper → new.link ≡ old.link → StoppedServe directory token turns old new
   UnservedOpening : IsOnlyOpened directory.store old.keeper new.keeper → new.link ≡ old.link → StoppedServe directory token turns old new
   UnservedListening : (loaded : Texts) → IsLoaded directory.store loaded old.keeper new.keeper → IsLinked directory old.link new.link → StoppedServe directory token turns old new
   UnservedServing : StoppedLinked directory token turns old new → StoppedServe directory token turns old new
 
--- once the configuration was read
+-- once the configuration was parsed
 abbrev pub StopsServing : Result Directory ℕ → (token : List ℕ) → (turns : ℕ) → (old new : Outside) → Type 0
 StopsServing (Ok directory) token turns old new = StoppedServe directory token turns old new
 StopsServing (Err line) token turns old new = (new.keeper ≡ old.keeper) × (new.link ≡ old.link)
 
--- once it was asked for
+-- once it was read, or could not be
 abbrev pub StopsOfServe : Option (List ℕ) → (token : List ℕ) → (turns : ℕ) → (old new : Outside) → Type 0
 StopsOfServe None token turns old new = (new.keeper ≡ old.keeper) × (new.link ≡ old.link)
 StopsOfServe (Some config) token turns old new = StopsServing (directory_of config) token turns old new

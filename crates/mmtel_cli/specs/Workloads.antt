@@ -1,4 +1,4 @@
--- What a workload comes to: a server hears the calls of a rule, which are known by their number and a salt, over a keeper in memory, and what it offered and what was charged is
+-- The effect of a workload: a server processes the calls of a rule, which are determined by their number and a salt, over a keeper in memory, and its outputs and its CDRs are
 -- counted.
 use Rattle.std.specs.Prelude.{◌≡◌, ℕ, ◌+◌, true, List, [], ◌∷◌, ◌++◌, length, map, Some, None, codes, decimal}
 use Rattle.mmtel_charging.specs.declared.rows.Kind.{Kind}
@@ -38,7 +38,7 @@ work_loaded = (record { 0 = 3 }, codes "[communication-diversion]\nactive = true
 abbrev pub nothing_held : Held
 nothing_held = record { sheets = []; rows = [] }
 
--- how many rows are of a diversion
+-- how many CDRs are of a diversion
 abbrev pub diversions_in : List Row → ℕ
 diversions_in [] = 0
 diversions_in (row ∷ rows) = of_kind row.kind (diversions_in rows)
@@ -49,7 +49,7 @@ diversions_in (row ∷ rows) = of_kind row.kind (diversions_in rows)
     of_kind Diversion count = 1 + count
     of_kind Participant count = count
 
--- a line of a name and a number behind a text
+-- a line with a name and a number, after a text
 abbrev pub with_line : (text name : List ℕ) → ℕ → List ℕ
 with_line text name number = ((text ++ name) ++ decimal number) ++ codes "\n"
 
@@ -62,26 +62,26 @@ work_text calls offers rows diverted =
 abbrev pub keeper_of : Held → KeeperSeen
 keeper_of held = record { held = Some held; calls = None; faults = 0 }
 
--- an event happened in which nothing was asked of the keeper, and it took the charging rows that waited at its end
+-- the record of an event in which the keeper was not called, and at whose end it accepted the CDRs that waited
 abbrev pub taken : Event → Happened
 taken event = record { event = event; kept = made; rows = []; took = true }
 
--- what happens in the run of so many calls by the salt
+-- the events of the run of so many calls by the salt
 abbrev pub work_happened : (calls salt : ℕ) → List Happened
 work_happened calls salt = map taken (work_events calls salt)
 
--- the text counts what a server offered in that run, and what the keeper holds then of the rows of its calls. Where the run is short this is what the definitions of the run
--- give, so the numbers are known from the configuration, the number of calls and the salt
+-- the text has the numbers of the outputs of a server in that run, and of the CDRs that the keeper holds then. Where the run is short these are those of the definitions of
+-- the run, so the numbers are determined by the configuration, the number of calls and the salt
 pub record Counts (directory : Directory) (calls salt : ℕ) (text : List ℕ) : Type 0 where
   pub held : Held
   pub offers : List Offer
-  -- the offers are exactly those of the run,
+  -- the outputs are exactly those of the run,
   pub exact : IsShortRun directory work_token work_loaded (work_happened calls salt) → Gives directory work_token work_loaded (work_happened calls salt) offers
-  -- the rows are exactly those that it files,
+  -- the CDRs are exactly those that it files,
   pub rows : IsShortRun directory work_token work_loaded (work_happened calls salt) → (fuel : ℕ) →
       IsEnough directory work_token work_loaded fuel (work_happened calls salt) →
       held.rows ≡ (world_after directory work_token work_loaded fuel (work_happened calls salt)).filed
-  -- what is so of each run is so of this one: the secret of restricted callers, the keeper and the charging rows,
+  -- what holds for each run holds for this one: noninterference for restricted callers, the keeper and the CDRs,
   pub run : OffersRun directory work_token work_loaded (work_events calls salt) (keeper_of nothing_held) (keeper_of held) offers
   -- and they are counted
   pub counted : text ≡ work_text calls (length offers) (length held.rows) (diversions_in held.rows)

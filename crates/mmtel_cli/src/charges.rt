@@ -1,4 +1,4 @@
-//! Writing the charging rows that a keeper holds.
+//! Writing the CDRs that a keeper holds.
 ghost use Rattle.std.specs.Prelude.{◌≡◌, ◌≢◌, IfOk, IfSome, IsErrOf, Some};
 ghost use Rattle.mmtel_cli.specs.Due as due;
 ghost use Rattle.mmtel_cli.specs.Due.{due_of_charges};
@@ -18,7 +18,7 @@ use mmtel_reports::Report;
 use mmtel_scan::{List, Text};
 use std::alloc::Global;
 
-/// Binds a keeper to the place of that name, and asks for the rows that it holds there.
+/// Binds a keeper to the store of that name, and reads the CDRs that it holds there.
 fn rows_kept<K: Keeper>(alloc: Global, keeper: &mut K, store: &[u8]) -> Result<List<Row>, KeepFault>
     ensures given { IfOk result (λ rows.
         GivesRows store.now rows (keeper_seen K.Keeper keeper.old) (keeper_seen K.Keeper keeper.new)) }
@@ -32,7 +32,7 @@ fn rows_kept<K: Keeper>(alloc: Global, keeper: &mut K, store: &[u8]) -> Result<L
     keeper.rows(alloc)
 }
 
-/// The text of the rows that a keeper holds at the place of that name.
+/// The text of the CDRs that a keeper holds in the store of that name.
 fn rows_listed<K: Keeper>(alloc: Global, keeper: &mut K, store: &[u8]) -> Result<Text, KeepFault>
     ensures lists { IfOk result (λ text.
         ListsRows store.now (keeper_seen K.Keeper keeper.old) (keeper_seen K.Keeper keeper.new) text) }
@@ -47,7 +47,7 @@ fn rows_listed<K: Keeper>(alloc: Global, keeper: &mut K, store: &[u8]) -> Result
     Ok(text)
 }
 
-/// What is due over the store of that name.
+/// The report for the store of that name.
 fn over_store<K: Keeper>(alloc: Global, keeper: &mut K, store: &[u8]) -> Report
     ensures due { IsDue (keeper_seen K.Keeper keeper.old) (keeper_seen K.Keeper keeper.new)
         result (due.Rows store.now) }
@@ -62,7 +62,7 @@ fn over_store<K: Keeper>(alloc: Global, keeper: &mut K, store: &[u8]) -> Report
     }
 }
 
-/// What is due once the configuration's text is there.
+/// The report once the configuration's text was read.
 fn over_text<K: Keeper>(alloc: Global, config: &Text, keeper: &mut K) -> Report
     ensures due { IsDue (keeper_seen K.Keeper keeper.old) (keeper_seen K.Keeper keeper.new)
         result (due_of_charges (Some config.now)) }
@@ -81,7 +81,7 @@ fn over_text<K: Keeper>(alloc: Global, config: &Text, keeper: &mut K) -> Report
     }
 }
 
-/// What is due of `charges`. The next call of the files is for the configuration.
+/// The report of `charges`. The next call of the files is for the configuration.
 pub fn over_charges<F: Files, K: Keeper>(
     alloc: Global,
     config: &[u8],

@@ -12,7 +12,7 @@ use mmtel_scan::{NoMemory, Text};
 use mmtel_uploads::{Upload, upload_of};
 use std::alloc::Global;
 
-/// What is due of a text that is checked.
+/// The report for a text that is checked.
 fn over_text(alloc: Global, text: &Text) -> Report
     ensures due { (keeper : KeeperSeen) → IsDue keeper keeper result (due_of_records (Some text.now)) }
     ensures read { IsRead result }
@@ -27,7 +27,7 @@ fn over_text(alloc: Global, text: &Text) -> Report
     }
 }
 
-/// What is due of the file of this name. The next call is for it.
+/// The report for the file of this name. The next call is for it.
 pub fn over_records<F: Files>(alloc: Global, records: &[u8], files: &mut F) -> Report
     ensures gives { GivesRecords (F.told files.old) records.now result }
     ensures calls { IfSome (F.told files.old) (λ shelf. F.told files.new ≡ Some (called shelf)) }

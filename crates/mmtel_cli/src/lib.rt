@@ -1,4 +1,4 @@
-//! The program's work: the words of its command line, what is due to be written, and how it runs over what lies outside.
+//! The program's work: its command-line arguments, the reports that it writes, and how it runs over files, a link, a keeper and a sink.
 #![tactic(auto)]
 
 mod charges;

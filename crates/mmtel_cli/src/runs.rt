@@ -24,7 +24,7 @@ use mmtel_types::Account;
 use std::alloc::Global;
 use std::sync::ledger::Ledger;
 
-/// Binds a keeper to the place of that name, has its old records give way to new ones, and loads what it holds there.
+/// Binds a keeper to the store of that name, has its records of the first version replaced by new ones, and loads what it holds there.
 pub fn open<K: Keeper>(
     alloc: Global,
     keeper: &mut K,
@@ -42,7 +42,7 @@ pub fn open<K: Keeper>(
     keeper.load(alloc)
 }
 
-/// Drives the server over a link of so many events, none of whose calls fails, with a turn for each of them and one for the end.
+/// Drives the server over a link with so many events, none of whose calls fails, with a turn for each of them and one for the end.
 fn drive_over<L: Link, K: Keeper, C: Ledger>(
     alloc: Global,
     server: &mut Server,
@@ -73,7 +73,7 @@ fn drive_over<L: Link, K: Keeper, C: Ledger>(
     }
 }
 
-/// What a server of this configuration offers over these texts in the run of the events of a link, of which there are so many. No call of the link fails.
+/// The outputs of a server of this configuration over these texts in the run of the events of a link, of which there are so many. No call of the link fails.
 pub fn offered<L: Link, K: Keeper, C: Ledger>(
     alloc: Global,
     directory: Directory,
@@ -108,7 +108,7 @@ pub fn offered<L: Link, K: Keeper, C: Ledger>(
     Ok(out)
 }
 
-/// The listing of what it offers then.
+/// The listing of those outputs.
 fn listed_over<K: Keeper, C: Ledger>(
     alloc: Global,
     directory: Directory,
@@ -132,12 +132,12 @@ fn listed_over<K: Keeper, C: Ledger>(
     listing(alloc, &offers)
 }
 
-/// The listing of what a server of this configuration offers in the run of a script's events over a keeper, which is bound to the store of the configuration, migrated
+/// The listing of the outputs of a server of this configuration in the run of a script's events over a keeper, which is bound to the store of the configuration, migrated
 /// and loaded first. `token` begins the identifiers that the server draws.
 ///
 /// # Errors
 ///
-/// `Failed` where the keeper could not be bound, not be migrated or not be loaded, and else want of memory alone.
+/// `Failed` where the keeper could not be bound, migrated or loaded, and else out of memory alone.
 pub fn listed<K: Keeper, C: Ledger>(
     alloc: Global,
     directory: Directory,

@@ -26,7 +26,7 @@ use mmtel_words::Serve;
 use std::alloc::Global;
 use std::sync::ledger::Ledger;
 
-/// Binds a link to the addresses of the configuration: that for datagrams and that for web connections.
+/// Binds a link to the addresses of the configuration: the one for datagrams and the one for web connections.
 fn listen<L: Link>(directory: &Directory, link: &mut L) -> Result<(), Failed>
     ensures linked { OnOk result (IsLinked directory.now (link_seen L.Link link.old) (link_seen L.Link link.new)) }
     ensures failed { OnErr result (IsNotLinked directory.now (link_seen L.Link link.old) (link_seen L.Link link.new)) }
@@ -34,7 +34,7 @@ fn listen<L: Link>(directory: &Directory, link: &mut L) -> Result<(), Failed>
     link.bind(directory.sip, directory.web)
 }
 
-/// What is due once so many turns were made, the link was closed, or one failed: of a server of this configuration that was just made, over a link that was bound and a keeper
+/// The report once so many turns were done, the link was closed, or a turn failed: for a server of this configuration that was just made, over a link that was bound and a keeper
 /// that was loaded.
 fn over_server<L: Link, K: Keeper, C: Ledger>(
     alloc: Global,
@@ -58,7 +58,7 @@ fn over_server<L: Link, K: Keeper, C: Ledger>(
     }
 }
 
-/// What is due once the link was bound: a server of the configuration hears it.
+/// The report once the link was bound: a server of the configuration serves it.
 fn over_link<L: Link, K: Keeper, C: Ledger>(
     alloc: Global,
     directory: Directory,
@@ -91,7 +91,7 @@ fn over_link<L: Link, K: Keeper, C: Ledger>(
     }
 }
 
-/// What is due once the keeper was loaded: the link is bound to the addresses of the configuration.
+/// The report once the keeper was loaded: the link is bound to the addresses of the configuration.
 fn over_loaded<L: Link, K: Keeper, C: Ledger>(
     alloc: Global,
     directory: Directory,
@@ -119,7 +119,7 @@ fn over_loaded<L: Link, K: Keeper, C: Ledger>(
     }
 }
 
-/// What is due once the configuration was read: the keeper is bound to its store, migrated and loaded, the link is bound to its addresses, and then the turns are made.
+/// The report once the configuration was read: the keeper is bound to its store, migrated and loaded, the link is bound to its addresses, and then the turns are done.
 fn over_directory<L: Link, K: Keeper, C: Ledger>(
     alloc: Global,
     directory: Directory,
@@ -155,7 +155,7 @@ fn over_directory<L: Link, K: Keeper, C: Ledger>(
     }
 }
 
-/// What is due once the configuration's text is there.
+/// The report once the configuration's text was read.
 fn over_config<L: Link, K: Keeper, C: Ledger>(
     alloc: Global,
     asked: Serve,
@@ -184,7 +184,7 @@ fn over_config<L: Link, K: Keeper, C: Ledger>(
     }
 }
 
-/// What is due of `serve`. The next call of the files is for the configuration.
+/// The report of `serve`. The next call of the files is for the configuration.
 pub fn over_serve<F: Files, L: Link, K: Keeper, C: Ledger>(
     alloc: Global,
     asked: Serve,

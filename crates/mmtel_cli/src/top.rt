@@ -1,4 +1,4 @@
-//! The top call.
+//! The top-level function.
 ghost use Rattle.std.specs.Prelude.{◌≡◌, ◌<◌, ◌≤◌, ◌≢◌, IfSome, Ok, Some};
 ghost use Rattle.std.specs.Process.{exit_status};
 ghost use Rattle.mmtel_cli.specs.Asks.{asked_by};
@@ -43,7 +43,7 @@ use std::marker::Brand;
 use std::process::ExitCode;
 use std::sync::ledger::{Blank, Ledger};
 
-/// What is due once both files were read and the script's grammar holds.
+/// The report once both files were read and the script is grammatical.
 fn over_events<K: Keeper, C: Ledger>(
     alloc: Global,
     directory: Directory,
@@ -66,7 +66,7 @@ fn over_events<K: Keeper, C: Ledger>(
     }
 }
 
-/// What is due once both files were read.
+/// The report once both files were read.
 fn over_script<K: Keeper, C: Ledger>(
     alloc: Global,
     directory: Directory,
@@ -98,7 +98,7 @@ fn over_script<K: Keeper, C: Ledger>(
     }
 }
 
-/// What is due once the configuration was read. The next call is for the script.
+/// The report once the configuration was read. The next call is for the script.
 fn over_directory<F: Files, K: Keeper, C: Ledger>(
     alloc: Global,
     replay: Replay,
@@ -142,7 +142,7 @@ fn over_directory<F: Files, K: Keeper, C: Ledger>(
     }
 }
 
-/// What is due once the configuration's text is there. The next call, if any, is for the script.
+/// The report once the configuration's text was read. The next call, if any, is for the script.
 fn over_config<F: Files, K: Keeper, C: Ledger>(
     alloc: Global,
     replay: Replay,
@@ -172,7 +172,7 @@ fn over_config<F: Files, K: Keeper, C: Ledger>(
     }
 }
 
-/// What is due over the files of a `replay`. The next call is for the configuration.
+/// The report over the files of a `replay`. The next call is for the configuration.
 fn over_replay<F: Files, K: Keeper, C: Ledger>(
     alloc: Global,
     replay: Replay,
@@ -205,7 +205,7 @@ fn over_replay<F: Files, K: Keeper, C: Ledger>(
     }
 }
 
-/// What is due of what is wanted, over these files, this link and this keeper.
+/// The report of this command, over these files, this link and this keeper.
 fn over_wanted<F: Files, L: Link, K: Keeper, C: Ledger>(
     alloc: Global,
     wanted: Wanted,
@@ -235,7 +235,7 @@ fn over_wanted<F: Files, L: Link, K: Keeper, C: Ledger>(
     }
 }
 
-/// What is due by these words over these files, this link and this keeper; the counter of steps begins here.
+/// The report of the command of these arguments, over these files, this link and this keeper; the counter of steps starts at 0 here.
 fn prepare<F: Files, L: Link, K: Keeper, C: Ledger>(
     alloc: Global,
     words: &[Text],
@@ -261,21 +261,21 @@ fn prepare<F: Files, L: Link, K: Keeper, C: Ledger>(
     }
 }
 
-/// Runs the command that the words ask for over these files, this link and this keeper, writes what is due to the sink, and answers the status.
+/// Runs the command of these arguments over these files, this link and this keeper, writes its report to the sink, and returns the status.
 ///
-/// `words` are those behind the program's own name. There are five commands. `serve CONFIG --token T --turns N` reads the configuration once, binds the keeper to its store,
-/// has it put records of the second version in the place of those of the first, and loads it, each once, binds the link to its addresses, and then hears the link, in at most
-/// N turns, and gives it what the server offers then; records that are uploaded are kept by the keeper, and the charging rows of its calls and rooms are handed to it; it
+/// `words` are the arguments after the program's own name. There are five commands. `serve CONFIG --token T --turns N` reads the configuration once, binds the keeper to its store,
+/// has it replace its records of the first version by records of the second, and loads it, each once, binds the link to its addresses, and then receives from the link, in at most
+/// N turns, and passes the server's outputs to it; records that are uploaded are stored by the keeper, and the CDRs of calls and conferences are handed to it; it
 /// writes nothing. `replay CONFIG SCRIPT --token T` reads the configuration and then the script, each once, binds the keeper to the store of the configuration, has its old
-/// records replaced so and loads it, each once, and writes the listing of what the server offers in the script's run, with records and rows as there. `check RECORDS` reads
-/// that file once, and writes `ok` where it is a service record, and else the line that tells its first fault. `charges CONFIG` reads the configuration once, binds the keeper
-/// to its store and asks for its rows, each once, and writes them as comma-separated values with a header line. `workload --calls N --salt S` makes N calls by a rule over a
-/// link and a keeper in memory, and writes how many they were, how much the server offered, and how many rows the keeper holds and how many of them are of a diversion. The
-/// status is 0 where the turns were made or the link was closed, or the listing, `ok`, the rows or the numbers were written whole, 1 where the words are not of the grammar
-/// (`usage`), 2 where the configuration, or else the script, breaks its grammar (`line N`), 3 where the file that is checked is no service record (`not toml`, `unknown KEY`,
-/// `wrong KEY` or `many KEY LIMIT`), 4 where the link cannot be bound, or not take in what comes next (`link`), 5 where the configuration, or else the script, or the file
-/// that is checked cannot be read (`file`), 6 where the keeper cannot be bound, or not replace its old records, not be loaded or not give its rows (`keeper`), 7 where the
-/// sink failed before that was whole, and 8 for want of memory (`memory`).
+/// records replaced so and loads it, each once, and writes the listing of the server's outputs in the script's run, with records and CDRs as above. `check RECORDS` reads
+/// that file once, and writes `ok` where it is a service record, and else the line of its first fault. `charges CONFIG` reads the configuration once, binds the keeper
+/// to its store and reads its CDRs, each once, and writes them as comma-separated values with a header line. `workload --calls N --salt S` makes N calls by a rule over a
+/// link and a keeper in memory, and writes their number, the number of the server's outputs, and how many CDRs the keeper holds and how many of them are of a diversion. The
+/// status is 0 where the turns were done or the link was closed, or the listing, `ok`, the CDRs or the numbers were written whole, 1 where the arguments are not of the grammar
+/// (`usage`), 2 where the configuration, or else the script, is not of its grammar (`line N`), 3 where the file that is checked is no service record (`not toml`, `unknown KEY`,
+/// `wrong KEY` or `many KEY LIMIT`), 4 where the link cannot be bound, or failed to receive the next event (`link`), 5 where the configuration, or else the script, or the file
+/// that is checked cannot be read (`file`), 6 where the keeper cannot be bound, or cannot replace its old records, be loaded or read its CDRs (`keeper`), 7 where the
+/// sink failed before that was whole, and 8 where memory ran out (`memory`).
 pub fn run<F: Files, L: Link, K: Keeper, S: Sink>(
     alloc: Global,
     words: &[Text],
@@ -284,30 +284,30 @@ pub fn run<F: Files, L: Link, K: Keeper, S: Sink>(
     keeper: &mut K,
     out: &mut S,
 ) -> u8
-    // What was written and answered: by the words as their grammar spells them, which are of one command at most, and by what the files answered. Of `serve` and `replay`: the
-    // link was given, or the listing has, exactly the offers that the definitions of the run give over what the keeper gave, which is what it held with each record of the
-    // first version replaced by one of the second that says the same; these keep the secret of restricted callers, with what the keeper holds then, the charging rows of the
-    // calls and of the seats of conference rooms, and what each call came to; or the keeper could not be bound to the store of the configuration, not replace its old records
-    // or not be loaded; or the link could not be bound or not take in what comes next. Of the others: what a text that was checked is; the text of exactly the charging rows
-    // that the keeper gave, or that it could not be bound or not give them; the numbers of exactly what a server makes of so many calls by the salt, whose messages are known
-    // from these two. Or it is the text of another status; and where memory ran out, what had been done by then: of the last event a front at most.
+    // The report and the status: by the arguments and their grammar, by which they are one command at most, and by the results of the files. Of `serve` and `replay`: the link
+    // got, or the listing has, exactly the outputs that the definitions of the run give over the records that the keeper returned, which are what it held with each record of the
+    // first version replaced by an equivalent one of the second; noninterference holds for them, with what the keeper holds then, the CDRs of the calls and of the
+    // participants of conferences, and the outcome of each call; or the keeper could not be bound to the store of the configuration, replace its old records
+    // or be loaded; or the link could not be bound or failed to receive. Of the others: whether a text that was checked is a record; the text of exactly the CDRs
+    // that the keeper returned, or that it could not be bound or read; the numbers for exactly the outputs of a server for so many calls by the salt, whose messages are determined
+    // by these two. Or it is the text of another status; and where memory ran out, what had been done by then: of the last event a prefix at most.
     ensures ran { Ran (F.told files.old)
         (outside_seen L.Link link.old K.Keeper keeper.old) (outside_seen L.Link link.new K.Keeper keeper.new)
         words.now (written_by S.Sink result out.old out.new) }
-    // By those definitions a 422 of the server's own is offered to an INVITE or UPDATE whose session is too short, and to nothing else, and nothing else is done with that.
+    // By those definitions the server itself sends a 422 to an INVITE or UPDATE whose session is too short, and to nothing else, and that request has no other effect.
     ensures sessions { ShortSessionsAreRefused }
-    // By those definitions each request of the server's own is of a call, of a conference room, or a NOTIFY to the trusted peer of a subscription that lives, with the summary of
-    // what the last accepted upload said of its mailbox; and a SUBSCRIBE of a peer that is not trusted has a refusal.
+    // By those definitions each request of the server's own is of a call, of a conference, or a NOTIFY to the trusted peer of a live subscription, with the summary of
+    // the last accepted upload of its mailbox; and a SUBSCRIBE of a peer that is not trusted is refused.
     ensures mailboxes { MailboxesAreToldToTheirSubscribers }
-    // What was asked of the files.
+    // Which calls of the files were made.
     ensures calls { IfSome (F.told files.old) (λ shelf. CalledFor shelf words.now result (F.told files.new)) }
-    // When the count of their faults rose.
+    // When the count of the files' faults rose.
     ensures files { CountsAtFive result (F.faults files.old) (F.faults files.new) }
-    // Where nothing was asked of the keeper.
+    // When the keeper was not called.
     ensures keeper { IsSpared words.now result keeper.old keeper.new }
-    // Where nothing was asked of the link.
+    // When the link was not called.
     ensures link { IsUnbound words.now result link.old link.new }
-    // When the count of its faults of taking in rose.
+    // When the count of the link's arrival faults rose.
     ensures taking { CountsAtFour result (L.taking link.old) (L.taking link.new) }
 {
     calls_of_runs_come_to_their_outcome();
@@ -333,7 +333,7 @@ pub fn program<F: Files, L: Link, K: Keeper, S: Sink>(
     keeper: &mut K,
     out: &mut S,
 ) -> ExitCode
-    // So it is of the status that the process ends with.
+    // The same for the status that the process exits with.
     ensures ran { Ran (F.told files.old)
         (outside_seen L.Link link.old K.Keeper keeper.old) (outside_seen L.Link link.new K.Keeper keeper.new)
         words.now (written_by S.Sink (exit_status result) out.old out.new) }

@@ -1,4 +1,4 @@
--- Owners by ascending numbers: the place of a number is found by halving, or where the one before it is lower and the one at it is not.
+-- Owners by ascending numbers: the position of a number is found by halving, or where the one before it is lower and the one at it is not.
 use Rattle.std.proofs.Common.{◌≡◌, ℕ, zero, suc, ◌-◌, ◌<◌, ◌≤◌, Bool, true, false, cond, List, [], ◌∷◌, length, get_or, Some, None, refl, sym, ap, ◌∙◌, arith, inl, inr, take}
 use Rattle.std.proofs.lemmas.Bool.Decides.{nat_tests}
 use Rattle.std.proofs.lemmas.Bool.{cases_lt}

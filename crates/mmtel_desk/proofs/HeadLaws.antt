@@ -1,4 +1,4 @@
--- Methods that the server sends are tokens, and nothing shown brings no line.
+-- Methods that the server sends are tokens, and an empty list of shown lines adds no line.
 use Rattle.std.proofs.Common.{ℕ, arith, codes, refl}
 use Rattle.mmtel_scan.specs.Classes.{in_class}
 use Rattle.mmtel_lex.specs.Grammar.{IsToken}
@@ -16,7 +16,7 @@ pub cancel_token : IsToken (codes "CANCEL")
 unfolding in_class
 cancel_token = record { filled = omega arith; each = refl }
 
--- what brings nothing can be sent where anything can
+-- a request without added lines can be sent where any can
 pub bare_too : (d : Dialogue) (number : ℕ) (given : Given) (from to : NameAddr) → CanBeSent d number given from to → CanBeSent d number (bare given.sip given.branch) from to
 bare_too d number given from to can = record {
   from_read = can.from_read;

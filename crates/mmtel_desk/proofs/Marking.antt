@@ -1,4 +1,4 @@
--- The index, through each change: each call, or each room, is found by each of its marks.
+-- The index, through each change: each call, or each conference, is found by each of its marks.
 use Rattle.std.proofs.Common.{◌≡◌, ℕ, zero, suc, ◌+◌, ◌<◌, ◌≤◌, Bool, true, false, not, cond, List, [], ◌∷◌, ◌++◌}
 use Rattle.std.proofs.Common.{length, get_or, Option, Some, None, refl, sym, ap, ◌∙◌, subst, arith, inl, inr, ◌⊎◌, drop, take}
 use Rattle.std.proofs.lemmas.Bool.{and_from, and_parts, eq-eqb, eqb-true}
@@ -115,11 +115,11 @@ module _ (m : Mark) (n : ℕ) (first : Key) where
       (subst (λ (t : ℕ). UpTo first.kind first.told first.owner (key_of m n).kind t n) (told_same m n)
       (subst (λ (c : ℕ). UpTo first.kind first.told first.owner (key_of m n).kind (key_of m n).told c) (owner_is m n) b)))
 
--- a key that goes is not held
+-- a key that is to be deleted is not held
 abbrev goes : Index → Key → Bool
 goes index q = list_any (is_same q) index.going.items
 
--- a key is held where one is missing, or where it stands there and does not go
+-- a key is held where one is missing, or where it is in the index and not to be deleted
 held : (index : Index) (q : Key) → (not index.is_whole || (contains key_cmp index.keys q && not (goes index q))) ≡ true → Holds index q
 unfolding holds
 held index q e = e
@@ -128,7 +128,7 @@ held_by : (index : Index) (q : Key) → Holds index q → (not index.is_whole ||
 unfolding holds
 held_by index q e = e
 
--- what the range from a mark on says of the first of it
+-- what the range from a mark on implies for the first of it
 module _ (index : Index) (m : Mark) (whole : index.is_whole ≡ true) (n : ℕ) (there : Holds index (key_of m n)) where
   kept_there : contains key_cmp index.keys (key_of m n) ≡ true
   kept_there = (and_parts (contains key_cmp index.keys (key_of m n)) (not (goes index (key_of m n)))
@@ -144,7 +144,7 @@ module _ (index : Index) (m : Mark) (whole : index.is_whole ≡ true) (n : ℕ) 
       (subst (λ (l : List Key). IfSome (slice_get l 0) (λ k. ((is_gt (key_cmp (key_of m 0) k) ≡ false) × ⊤) × (contains key_cmp index.keys k ≡ true))) is within).0.0
       (subst (λ (l : List Key). IfSome (slice_get l 0) (λ k. is_gt (key_cmp k (key_of m n)) ≡ false)) is (all (key_of m n) (in_reach m n, tt) kept_there))
 
--- ---- a mark is put in, or taken out
+-- ---- a mark is inserted, or removed
 
 then_equal : (o p : Ordering) → ordering_then o p ≡ Equal → p ≡ Equal
 then_equal Less p e = absurd (let f : Less ≡ Equal = e in cc)
@@ -167,7 +167,7 @@ first_equal Less p e = absurd (let f : Less ≡ Equal = e in cc)
 first_equal Equal p e = refl
 first_equal Greater p e = absurd (let f : Greater ≡ Equal = e in cc)
 
--- keys that are one in order are the same
+-- keys that are equal in order are the same
 one_key : (x q : Key) → key_cmp x q ≡ Equal → is_same q x ≡ true
 one_key x q e =
     let rest = then_equal (nat_cmp x.kind q.kind) _ e in
@@ -183,7 +183,7 @@ same_at x q other = go (key_cmp x q) refl
     go Equal e = absurd (let f : true ≡ false = sym (one_key x q e) ∙ other in cc)
     go Greater e = refl
 
--- keys of two owners are two
+-- keys of two owners differ
 owners_differ : (x q : Key) → (q.owner ≡ x.owner → ⊥) → is_same q x ≡ false
 owners_differ x q other = go (is_same q x) refl
   where
@@ -191,7 +191,7 @@ owners_differ x q other = go (is_same q x) refl
     go true e = absurd (other (eqb-true q.owner x.owner (and_parts ((q.kind == x.kind) && (q.told == x.told)) (q.owner == x.owner) e).1))
     go false e = e
 
--- a key does not go where it is not among those that go and not the last of them
+-- a key is not to be deleted where it is neither among those that are nor the last of them
 neither : (a b : Bool) → (a || b) ≡ false → (a ≡ false) × (b ≡ false)
 neither true b e = absurd (let f : true ≡ false = e in cc)
 neither false b e = (refl, e)
@@ -217,7 +217,7 @@ module _ (x : Key) where
   abbrev pub kept_of : List Key → List Key
   kept_of ks = filter (λ k. not (is_same x k)) ks
 
-  -- what goes still where one key goes no more, went before
+  -- what is still to be deleted where one key no longer is, was to be deleted before
   stays_in : (k : Key) (ks : List Key) → list_any (is_same k) ks ≡ false → list_any (is_same k) (kept_of ks) ≡ false
   stays_in k [] e = refl
   stays_in k (y ∷ ks) e = let w = neither (is_same k y) (list_any (is_same k) ks) e in go (is_same x y) w.0 (stays_in k ks w.1)
@@ -234,7 +234,7 @@ module _ (x : Key) where
       go true e rest = rest
       go false e rest = both_not (is_same x y) (list_any (is_same x) (kept_of ks)) e rest
 
--- held on, where what stood there and did not go still does
+-- still held, where what was in the index and not to be deleted still is
 module _ (old new : Index) (whole : new.is_whole ≡ old.is_whole) (q : Key) (stands : contains key_cmp old.keys q ≡ true → goes old q ≡ false → (contains key_cmp new.keys q ≡ true) × (goes new q ≡ false)) where
   held_on : Holds old q → Holds new q
   held_on h = held new q (go old.is_whole new.is_whole whole (held_by old q h))
@@ -258,7 +258,7 @@ either_way : (b : Bool) → cond b true true ≡ true
 either_way false = refl
 either_way true = refl
 
--- what went is taken out
+-- what was to be deleted is deleted
 pub taken_out : (old new : Index) (q : Key) → new.is_whole ≡ old.is_whole → new.going.items ≡ [] → ((k : Key) → contains key_cmp old.keys k ≡ true → goes old k ≡ false → contains key_cmp new.keys k ≡ true) → Holds old q → Holds new q
 taken_out old new q whole gone others h = held_on old new whole q (λ there stays. (others q there stays, ap (list_any (is_same q)) gone)) h
 
@@ -281,7 +281,7 @@ module _ (m : Mark) (n : ℕ) (old new : Index) where
         ap (list_any (is_same q)) stay_on ∙ stays_in (key_of m n) q old.going.items g,
       )) h
 
-  -- a key goes from now on, or is taken out where there is no memory for that
+  -- a key is to be deleted from now on, or is deleted at once where memory runs out
   pub goes_on : (mid : Index) → ((q : Key) → Holds old q → Holds mid q) → new.is_whole ≡ mid.is_whole → new.keys ≡ mid.keys → new.going.items ≡ mid.going.items ++ key_of m n ∷ [] → Written false n (m ∷ []) old new
   goes_on mid before whole same more = record {
     others = λ q other h. held_on mid new whole q (λ e g. (
@@ -346,7 +346,7 @@ flat_more f (y ∷ ys) x = assoc (f y) (flat_map f ys) (f x) ∙ ap (λ l. f y +
     assoc [] ys zs = refl
     assoc (x ∷ xs) ys zs = ap (λ l. x ∷ l) (assoc xs ys zs)
 
--- one more of a list
+-- one more mark of a list
 pub one_written : {X : Type 0} (f : X → List Mark) (s : Bool) (n : ℕ) (xs : List X) (x : X) (i j k : Index) → Written s n (flat_map f xs) i j → Written s n (f x) j k → Written s n (flat_map f (xs ++ x ∷ [])) i k
 one_written f s n xs x i j k a b = subst (λ (l : List Mark). Written s n l i k) (flat_more f xs x) (joined s n (flat_map f xs) (f x) i j k a b)
 
@@ -383,7 +383,7 @@ module _ {X : Type 0} (number : X → ℕ) where
   pushed_ascends low high higher [] x f g a = (omega arith, g)
   pushed_ascends low high higher (z ∷ xs) x f g a = (a.0, pushed_ascends (number z) high higher xs x f g a.1)
 
-  -- each is above what all are
+  -- each is above what all are above
   pub below_at : (low high : ℕ) (xs : List X) (k : ℕ) (x : X) → Ascend number low xs high → slice_get xs k ≡ Some x → low < number x
   below_at low high [] k x a is = absurd (none-some x is)
   below_at low high (z ∷ xs) zero x a is = let f : z ≡ x = same_Some z x is in subst (λ (y : X). low < number y) f a.0
@@ -392,7 +392,7 @@ module _ {X : Type 0} (number : X → ℕ) where
 -- ---- their marks
 
 module _ {X : Type 0} (number : X → ℕ) (marks : X → List Mark) where
-  -- what stays of the owner of this number is not asked; the numbers above it are others
+  -- what stays of the owner of this number does not matter; the numbers above it are others
   module _ (n : ℕ) (i j : Index) (pass : (q : Key) → (q.owner ≡ n → ⊥) → Holds i q → Holds j q) where
     one_stays : (x : X) → (number x ≡ n → ⊥) → HoldsAll i (number x) (marks x) → HoldsAll j (number x) (marks x)
     one_stays x other all m has = pass (key_of m (number x)) (λ same. other (sym (owner_is m (number x)) ∙ same)) (all m has)
@@ -432,7 +432,7 @@ module _ {X : Type 0} (number : X → ℕ) (marks : X → List Mark) where
   same_marked i j [] pass are = tt
   same_marked i j (z ∷ xs) pass are = (λ m has. pass (key_of m (number z)) (are.0 m has), same_marked i j xs pass are.1)
 
-  -- from where on one may have the mark
+  -- the position from which on one may have the mark
   module _ (index : Index) (m : Mark) where
     pub below_unmarked : (n : ℕ) → ((owner : ℕ) → Holds index (key_of m owner) → n ≤ owner) → (xs : List X) (j : ℕ) → AreMarked number marks index xs → AreBelow number n (take j xs) → Unmarked marks m (take j xs)
     below_unmarked n first [] zero are all = tt
@@ -447,7 +447,7 @@ module _ {X : Type 0} (number : X → ℕ) (marks : X → List Mark) where
     all_unmarked none (x ∷ xs) zero are = tt
     all_unmarked none (x ∷ xs) (suc j) are = (λ has. none (number x) (are.0 m has), all_unmarked none xs j are.1)
 
--- ---- the first that passes stands there
+-- ---- the first that passes is there
 
 module _ {X : Type 0} (marks : X → List Mark) (p : X → Bool) where
   passed : (xs : List X) (k : ℕ) → k ≤ length xs → AllByRecursion (λ x. p x ≡ false) (take k xs) → position_or_len p xs ≡ k + position_or_len p (drop k xs)
@@ -504,7 +504,7 @@ module _ {X : Type 0} (marks : X → List Mark) (p : X → Bool) where
       go a true t e = let f : a ≡ n = same_Some a n e in let g : a < length xs = grind (arith, nat_tests) in omega (arith, f, g)
       go a false t e = absurd (none-some n e)
 
-  -- looked for from a place on
+  -- searched from a position on
   module _ (xs : List X) (k : ℕ) (l : k ≤ length xs) (rest : List X) (is : rest ≡ drop k xs) (o : Option ℕ) (found : o ≡ position p rest) where
     pub place_found : (m : Mark) → ((x : X) → p x ≡ true → Has m (marks x)) → Unmarked marks m (take k xs) → (r : Option ℕ) → r ≡ option_map (λ i. k + i) o → r ≡ position p xs
     place_found m law none r e =

@@ -1,4 +1,4 @@
--- What is read of From does not rest on its private place.
+-- What is read of From does not depend on its private place.
 use Rattle.std.proofs.Common.{◌≡◌, ◌∙◌, ◌==◌, ◌+◌, arith, suc, ℕ, Bool, true, false, List, [], ◌∷◌, Option, Some, None, ap, codes, cond, length, map, refl, sym}
 use Rattle.std.specs.Option.{option_map}
 use Rattle.std.specs.Prelude.{count_by}

@@ -1,4 +1,4 @@
--- The heads of what goes out, by which the transactions know it (RFC 3261 §17.1.3, §17.2.3).
+-- The heads of what is sent, by which the transactions identify it (RFC 3261 §17.1.3, §17.2.3).
 use Rattle.std.specs.Prelude.{◌≡◌, ◌<◌, ◌^◌, ℕ, true, Some, List, ◌++◌, length, codes}
 use Rattle.mmtel_leg.specs.Requests.{Given, to_text}
 use Rattle.mmtel_leg.specs.declared.dialogues.Dialogue.{Dialogue}
@@ -12,7 +12,7 @@ use Rattle.mmtel_types.specs.declared.addrs.Addr.{Addr}
 use Rattle.mmtel_transaction.specs.Heads.{param_text}
 use Rattle.mmtel_transaction.specs.declared.heads.Head.{Head}
 
--- the head of a request of the method in a dialog, with this number and this branch behind the cookie, where From and To are read so
+-- the head of a request of the method in a dialog, with this number and this branch after the cookie, where From and To parse as these values
 abbrev pub request_head : Dialogue → (number : ℕ) → (method : List ℕ) → Addr → (branch : List ℕ) → (from to : NameAddr) → Head
 request_head d number method sip branch from to = record {
   is_request = true;
@@ -26,7 +26,7 @@ request_head d number method sip branch from to = record {
   number = number;
 }
 
--- a dialog whose From and To are read so, and of which requests with this number and these parts can be sent
+-- a dialog whose From and To parse as these values, and of which requests with this number and these parts can be sent
 pub record CanBeSent (d : Dialogue) (number : ℕ) (given : Given) (from to : NameAddr) : Type 0 where
   pub from_read : name_addr_of d.local ≡ Some from
   pub to_read : name_addr_of (to_text d.side d.remote d.remote_tag) ≡ Some to

@@ -24,7 +24,7 @@ sent d number branch = record {
   asked = number;
 }
 
--- a response came, by this client transaction
+-- a response was received, by this client transaction
 abbrev pub knows : TKey → Invitation → Invitation
 knows key i = record i { key = Some key }
 
@@ -32,7 +32,7 @@ knows key i = record i { key = Some key }
 abbrev pub has_said : TKey → Invitation → Invitation
 has_said key i = record i { key = Some key; provisional = true }
 
--- a provisional response but 100 that gives a tag makes an early dialog (§12.1.2): what the callee says of itself in it
+-- a provisional response other than 100 with a tag makes an early dialog (§12.1.2): the callee's tag, target and route set in it
 abbrev pub early_said : (code : ℕ) → Remote → Option Remote
 early_said code remote = if nat_lt code 101 || length remote.tag == 0 then None else Some remote
 
@@ -40,11 +40,11 @@ early_said code remote = if nat_lt code 101 || length remote.tag == 0 then None 
 abbrev pub with_early : Option Remote → Invitation → Invitation
 with_early said i = record i { early = option_or i.early said }
 
--- one request more was made in it (§12.2.1.1)
+-- one more request was made in it (§12.2.1.1)
 abbrev pub after_asked : Invitation → Invitation
 after_asked i = record i { asked = next_number i.asked }
 
--- a CANCEL is due where a provisional response came and none was sent (§9.1)
+-- a CANCEL is due where a provisional response was received and none was sent (§9.1)
 abbrev pub is_cancellable : Invitation → Bool
 is_cancellable i = is_cancel_due i.provisional i.cancelled
 
@@ -52,7 +52,7 @@ is_cancellable i = is_cancel_due i.provisional i.cancelled
 abbrev pub once_cancelled : Invitation → Invitation
 once_cancelled i = if is_cancellable i then record i { cancelled = true } else i
 
--- ---- by its client transaction, once a response told it
+-- ---- by its client transaction, once that is known from a response
 
 abbrev pub is_key : TKey → Option TKey → Bool
 is_key key None = false
@@ -61,7 +61,7 @@ is_key key (Some other) = other.0 == key.0
 abbrev pub is_loose_key : TKey → Loose → Bool
 is_loose_key key l = is_key key l.invitation.key
 
--- ---- in a list: what is left without the one at a place, if there is one
+-- ---- in a list: what remains without the one at a position, if there is one
 
 abbrev pub without_at : {A : Type 0} → (at : ℕ) → List A → List A
 without_at at items = take at items ++ drop (at + 1) items

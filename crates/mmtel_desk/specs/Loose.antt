@@ -1,5 +1,5 @@
--- INVITEs that were left before they had a final answer, of calls and of rooms: what is still done about a response to one (RFC 3261 §9.1, §13.2.2.4, §17.1.1.3). A late
--- 2xx makes a dialog that ends at once; a late provisional response lets the CANCEL go; a late refusal has its ACK, and silence has nothing.
+-- INVITEs that were abandoned before they had a final response, of calls and of conferences: what is still done about a response to one (RFC 3261 §9.1, §13.2.2.4, §17.1.1.3). A
+-- late 2xx makes a dialog that ends at once; after a late provisional response the CANCEL is sent; a late refusal gets its ACK, and a timeout causes nothing.
 use Rattle.std.specs.Prelude.{ℕ, nat_lt, Bool, true, if◌then◌else◌, Option, Some, None, List, [], ◌∷◌, ◌++◌, codes, position, slice_get}
 use Rattle.std.specs.Str.{bytes_eq}
 use Rattle.mmtel_answers.specs.Attempts.{called}
@@ -23,7 +23,7 @@ use Rattle.mmtel_desk.specs.declared.invitations.Loose.{Loose}
 abbrev pub is_of : (branch : List ℕ) → Loose → Bool
 is_of branch l = bytes_eq l.invitation.branch branch
 
--- what is left of one after a response, and the desk
+-- what remains of one after a response, and the output
 pub record Rest : Type 0 where
   pub left : Option Loose
   pub desk : Desk
@@ -33,17 +33,17 @@ with_invitation l i = record l { invitation = i }
 
 -- ---- a 2xx
 
--- the dialog of this tag as it stands before: the early one, with what the callee said of itself there and the number of the last request that was made in it (§12.2.1.1), and
--- else what the INVITE began
+-- the dialog of this tag before a 2xx: the early one, with the callee's tag, target and route set in it and the number of the last request that was made in it (§12.2.1.1), and
+-- otherwise the one that the INVITE began
 abbrev pub begun : (early : Option Remote) → (asked : ℕ) → (tag : List ℕ) → Dialogue → Dialogue
 begun None asked tag d = d
 begun (Some said) asked tag d = if bytes_eq said.tag tag then met (record d { own = asked }) said else d
 
--- the dialog that it makes or confirms (§13.2.2.4); of an INVITE in a dialog that stood that dialog itself
+-- the dialog that a 2xx makes or confirms (§13.2.2.4); for an INVITE in a confirmed dialog that dialog itself
 abbrev pub made_from : (within : Bool) → (early : Option Remote) → (asked : ℕ) → Dialogue → Remote → Dialogue
 made_from within early asked d remote = if within then d else met (begun early asked remote.tag (called d)) remote
 
--- the dialog of this 2xx, if it had its BYE before; in a dialog that stood there is but one
+-- the dialog of this 2xx, if it got its BYE before; in a confirmed dialog there is only one
 abbrev pub is_ended : (within : Bool) → (tag : List ℕ) → Dialogue → Bool
 is_ended within tag d = is_of_dialog within d.remote_tag tag
 
@@ -54,7 +54,7 @@ fork_at forks (Some at) = slice_get forks at
 abbrev pub ended_before : Loose → (tag : List ℕ) → Option Dialogue
 ended_before l tag = fork_at l.invitation.forks (position (is_ended l.within tag) l.invitation.forks)
 
--- it has its ACK each time, and its dialog the BYE once
+-- a 2xx gets its ACK each time, and its dialog the BYE once
 abbrev pub acked_again : Addr → Loose → Dialogue → Desk → Rest
 acked_again sip l d desk = record { left = Some l; desk = acked sip d desk }
 
@@ -68,13 +68,13 @@ abbrev pub on_success_in : Addr → Loose → Remote → Option Dialogue → Des
 on_success_in sip l remote (Some d) desk = acked_again sip l d desk
 on_success_in sip l remote None desk = acked_and_ended sip l (made_from l.within l.invitation.early l.invitation.asked l.invitation.dialogue remote) desk
 
--- where the callee says this of itself
+-- where this is the callee's tag, target and route set
 abbrev pub on_success : Addr → Loose → Remote → Desk → Rest
 on_success sip l remote desk = on_success_in sip l remote (ended_before l remote.tag) desk
 
 -- ---- a provisional response
 
--- what it says is kept, where it makes an early dialog
+-- the tag, target and route set in it are kept, where it makes an early dialog
 abbrev pub told_late : TKey → HeardMessage → Loose → Loose
 told_late key m l = with_invitation l (with_early (early_said (status_of m.start) (remote_of Callee m.lines)) (has_said key l.invitation))
 

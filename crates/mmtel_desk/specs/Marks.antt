@@ -1,5 +1,5 @@
--- By what a call or a room is found without asking each: numbers told from the branches of its INVITEs and from the server's tags of its dialogs, and its transactions. Equal
--- ones are told by one number; others may be too, so who finds one by a mark asks it whether it is the one.
+-- The marks by which a call or a conference is found without examining each: hashes of the branches of its INVITEs and of the server's tags of its dialogs, and its transactions.
+-- Equal bytes have equal hashes; others may have the same one too, so an owner that is found by a mark is examined whether it is the right one.
 use Rattle.std.specs.Prelude.{ℕ, ◌≡◌, ◌<◌, ◌≤◌, Bool, true, not, ◌||◌, ◌&&◌, ◌==◌, List, [], ◌∷◌, ◌⊎◌, ⊤}
 use Rattle.std.specs.List.{list_any}
 use Rattle.std.specs.Ordering.{nat_cmp, ordering_then}
@@ -10,7 +10,7 @@ use Rattle.mmtel_desk.specs.declared.marks.Key.{Key}
 use Rattle.mmtel_desk.specs.declared.marks.Mark.{Mark}
 use Rattle.mmtel_desk.specs.declared.marks.Mark.TheVariants.{Asked, Heard, Named, Sent}
 
--- ---- marks as they are kept: by kind, by number, and by the number of their owner
+-- ---- marks as they are kept: by kind, by hash, and by the number of their owner
 
 abbrev pub key_of : Mark → (owner : ℕ) → Key
 key_of (Sent told) owner = record { kind = 0; told = told; owner = owner }
@@ -21,11 +21,11 @@ key_of (Named told) owner = record { kind = 3; told = told; owner = owner }
 abbrev pub key_cmp : Key → Key → Ordering
 key_cmp x y = ordering_then (nat_cmp x.kind y.kind) (ordering_then (nat_cmp x.told y.told) (nat_cmp x.owner y.owner))
 
--- whether two keys are one
+-- whether two keys are equal
 abbrev pub is_same : Key → Key → Bool
 is_same x y = (x.kind == y.kind) && (x.told == y.told) && (x.owner == y.owner)
 
--- a key that stands there is held as long as it does not go; an index that is no longer whole gives none away
+-- a key that is in the index is held as long as it is not to be deleted; an index that is incomplete holds every key
 unfoldable pub holds : Index → Key → Bool
 holds index key = not index.is_whole || (contains key_cmp index.keys key && not (list_any (is_same key) index.going.items))
 
@@ -39,7 +39,7 @@ Has x (y ∷ ys) = (x ≡ y) ⊎ Has x ys
 abbrev pub HoldsAll : Index → (owner : ℕ) → List Mark → Type 0
 HoldsAll index owner marks = (m : Mark) → Has m marks → Holds index (key_of m owner)
 
--- these marks of the owner of this number were put in, or taken out, and those of the others stay
+-- these marks of the owner of this number were inserted, or removed, and those of the others stay
 pub record Written (stays : Bool) (owner : ℕ) (marks : List Mark) (before after : Index) : Type 0 where
   pub others : (k : Key) → (k.owner ≡ owner → ⊥) → Holds before k → Holds after k
   pub kept : stays ≡ true → (k : Key) → Holds before k → Holds after k
@@ -47,7 +47,7 @@ pub record Written (stays : Bool) (owner : ℕ) (marks : List Mark) (before afte
 
 -- ---- owners, each of which has a number and marks
 
--- each number is above the one before it, the first above low, and the last not above high
+-- each number is greater than the one before it, the first greater than low, and the last not greater than high
 abbrev pub Ascend : {X : Type 0} → (number : X → ℕ) → (low : ℕ) → List X → (high : ℕ) → Type 0
 Ascend number low [] high = low ≤ high
 Ascend number low (x ∷ xs) high = (low < number x) × Ascend number (number x) xs high

@@ -1,5 +1,5 @@
--- What the server sends in a step, each message with the tokens that it draws; `sip` is the server's address. A response goes to whoever sent its request, a request of a
--- dialog to the dialog's peer.
+-- What the server sends in a step, each message with the tokens that it draws; `sip` is the server's address. A response is sent to the peer that sent its request, a request of
+-- a dialog to the dialog's peer.
 use Rattle.std.specs.Prelude.{ℕ, Bool, if◌then◌else◌, List, [], codes}
 use Rattle.mmtel_answers.specs.Answers.{own_answer, relayed_answer}
 use Rattle.mmtel_answers.specs.Attempts.{calling, invite_of}
@@ -36,7 +36,7 @@ answered sip key m tag code passed named body desk = answered_at (contact_text s
 abbrev pub replied : Addr → TKey → Said → (tag : List ℕ) → (code : ℕ) → Desk → Desk
 replied sip key m tag code desk = answered sip key m tag code [] [] [] desk
 
--- one that was heard
+-- a received one
 abbrev pub relayed : Addr → TKey → Said → (tag : List ℕ) → (passed : List Line) → Said → Desk → Desk
 relayed sip key m tag passed r desk = emitted (emit.Reply key (relayed_answer (contact_text sip) m tag passed r)) desk
 
@@ -53,11 +53,11 @@ asked sip method d desk = asked_with sip method d [] [] desk
 abbrev pub bye : Addr → Dialogue → Desk → Desk
 bye sip d desk = asked sip (codes "BYE") d desk
 
--- one that was heard, with these lines of it
+-- a received one, with these lines of it
 abbrev pub asked_for : Addr → (method : List ℕ) → Dialogue → (passed : List Line) → HeardMessage → Desk → Desk
 asked_for sip method d passed m desk = emitted (emit.Ask d.peer (request_of d method (relaying sip (token desk) passed m))) (drew desk)
 
--- ---- the ACK of a 2xx (§13.2.2.4), which goes out by no transaction
+-- ---- the ACK of a 2xx (§13.2.2.4), which is sent outside of any transaction
 
 unfoldable pub ack_text : Addr → Dialogue → (branch : List ℕ) → List ℕ
 ack_text sip d branch = message_text (ack_of d (bare sip branch))
@@ -65,7 +65,7 @@ ack_text sip d branch = message_text (ack_of d (bare sip branch))
 abbrev pub acked : Addr → Dialogue → Desk → Desk
 acked sip d desk = emitted (emit.Plain d.peer (ack_text sip d (token desk))) (drew desk)
 
--- one that was heard, with these lines of it
+-- a received one, with these lines of it
 unfoldable pub relayed_ack_text : Addr → Dialogue → (branch : List ℕ) → (passed : List Line) → HeardMessage → List ℕ
 relayed_ack_text sip d branch passed m = message_text (ack_of d (relaying sip branch passed m))
 
@@ -81,7 +81,7 @@ abbrev pub offered : Addr → Aim → HeardMessage → (restricted : Bool) → (
 offered sip aim m restricted passed waiting desk =
     emitted (emit.Ask aim.peer (invite_of (attempt_dialog aim m restricted desk) sip (token (drew (drew desk))) passed waiting m)) (drew (drew (drew desk)))
 
--- ---- what repeats an INVITE
+-- ---- what copies fields of an INVITE
 
 -- CANCEL (§9.1)
 abbrev pub cancel_sent : Addr → Invitation → Desk → Desk

@@ -1,4 +1,4 @@
-//! The desk of a step.
+//! The output of a step.
 ghost use Rattle.std.specs.Prelude.{◌≡◌, ◌∷◌, ◌++◌, [], IfOk, OnErr, OnOk};
 ghost use Rattle.mmtel_desk.specs.Desks.{drew, emitted, fresh, token};
 
@@ -7,22 +7,22 @@ use mmtel_scan::{List, NoMemory, Text};
 use mmtel_transaction::{Emit, Emits, Tokens};
 use std::alloc::Global;
 
-/// What a step of a call or of a room brings forth.
+/// The output of a step of a call or of a conference.
 #[derive(Drop)]
 pub struct Desk {
-    /// Where tokens are drawn.
+    /// From which tokens are drawn.
     pub tokens: Tokens,
-    /// What is to be done, in order.
+    /// The commands, in order.
     pub out: Emits,
     /// The rows that were closed, in order.
     pub rows: List<Row>,
 }
 
-/// Files an item in a list: a row that was closed among the rows of a desk.
+/// Appends an item to a list: a closed row to the rows of an output.
 ///
 /// # Errors
 ///
-/// Want of memory alone; the list is then as before, and the item is given up.
+/// Out of memory only; the list is then as before, and the item is dropped.
 pub fn file<T: Drop>(alloc: Global, list: &mut List<T>, item: T) -> Result<(), NoMemory>
     ensures filed { OnOk result (list.new ≡ list.old ++ item ∷ []) }
     ensures refused { OnErr result (list.new ≡ list.old) }
@@ -32,7 +32,7 @@ pub fn file<T: Drop>(alloc: Global, list: &mut List<T>, item: T) -> Result<(), N
 }
 
 impl Desk {
-    /// The desk of a step, before which these tokens were drawn. It takes no memory.
+    /// The output at the beginning of a step, before which these tokens were drawn. It allocates nothing.
     pub fn new(tokens: Tokens) -> Desk
         ensures desk { result ≡ fresh tokens }
     {
@@ -47,7 +47,7 @@ impl Desk {
     ///
     /// # Errors
     ///
-    /// Want of memory alone; the desk is then as before.
+    /// Out of memory only; the output is then as before.
     pub fn draw(&mut self, alloc: Global) -> Result<Text, NoMemory>
         ensures text { IfOk result (λ t. t ≡ token self.old) }
         ensures done { OnOk result (self.new ≡ drew self.old) }
@@ -56,11 +56,11 @@ impl Desk {
         self.tokens.draw(alloc)
     }
 
-    /// Emits one more.
+    /// Emits one more command.
     ///
     /// # Errors
     ///
-    /// Want of memory alone; the desk is then as before, and the emit is given up.
+    /// Out of memory only; the output is then as before, and the command is dropped.
     pub fn emit(&mut self, alloc: Global, emit: Emit) -> Result<(), NoMemory>
         ensures done { OnOk result (self.new ≡ emitted emit self.old) }
         ensures refused { OnErr result (self.new ≡ self.old) }

@@ -1,4 +1,4 @@
-//! Calls or rooms by their marks.
+//! Calls or conferences by their marks.
 ghost use Rattle.std.specs.Prelude.{◌≡◌, ◌≤◌, ◌∷◌, [], ℕ, true, false, IsSomeAnd, Some, filter, not};
 ghost use Rattle.std.specs.BTreeSet.{contains};
 ghost use Rattle.std.specs.List.{list_any};
@@ -8,33 +8,34 @@ use crate::marks::{Key, Mark};
 use std::alloc::Global;
 use std::collections::BTreeSet;
 
-/// Of each call, or of each room, its marks, each with its number. Where memory was short for one of them it gives none away any more, and each is asked.
+/// An index of the marks of each call, or of each conference, each with the number of its owner. If memory ran out for one mark, the index excludes no owner any more, and each
+/// owner is examined.
 ///
-/// A step of a call takes all its marks out and puts nearly all of them in again. So a mark that is taken out goes only when another owner's is, and one that comes back stands
-/// where it stood.
+/// A step of a call removes all its marks and inserts nearly all of them again. So a removed mark is deleted only when one of another owner is removed, and one that is inserted
+/// again keeps its position.
 #[derive(Drop)]
 pub struct Index {
     keys: BTreeSet<Key>,
-    /// What was taken out and may still stand among the keys.
+    /// The removed keys that may still be among the keys.
     going: Vec<Key>,
     is_whole: bool,
 }
 
-/// Whether two keys are one.
+/// Whether two keys are equal.
 fn is_same(one: &Key, other: &Key) -> bool
     ensures { result ≡ is_same one.now other.now }
 {
     one.kind == other.kind && one.told == other.told && one.owner == other.owner
 }
 
-/// One key goes no more.
+/// One key is no longer to be deleted.
 fn keep_key(going: &mut Vec<Key>, key: Key)
     ensures { going.new.items ≡ filter (λ k. not (is_same key k)) going.old.items }
 {
     going.retain(|gone| !is_same(&key, gone));
 }
 
-/// The keys that go are taken out, and no other.
+/// Deletes the removed keys, and no other.
 fn take_out(keys: &mut BTreeSet<Key>, going: &mut Vec<Key>)
     ensures gone { going.new.items ≡ [] }
     ensures others { (k : Key) → contains key_cmp keys.old k ≡ true → list_any (is_same k) going.old.items ≡ false → contains key_cmp keys.new k ≡ true }
@@ -45,7 +46,7 @@ fn take_out(keys: &mut BTreeSet<Key>, going: &mut Vec<Key>)
 }
 
 impl Index {
-    /// Of nothing. It takes no memory.
+    /// The empty index. It allocates nothing.
     pub fn new(alloc: Global) -> Index {
         Index {
             keys: BTreeSet::new(alloc),
@@ -54,7 +55,7 @@ impl Index {
         }
     }
 
-    /// The number of the first that may have the mark; None where none has it.
+    /// The number of the first owner that may have the mark; None where none has it.
     pub fn first(&self, mark: Mark) -> Option<u64>
         ensures { (number : ℕ) → Holds self.now (key_of mark number) → IsSomeAnd result (λ first. first ≤ number) }
     {
@@ -64,7 +65,7 @@ impl Index {
         Some(0)
     }
 
-    /// The same where none is missing.
+    /// The same where no mark is missing from the index.
     #[tactic(auto, unfolding(crate::specs::Marks::holds))]
     fn first_kept(&self, mark: Mark) -> Option<u64>
         requires { self.now.is_whole ≡ true }
@@ -92,7 +93,7 @@ impl Index {
         }
     }
 
-    /// It has it no more.
+    /// The owner of this number no longer has this mark.
     fn put_out(&mut self, mark: Mark, owner: u64)
         ensures { Written false owner (mark ∷ []) self.old self.new }
     {
@@ -106,7 +107,7 @@ impl Index {
         }
     }
 
-    /// What goes is taken out, if another than this one had it. What is held stays.
+    /// Deletes the removed keys, if they are of another owner than this one. What the index holds stays.
     fn take_out_others(&mut self, owner: u64)
         ensures { (k : Key) → Holds self.old k → Holds self.new k }
     {
@@ -120,7 +121,7 @@ impl Index {
         }
     }
 
-    /// The owner of this number has this mark from now on, or has it no more. The marks of all others stay.
+    /// The owner of this number has this mark from now on, or no longer has it. The marks of all others stay.
     pub fn put(&mut self, mark: Mark, owner: u64, stays: bool)
         ensures { Written stays owner (mark ∷ []) self.old self.new }
     {
@@ -132,7 +133,7 @@ impl Index {
     }
 }
 
-/// The owner of a key, where it is of the same mark as another.
+/// The owner of a key, where the key has the same mark as another.
 fn owner_of(key: Key, other: Key) -> Option<u64>
     ensures { key.kind ≡ other.kind → key.told ≡ other.told → result ≡ Some key.owner }
 {

@@ -12,37 +12,37 @@ use mmtel_transaction::TKey;
 pub struct Invitation {
     /// The dialog with which it was sent.
     pub dialogue: Dialogue,
-    /// Its number.
+    /// Its CSeq number.
     pub number: u64,
-    /// Its branch behind the cookie.
+    /// Its branch after the cookie.
     pub branch: Text,
-    /// Its client transaction, once a response told it.
+    /// Its client transaction, known from its first response on.
     pub key: Option<TKey>,
-    /// A provisional response came.
+    /// A provisional response was received.
     pub provisional: bool,
     /// A CANCEL was sent.
     pub cancelled: bool,
-    /// The text of the ACK of its 2xx, once that was sent.
+    /// The text of the ACK of its 2xx, once that ACK was sent.
     pub ack: Option<Text>,
-    /// The dialogs of its 2xx that had an ACK and a BYE at once.
+    /// The dialogs of its 2xx responses that got an ACK and at once a BYE.
     pub forks: List<Dialogue>,
-    /// What the callee said of itself in the first provisional response but 100 that gave a tag: the early dialog that it made (RFC 3261 §12.1.2).
+    /// The callee's tag, target and route set in the first provisional response other than 100 with a tag: the early dialog that it made (RFC 3261 §12.1.2).
     pub early: Option<Remote>,
     /// The number of the last request that the server made in that early dialog; that of the INVITE where it made none.
     pub asked: u64,
 }
 
-/// An INVITE that was left before it had a final answer.
+/// An INVITE that was abandoned before it had a final response.
 #[derive(Drop)]
 pub struct Loose {
     /// The INVITE.
     pub invitation: Invitation,
-    /// It was sent in a dialog that stood, which is the dialog of each 2xx of it.
+    /// It was sent in a confirmed dialog, which is the dialog of each 2xx of it.
     pub within: bool,
 }
 
 impl Invitation {
-    /// An INVITE as it was sent in this dialog with this number and this branch.
+    /// An INVITE that was sent in this dialog with this number and this branch.
     pub fn sent(dialogue: Dialogue, number: u64, branch: Text) -> Invitation
         ensures invitation { result ≡ sent dialogue number branch }
     {
@@ -60,14 +60,14 @@ impl Invitation {
         }
     }
 
-    /// One request more was made in its early dialog (RFC 3261 §12.2.1.1).
+    /// One more request was made in its early dialog (RFC 3261 §12.2.1.1).
     pub fn note_asked(&mut self)
         ensures asked { self.new ≡ after_asked self.old }
     {
         self.asked = self.asked.saturating_add(1);
     }
 
-    /// Whether it went by this client transaction, as far as a response told it.
+    /// Whether this is its client transaction, as far as that is known from a response.
     pub fn has_key(&self, key: TKey) -> bool
         ensures exact { result ≡ is_key key self.now.key }
     {
@@ -78,14 +78,14 @@ impl Invitation {
     }
 }
 
-/// The place of the INVITE of this client transaction among those that were left.
+/// The position of the INVITE of this client transaction among those that were abandoned.
 pub fn loose_of(loose: &[Loose], key: TKey) -> Option<usize>
     ensures place { result ≡ position (is_loose_key key) loose.now }
 {
     loose.iter().position(|one| one.invitation.has_key(key))
 }
 
-/// Lets the item at a place go, if there is one.
+/// Removes the item at a position, if there is one.
 pub fn drop_at<T: Drop>(items: &mut List<T>, at: Option<usize>)
     requires { (n : ℕ) → at ≡ Some n → n < length items.old }
     ensures rest { items.new ≡ without at items.old }
@@ -96,7 +96,7 @@ pub fn drop_at<T: Drop>(items: &mut List<T>, at: Option<usize>)
     }
 }
 
-/// What the callee says of itself in a provisional response of this status, where that makes an early dialog.
+/// The callee's tag, target and route set in a provisional response of this status, where that makes an early dialog.
 pub fn early_said(code: u16, remote: Remote) -> Option<Remote>
     ensures { result ≡ early_said code remote }
 {
@@ -106,7 +106,7 @@ pub fn early_said(code: u16, remote: Remote) -> Option<Remote>
     Some(remote)
 }
 
-/// The INVITE with the early dialog that a response made, where it made one and none was there.
+/// The INVITE with the early dialog that a response made, where it made one and there was none.
 pub fn with_early(said: Option<Remote>, invitation: Invitation) -> Invitation
     ensures invitation { result ≡ with_early said invitation }
 {
@@ -119,7 +119,7 @@ pub fn with_early(said: Option<Remote>, invitation: Invitation) -> Invitation
     }
 }
 
-/// Whether a CANCEL is due: a provisional response came, and none was sent (RFC 3261 §9.1).
+/// Whether a CANCEL is due: a provisional response was received, and none was sent (RFC 3261 §9.1).
 pub fn is_cancellable(invitation: &Invitation) -> bool
     ensures { result ≡ is_cancellable invitation.now }
 {

@@ -1,4 +1,4 @@
-//! Which request a response answers, of those whose answer is waited for.
+//! Which request a response answers, among those whose response is waited for.
 ghost use Rattle.std.specs.Prelude.{◌≡◌, IfOk};
 ghost use Rattle.std.specs.Option.{option_copied};
 ghost use Rattle.mmtel_desk.specs.Invites.{answers_awaited, behind, behind_cookie, branch_in, first_branch_in, invite_answered, invite_silent, is_awaited_method};
@@ -7,14 +7,14 @@ use mmtel_answers::Hearing;
 use mmtel_scan::{NoMemory, Text, skip_text};
 use std::alloc::Global;
 
-/// What stands behind the cookie of a branch (RFC 3261 §8.1.1.7); None where it does not begin with it.
+/// What follows the cookie of a branch (RFC 3261 §8.1.1.7); None where it does not begin with it.
 pub fn behind_cookie(branch: &[u8]) -> Option<&[u8]>
     ensures behind { option_copied result ≡ behind_cookie branch.now }
 {
     skip_text(b"z9hG4bK", branch)
 }
 
-/// The branch behind its cookie, where there is one.
+/// The branch after its cookie, where there is one.
 fn behind(branch: Option<&[u8]>) -> Option<&[u8]>
     ensures { option_copied result ≡ behind (option_copied branch.entry) }
 {
@@ -24,21 +24,21 @@ fn behind(branch: Option<&[u8]>) -> Option<&[u8]>
     }
 }
 
-/// The branch of the first Via of a message, where it can be read.
+/// The branch of the first Via of a message, where it parses.
 fn first_branch(m: &Hearing) -> Option<&[u8]>
     ensures { option_copied result ≡ first_branch_in m.now.heard.vias }
 {
     m.message.first_branch()
 }
 
-/// The branch, behind its cookie, of the first Via of a response: that of the request that it answers (RFC 3261 §17.1.3).
+/// The branch, after its cookie, of the first Via of a response: that of the request to which it responds (RFC 3261 §17.1.3).
 pub fn branch_of(m: &Hearing) -> Option<&[u8]>
     ensures branch { option_copied result ≡ branch_in m.now.heard.vias }
 {
     behind(first_branch(m))
 }
 
-/// Whether the answer to a request of the method is waited for: to an INVITE (RFC 3261 §13), and to a PRACK (RFC 3262 §4) or an UPDATE (RFC 3311 §5.1) that a call relays.
+/// Whether the response to a request of the method is waited for: to an INVITE (RFC 3261 §13), and to a PRACK (RFC 3262 §4) or an UPDATE (RFC 3311 §5.1) that a call relays.
 fn is_awaited_method(method: &[u8]) -> bool
     ensures { result ≡ is_awaited_method method.now }
 {
@@ -47,7 +47,7 @@ fn is_awaited_method(method: &[u8]) -> bool
         || method == b"UPDATE".as_slice()
 }
 
-/// Whether a response answers a request whose answer is waited for.
+/// Whether a response answers a request whose response is waited for.
 fn is_awaited_answer(m: &Hearing) -> bool
     ensures { result ≡ answers_awaited m.now.heard.cseq }
 {
@@ -67,11 +67,11 @@ fn copied(alloc: Global, bytes: Option<&[u8]>) -> Result<Option<Text>, NoMemory>
     }
 }
 
-/// The branch, behind its cookie, of the INVITE, PRACK or UPDATE that a response answers (RFC 3261 §17.1.3); None where it answers another request.
+/// The branch, after its cookie, of the INVITE, PRACK or UPDATE that a response answers (RFC 3261 §17.1.3); None where it answers another request.
 ///
 /// # Errors
 ///
-/// Want of memory alone.
+/// Out of memory only.
 #[tactic(auto, unfolding(crate::specs::Invites::invite_answered))]
 pub fn invite_answered(alloc: Global, m: &Hearing) -> Result<Option<Text>, NoMemory>
     ensures { IfOk result (λ branch. branch ≡ invite_answered m.now) }
@@ -82,7 +82,7 @@ pub fn invite_answered(alloc: Global, m: &Hearing) -> Result<Option<Text>, NoMem
     Ok(None)
 }
 
-/// That of the one that was given up, whose branch and method these are.
+/// The same for the request that timed out, with this branch and this method.
 pub fn invite_silent<'a>(branch: &'a [u8], method: &[u8]) -> Option<&'a [u8]>
     ensures { option_copied result ≡ invite_silent branch.now method.now }
 {

@@ -1,4 +1,4 @@
-//! Laws of what goes out: each is the contract of a function that does nothing.
+//! Theorems about what is sent: each is the contract of a function that does nothing.
 ghost use Rattle.std.specs.Prelude.{◌≡◌, ℕ, List, Some, codes, false};
 ghost use Rattle.mmtel_leg.specs.Requests.{Given, numbered};
 ghost use Rattle.mmtel_leg.specs.declared.dialogues.Dialogue.{Dialogue};
@@ -19,7 +19,7 @@ use mmtel_message::laws::{responses_have_the_fields, responses_repeat_their_requ
 use mmtel_transaction::laws::heads_rest_on_five_names;
 use mmtel_trust::{masking_keeps_the_rest, masks_leave_the_way};
 
-/// The head of a request that goes out is that of its dialog, number, method and branch: by it the transactions know the answer (RFC 3261 §17.1.3).
+/// The head of a request that is sent is that of its dialog, number, method and branch: by it the transactions match the response (RFC 3261 §17.1.3).
 pub fn requests_have_heads()
     ensures head { (d : Dialogue) (number : ℕ) (method : List ℕ) (given : Given) (from to : NameAddr) → IsToken method → CanBeSent d number given from to →
         head_of (numbered d number method given) ≡ request_head d number method given.sip given.branch from to }
@@ -27,7 +27,7 @@ pub fn requests_have_heads()
     five_fields_read_back();
 }
 
-/// The head of a CANCEL is its INVITE's but for the method, so that it names the INVITE's server transaction at the other side (RFC 3261 §9.2).
+/// The head of a CANCEL is its INVITE's except for the method, so that it identifies the INVITE's server transaction at the other side (RFC 3261 §9.2).
 pub fn repeats_have_heads()
     ensures cancel { (d : Dialogue) (number : ℕ) (given : Given) (from to : NameAddr) → CanBeSent d number given from to →
         head_of (cancel_of d number given.sip given.branch) ≡ record (head_of (numbered d number (codes "INVITE") given)) { method = codes "CANCEL" } }
@@ -35,7 +35,7 @@ pub fn repeats_have_heads()
     requests_have_heads();
 }
 
-/// The head of a response that goes out is read of its status and of its request's five fields, Via completed and To with the tag.
+/// The head of a response that is sent is read from its status and from its request's five fields, Via completed and To with the tag.
 pub fn answers_have_heads()
     ensures head { (start : Start) (ls : List Line) (r : Reply) (five : Five) → IsSendable r → AreLinesWith five ls →
         head_of (response start ls r) ≡ head_with (Status r.code r.phrase) (Some (five_answered r five)) }
@@ -43,7 +43,7 @@ pub fn answers_have_heads()
     responses_have_the_fields();
 }
 
-/// The head of a response does not rest on what is private of its request: whichever the private places of a request are, the response to the masked one has the head of
+/// The head of a response does not depend on what is private of its request: whichever the private places of a request are, the response to the masked one has the same head as
 /// the response to it.
 pub fn masked_requests_have_one_head()
     ensures head { (p : Places) (start : Start) (ls : List Line) (r : Reply) → p.to ≡ false → BringsNone r →

@@ -1,5 +1,5 @@
-//! What a step of a call or of a conference room brings forth: the tokens that it draws, the messages that go out, the rows that it closes; and what is still done about an
-//! INVITE that was left before it had a final answer. Calls and rooms stand on it, and neither on the other.
+//! The output of a step of a call or of a conference: the tokens that it draws, the messages that are sent, the rows that it closes; and what is still done about an INVITE that
+//! was abandoned before it had a final response. Calls and conferences depend on it, and neither on the other.
 #![tactic(auto)]
 
 mod desks;

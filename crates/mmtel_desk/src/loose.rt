@@ -1,4 +1,4 @@
-//! INVITEs that were left before they had a final answer.
+//! INVITEs that were abandoned before they had a final response.
 ghost use Rattle.std.specs.Prelude.{◌≡◌, ◌<◌, IfOk, OnErr, OnOk, Some, None, codes, if◌then◌else◌, position, true};
 ghost use Rattle.std.specs.Option.{option_copied, option_or};
 ghost use Rattle.mmtel_answers.specs.Attempts.{called};
@@ -28,7 +28,7 @@ impl Loose {
     }
 }
 
-/// The place of the loose INVITE of this branch, if there is one.
+/// The position of the abandoned INVITE of this branch, if there is one.
 pub fn loose_at(loose: &[Loose], branch: &[u8]) -> Option<usize>
     ensures place { result ≡ position (is_of branch.now) loose.now }
 {
@@ -42,7 +42,7 @@ fn is_ended(within: bool, tag: &[u8], dialogue: &Dialogue) -> bool
     is_of_dialog(within, dialogue.remote_tag.bytes(), tag)
 }
 
-/// The place of the dialog of a 2xx with this tag.
+/// The position of the dialog of a 2xx with this tag.
 fn ended_at(within: bool, tag: &[u8], forks: &[Dialogue]) -> Option<usize>
     ensures { result ≡ position (is_ended within tag.now) forks.now }
 {
@@ -58,7 +58,7 @@ fn ended_before<'a>(within: bool, tag: &[u8], forks: &'a [Dialogue]) -> Option<&
     }
 }
 
-/// The same that the other side said of itself.
+/// A copy of the other side's tag, target and route set.
 fn copied(alloc: Global, remote: &Remote) -> Result<Remote, NoMemory>
     ensures { IfOk result (λ r. r ≡ remote.now) }
 {
@@ -72,7 +72,7 @@ fn copied(alloc: Global, remote: &Remote) -> Result<Remote, NoMemory>
     })
 }
 
-/// A dialog once the callee said this of itself, and this was the number of the last request, where that was in the dialog of this tag.
+/// A dialog with the callee's tag, target and route set and with this number of the last request, where these are of the dialog of this tag.
 fn met_before(
     alloc: Global,
     said: &Remote,
@@ -91,7 +91,7 @@ fn met_before(
     Ok(dialogue.meet(said))
 }
 
-/// The dialog of a tag as it stands before a 2xx: the early one, in which this was the number of the last request, or what the INVITE began.
+/// The dialog of a tag before a 2xx: the early one, in which this was the number of the last request, or the one that the INVITE began.
 fn begun(
     alloc: Global,
     early: Option<&Remote>,
@@ -126,7 +126,7 @@ fn made_from(
     Ok(before.meet(remote))
 }
 
-/// The early dialog, where this makes one: the first is kept.
+/// The early dialog, where this response makes one: the first is kept.
 fn keep_first(said: Option<Remote>, early: &mut Option<Remote>)
     ensures { early.new ≡ option_or early.old said }
 {
@@ -135,7 +135,7 @@ fn keep_first(said: Option<Remote>, early: &mut Option<Remote>)
     }
 }
 
-/// Notes a provisional response of a loose INVITE by this client transaction, with what it says of the callee.
+/// Records a provisional response of an abandoned INVITE by this client transaction, with the callee's tag, target and route set in it.
 fn note_late(key: TKey, heard: &Hearing, remote: Remote, loose: &mut Loose)
     requires { remote ≡ remote_of Callee heard.now.heard.lines }
     ensures { loose.new ≡ told_late key heard.now.heard loose.old }
@@ -146,7 +146,7 @@ fn note_late(key: TKey, heard: &Hearing, remote: Remote, loose: &mut Loose)
     keep_first(said, &mut loose.invitation.early);
 }
 
-/// A loose INVITE, where it stays.
+/// An abandoned INVITE, where it stays.
 fn staying(stays: bool, loose: Loose) -> Option<Loose>
     ensures { result ≡ (if stays then Some loose else None) }
 {
@@ -158,7 +158,7 @@ fn staying(stays: bool, loose: Loose) -> Option<Loose>
 }
 
 impl Desk {
-    /// The ACK of a 2xx of a loose INVITE and the BYE of its dialog.
+    /// The ACK of a 2xx of an abandoned INVITE and the BYE of its dialog.
     fn acknowledge_and_end(
         &mut self,
         alloc: Global,
@@ -173,7 +173,7 @@ impl Desk {
         self.bye_in(alloc, sip, dialogue)
     }
 
-    /// The same of the dialog that a 2xx of a loose INVITE made, which is kept.
+    /// The same for the dialog that a 2xx of an abandoned INVITE made, which is kept.
     fn end_fork(
         &mut self,
         alloc: Global,
@@ -195,7 +195,7 @@ impl Desk {
         }
     }
 
-    /// What a 2xx of a loose INVITE brings, where the callee says this of itself.
+    /// What a 2xx of an abandoned INVITE causes, where this is the callee's tag, target and route set.
     fn hear_success(
         &mut self,
         alloc: Global,
@@ -226,7 +226,7 @@ impl Desk {
         }
     }
 
-    /// What a provisional response of a loose INVITE brings.
+    /// What a provisional response of an abandoned INVITE causes.
     fn cancel_late(&mut self, alloc: Global, sip: Addr, loose: &mut Loose) -> Result<(), NoMemory>
         requires { loose.old.invitation.provisional ≡ true }
         ensures desk { OnOk result (self.new ≡ (late_cancelled sip loose.old self.old).desk) }
@@ -240,7 +240,7 @@ impl Desk {
         Ok(())
     }
 
-    /// What a response below 300 of a loose INVITE brings, which says this of the callee.
+    /// What a response below 300 of an abandoned INVITE causes, with this tag, target and route set of the callee.
     fn hear_remote(
         &mut self,
         alloc: Global,
@@ -264,7 +264,7 @@ impl Desk {
         self.hear_success(alloc, sip, loose, remote)
     }
 
-    /// The same of any response; whether the INVITE stays.
+    /// The same for any response; whether the INVITE stays.
     fn hear_in(
         &mut self,
         alloc: Global,
@@ -286,12 +286,12 @@ impl Desk {
         Ok(true)
     }
 
-    /// Hears a response of a loose INVITE, by its client transaction: a provisional one lets the CANCEL go that was due (RFC 3261 §9.1); a 2xx has its ACK, and its dialog
-    /// the BYE where it had none (§13.2.2.4, §15.1.1); a final from 300 has its ACK and ends the INVITE (§17.1.1.3). Gives what is left of it.
+    /// Receives a response of an abandoned INVITE, by its client transaction: after a provisional one the CANCEL that was due is sent (RFC 3261 §9.1); a 2xx gets its ACK, and
+    /// its dialog the BYE where it had none (§13.2.2.4, §15.1.1); a final from 300 gets its ACK and ends the INVITE (§17.1.1.3). Returns what remains of the INVITE.
     ///
     /// # Errors
     ///
-    /// Want of memory alone; the rows are then as before, tokens may be drawn, the ACK of a 2xx may be emitted, and the INVITE is given up.
+    /// Out of memory only; the rows are then as before, tokens may be drawn, the ACK of a 2xx may be emitted, and the INVITE is dropped.
     pub fn hear_loose(
         &mut self,
         alloc: Global,

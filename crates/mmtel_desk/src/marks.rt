@@ -1,13 +1,14 @@
-//! By what a call or a room is found without asking each: the branches and the transactions of its INVITEs, and the server's tags of its dialogs.
+//! The marks by which a call or a conference is found without examining each: the branches and the transactions of its INVITEs, and the server's tags of its dialogs.
 ghost use Rattle.std.specs.Prelude.{◌≡◌};
 ghost use Rattle.mmtel_desk.specs.Marks.{key_of};
 
-/// By what a call or a room is found. Of bytes a number is told, which others may have too: who finds one by a mark asks it whether it is the one.
+/// A mark, by which a call or a conference is found. Bytes are hashed, and other bytes may have the same hash: so an owner that is found by a mark is examined whether it is the
+/// right one.
 #[derive(Clone, Copy)]
 pub enum Mark {
     /// The branch of an INVITE that the server sent.
     Sent(u64),
-    /// The client transaction of an INVITE that had an answer.
+    /// The client transaction of an INVITE that got a response.
     Heard(u64),
     /// The server transaction of an INVITE that a side sent.
     Asked(u64),
@@ -20,9 +21,9 @@ pub enum Mark {
 pub struct Key {
     /// The kind of the mark.
     pub kind: u64,
-    /// Its number.
+    /// Its hash or number.
     pub told: u64,
-    /// The number of the call or of the room that has it.
+    /// The number of the call or of the conference that has it.
     pub owner: u64,
 }
 

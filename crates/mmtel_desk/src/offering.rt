@@ -1,4 +1,4 @@
-//! The INVITE of an attempt goes out.
+//! Sending the INVITE of an attempt.
 ghost use Rattle.std.specs.Prelude.{◌≡◌, IfOk, OnErr, OnOk};
 ghost use Rattle.mmtel_desk.specs.Desks.{drew, token};
 ghost use Rattle.mmtel_desk.specs.Invitations.{sent};
@@ -19,11 +19,11 @@ use std::alloc::Global;
 pub struct AttemptInvite<'a> {
     /// The INVITE that opened the call.
     pub opening: &'a Hearing,
-    /// Whether who calls is hidden from the target.
+    /// Whether the caller is hidden from the target.
     pub restricted: bool,
     /// The lines of the opening INVITE that it has.
     pub passed: &'a [Line],
-    /// Whether it tells that the call waits.
+    /// Whether it indicates that the call waits.
     pub waiting: bool,
 }
 
@@ -46,11 +46,11 @@ impl Desk {
         calling(alloc, aim, opening, restricted, call_id, tag)
     }
 
-    /// Offers a call to a target by this INVITE. Call-ID, tag and branch are drawn, in this order. Gives the INVITE as it was sent.
+    /// Offers a call to a target by this INVITE. Call-ID, tag and branch are drawn, in this order. Returns the INVITE that was sent.
     ///
     /// # Errors
     ///
-    /// Want of memory alone; tokens may then be drawn, and else the desk is as before.
+    /// Out of memory only; tokens may then be drawn, and otherwise the output is as before.
     pub fn offer(
         &mut self,
         alloc: Global,

@@ -1,4 +1,4 @@
-//! What repeats an INVITE goes out: CANCEL, and the ACK of a final from 300.
+//! Sending what copies fields of an INVITE: CANCEL, and the ACK of a final from 300.
 ghost use Rattle.std.specs.Prelude.{◌≡◌, IfOk, OnErr, OnOk, codes};
 ghost use Rattle.mmtel_leg.specs.Remotes.{field};
 ghost use Rattle.mmtel_desk.specs.Sending.{cancel_sent, cancelled, final_acked};
@@ -28,7 +28,7 @@ impl Desk {
     ///
     /// # Errors
     ///
-    /// Want of memory alone; the desk is then as before.
+    /// Out of memory only; the output is then as before.
     pub fn cancel(
         &mut self,
         alloc: Global,
@@ -48,7 +48,7 @@ impl Desk {
     ///
     /// # Errors
     ///
-    /// Want of memory alone; the desk is then as before.
+    /// Out of memory only; the output is then as before.
     pub fn emit_cancel(
         &mut self,
         alloc: Global,
@@ -74,11 +74,11 @@ impl Desk {
         )
     }
 
-    /// Acknowledges a final from 300 of an INVITE, which its client transaction heard (RFC 3261 §17.1.1.3).
+    /// Acknowledges a final from 300 of an INVITE, which its client transaction received (RFC 3261 §17.1.1.3).
     ///
     /// # Errors
     ///
-    /// Want of memory alone; the desk is then as before.
+    /// Out of memory only; the output is then as before.
     pub fn acknowledge_final(
         &mut self,
         alloc: Global,

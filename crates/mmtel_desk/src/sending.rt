@@ -1,4 +1,4 @@
-//! Responses, requests of a dialog and ACKs that go out in a step.
+//! Responses, requests of a dialog and ACKs that are sent in a step.
 ghost use Rattle.std.specs.Prelude.{◌≡◌, IfOk, OnErr, OnOk, codes};
 ghost use Rattle.mmtel_leg.specs.Dialogues.{after_request};
 ghost use Rattle.mmtel_leg.specs.Legs.{with_dialogue};
@@ -43,11 +43,11 @@ fn relayed_ack_text<P>(
 }
 
 impl Desk {
-    /// Answers a request with a response of the server's own, with this value of Contact where one is due (RFC 3261 §8.2.6).
+    /// Sends a response of the server's own to a request, with this value of Contact where one is due (RFC 3261 §8.2.6).
     ///
     /// # Errors
     ///
-    /// Want of memory alone; the desk is then as before.
+    /// Out of memory only; the output is then as before.
     pub fn answer_at(
         &mut self,
         alloc: Global,
@@ -69,7 +69,7 @@ impl Desk {
     ///
     /// # Errors
     ///
-    /// Want of memory alone; the desk is then as before.
+    /// Out of memory only; the output is then as before.
     pub fn answer(
         &mut self,
         alloc: Global,
@@ -87,11 +87,11 @@ impl Desk {
         self.emit(alloc, Emit::Reply { key, msg })
     }
 
-    /// Answers a request with a status alone.
+    /// Sends a response of a status alone to a request.
     ///
     /// # Errors
     ///
-    /// Want of memory alone; the desk is then as before.
+    /// Out of memory only; the output is then as before.
     pub fn reply(
         &mut self,
         alloc: Global,
@@ -113,11 +113,11 @@ impl Desk {
         self.answer(alloc, sip, key, request, tag, own)
     }
 
-    /// Answers a request with a response that was heard, with these lines of it (RFC 3261 §16.7).
+    /// Responds to a request by relaying a received response, with these lines of it (RFC 3261 §16.7).
     ///
     /// # Errors
     ///
-    /// Want of memory alone; the desk is then as before.
+    /// Out of memory only; the output is then as before.
     pub fn relay(
         &mut self,
         alloc: Global,
@@ -135,11 +135,11 @@ impl Desk {
         self.emit(alloc, Emit::Reply { key, msg })
     }
 
-    /// Sends a request of the server's own in a leg's dialog, with these named lines and this body (RFC 3261 §12.2.1.1). Gives its branch behind the cookie.
+    /// Sends a request of the server's own in a leg's dialog, with these named lines and this body (RFC 3261 §12.2.1.1). Returns its branch after the cookie.
     ///
     /// # Errors
     ///
-    /// Want of memory alone; a token may then be drawn and the request counted, and else desk and leg are as before.
+    /// Out of memory only; a token may then be drawn and the request counted, and otherwise output and leg are as before.
     pub fn ask_with<P>(
         &mut self,
         alloc: Global,
@@ -163,11 +163,11 @@ impl Desk {
         Ok(branch)
     }
 
-    /// Sends a request of the server's own in a leg's dialog that brings nothing.
+    /// Sends a request of the server's own in a leg's dialog, with neither lines of its own nor a body.
     ///
     /// # Errors
     ///
-    /// As of `ask_with`.
+    /// As in `ask_with`.
     pub fn ask<P>(
         &mut self,
         alloc: Global,
@@ -189,7 +189,7 @@ impl Desk {
     ///
     /// # Errors
     ///
-    /// As of `ask_with`.
+    /// As in `ask_with`.
     pub fn bye<P>(
         &mut self,
         alloc: Global,
@@ -204,11 +204,11 @@ impl Desk {
         self.ask(alloc, sip, b"BYE", leg)
     }
 
-    /// Sends in a leg's dialog the request that was heard on the other side, with these lines of it (RFC 3261 §16.6). Gives its branch behind the cookie.
+    /// Sends in a leg's dialog the request that was received from the other side, with these lines of it (RFC 3261 §16.6). Returns its branch after the cookie.
     ///
     /// # Errors
     ///
-    /// As of `ask_with`.
+    /// As in `ask_with`.
     pub fn ask_for<P, S: InDialog>(
         &mut self,
         alloc: Global,
@@ -236,7 +236,7 @@ impl Desk {
     ///
     /// # Errors
     ///
-    /// Want of memory alone; a token may then be drawn, and else the desk is as before.
+    /// Out of memory only; a token may then be drawn, and otherwise the output is as before.
     pub fn acknowledge_in(
         &mut self,
         alloc: Global,
@@ -258,11 +258,11 @@ impl Desk {
         )
     }
 
-    /// The same. Gives the text of the ACK, which is sent again for each repeat of the 2xx.
+    /// The same. Returns the text of the ACK, which is sent again for each retransmission of the 2xx.
     ///
     /// # Errors
     ///
-    /// As of `acknowledge_in`.
+    /// As in `acknowledge_in`.
     pub fn acknowledge_keeping(
         &mut self,
         alloc: Global,
@@ -286,7 +286,7 @@ impl Desk {
     ///
     /// # Errors
     ///
-    /// As of `acknowledge_in`.
+    /// As in `acknowledge_in`.
     pub fn acknowledge<P>(
         &mut self,
         alloc: Global,
@@ -304,7 +304,7 @@ impl Desk {
     ///
     /// # Errors
     ///
-    /// As of `ask_with`.
+    /// As in `ask_with`.
     pub fn bye_in(
         &mut self,
         alloc: Global,
@@ -322,12 +322,12 @@ impl Desk {
         self.emit(alloc, Emit::Ask { peer, msg })
     }
 
-    /// Acknowledges the 2xx of a leg by the ACK that was heard on the other side, with these lines of it. Gives the text of the ACK, which is sent again for each repeat of
-    /// the 2xx.
+    /// Acknowledges the 2xx of a leg by the ACK that was received from the other side, with these lines of it. Returns the text of the ACK, which is sent again for each
+    /// retransmission of the 2xx.
     ///
     /// # Errors
     ///
-    /// Want of memory alone; a token may then be drawn, and else the desk is as before.
+    /// Out of memory only; a token may then be drawn, and otherwise the output is as before.
     pub fn acknowledge_for<P>(
         &mut self,
         alloc: Global,

@@ -1,4 +1,4 @@
--- The bound on diversions that a configuration gives is at most 16.
+-- The bound on diversions of a configuration is at most 16.
 use Rattle.std.proofs.Common.{◌≡◌, ◌≤◌, Bool, true, false, cond, ℕ, ◌+◌, List, [], ◌∷◌, ◌++◌, Option, Some, None, Result, Ok, Err, refl, subst, arith}
 use Rattle.std.specs.Prelude.{IfSome, IfOk, unwrap_or}
 use Rattle.std.specs.List.{flat_map}
@@ -23,11 +23,11 @@ use Rattle.mmtel_directory.proofs.DraftLaws.{one_more}
 abbrev IsInRange : ℕ → Type 0
 IsInRange n = n ≤ 16
 
--- the bound that the line gives, where it gives one
+-- the bound of the line, where it sets one
 abbrev IsSmall : Line → Type 0
 IsSmall l = IfSome (first_of (bound_in l)) IsInRange
 
--- the bound that the lines give, where one of them does
+-- the bound of the lines, where one of them sets one
 abbrev AreSmall : List Line → Type 0
 AreSmall said = IfSome (first_said bound_in said) IsInRange
 
@@ -37,7 +37,7 @@ number_within : (most : ℕ) (s : List ℕ) (read : Option ℕ) → plain_number
 number_within most s None e = tt
 number_within most s (Some n) e = (number_takes most s n (unless_some (leads_zero s) (number_of most s) n e).1).1
 
--- what is made of each thing that may have been read
+-- the result for each value that may have been read
 of_each : {A : Type 0} (read : Option A) (next : A → Option Line) → ((x : A) → IfSome (next x) IsSmall) → IfSome (read >>= next) IsSmall
 of_each None next each = tt
 of_each (Some x) next each = each x
@@ -116,6 +116,6 @@ bounded_as : (answer : Result Directory DirectoryFault) (due : Result Directory 
 bounded_as (Ok directory) due is bounded = subst (λ (due : Result Directory ℕ). IfOk due IsBounded) is bounded
 bounded_as (Err e) due is bounded = tt
 
--- what an answer to a text gives
+-- the directory in a result for a text
 pub answers_bounded : (text : List ℕ) (answer : Result Directory DirectoryFault) → Answers answer (directory_of text) → IfOk answer IsBounded
 answers_bounded text answer is = bounded_as answer (directory_of text) is (bounded_of text)

@@ -1,4 +1,4 @@
--- A draft that is gathered line by line gives the directory of what the lines say.
+-- A draft that is built line by line gives the directory of the contents of the lines.
 use Rattle.std.proofs.Common.{◌≡◌, ◌==◌, Bool, true, false, is_none, not, cond, ℕ, suc, ◌+◌, List, [], ◌∷◌, ◌++◌, length, Option, Some, None, Result, Ok, Err, refl, ap, sym, subst, ◌∙◌, arith, add-zero}
 use Rattle.std.specs.List.{flat_map}
 use Rattle.std.proofs.lemmas.Bool.Decides.{nat_tests}
@@ -19,7 +19,7 @@ use Rattle.mmtel_directory.specs.declared.directories.Directory.{Directory}
 use Rattle.mmtel_directory.specs.declared.directories.DirectoryFault.{DirectoryFault}
 use Rattle.mmtel_directory.specs.declared.directories.DirectoryFault.TheVariants as fault
 
--- the draft of lines that say so much
+-- the draft of lines with this content
 abbrev draft_of : List Line → Draft
 draft_of said = record {
   sip = first_said sip_in said;
@@ -49,7 +49,7 @@ none_first : {A : Type 0} (xs : List A) → is_none (first_of xs) ≡ (length xs
 none_first [] = refl
 none_first (x ∷ xs) = sym (grind (arith, nat_tests))
 
--- what is not said once more is unsaid
+-- what is not set once more is not set
 not_said : (b : Bool) → not (not b) ≡ b
 not_said true = refl
 not_said false = refl
@@ -110,7 +110,7 @@ finished_is last (Some sip) (Some home) said = refl
 abbrev Goes : ℕ → List Line → List (List ℕ) → Type 0
 Goes number said texts = drafted number (draft_of said) texts ≡ directory_from (number + length texts) (said_by next_said number said texts)
 
--- the next line, which stands or not
+-- the next line, which may follow or not
 over_line : (number : ℕ) (said : List Line) (l : Line) (texts : List (List ℕ)) (test : Bool) → stands said l ≡ test → ((more : List Line) → Goes (number + 1) more texts) →
     and_then number (cond test (Some (with_line (draft_of said) l)) None) (λ next. drafted (number + 1) next texts) ≡ directory_from (number + 1 + length texts) (and_then number (cond test (Some l) None) (λ next. said_by next_said (number + 1) (said ++ next ∷ []) texts))
 over_line number said l texts true ok all = ap (λ (d : Draft). drafted (number + 1) d texts) (with_line_is said l ok) ∙ all (said ++ l ∷ [])
@@ -128,14 +128,14 @@ goes number said (text ∷ texts) =
     let same : number + suc (length texts) ≡ number + 1 + length texts = omega arith in
     rw same (over_form number said (line_of text) texts (λ more. goes (number + 1) more texts))
 
--- what is gathered from no line on
+-- what is built from no line on
 pub drafted_is : (text : List ℕ) → drafted 1 empty_draft (lines_of text) ≡ directory_of text
 unfolding directory_of
 drafted_is text =
     let same : length (lines_of text) + 1 ≡ 1 + length (lines_of text) = omega arith in
     rw same (goes 1 [] (lines_of text))
 
--- what comes of a text whose lines were read
+-- the result for a text whose lines were read
 pub answers_fault : (text : List ℕ) (e : DirectoryFault) (after : Draft) → Reads (Err e) empty_draft (lines_of text) after → Answers (Err e) (directory_of text)
 answers_fault text (fault.BadLine n) after is = sym (drafted_is text) ∙ is
 answers_fault text fault.NoMemory after is = tt

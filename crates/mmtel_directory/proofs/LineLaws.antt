@@ -19,7 +19,7 @@ prefix_each p (c ∷ s) =
       | inr n ↦ rw n refl
     ]
 
--- what stands before the first such byte has none
+-- what precedes the first such byte has none
 pub parted_free_front : (b : ℕ) (s : List ℕ) (x : List ℕ × List ℕ) → parted b s ≡ Some x → IsFree b x.0
 unfolding parted
 parted_free_front b s x e =

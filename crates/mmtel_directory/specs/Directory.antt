@@ -1,4 +1,4 @@
--- Configurations: a format of this project's own. A text of lines, each of one kind, whose words one space parts.
+-- Configurations: a format of this project's own. A text of lines, each of one kind, whose words are separated by one space.
 use Rattle.std.specs.Prelude.{ℕ, Bool, true, false, nat_lt, nat_le, not, ◌&&◌, ◌||◌, ◌==◌, ◌+◌, if◌then◌else◌, ◌≡◌}
 use Rattle.std.specs.Prelude.{List, [], ◌∷◌, ◌++◌, length, map, codes, Option, Some, None, unwrap_or, Result, Ok, Err}
 use Rattle.std.specs.List.{flat_map, list_all, list_any}
@@ -71,13 +71,13 @@ kind_of word =
     else if bytes_eq word (codes "store") then Some kind.Store
     else None
 
--- ---- the forms of lines, by what stands behind their first word
+-- ---- the forms of lines, by what follows their first word
 
 -- a host: letters, digits, `-` and `.`, 1 to 255 of them
 abbrev pub is_host : List ℕ → Bool
 is_host s = nat_le 1 (length s) && nat_le (length s) 255 && list_all (in_class Host) s
 
--- what a route may be named after: a host, `+` and the first digits of numbers, or `*`
+-- the name of a route: a host, `+` and the first digits of numbers, or `*`
 abbrev pub is_route_name : List ℕ → Bool
 is_route_name s = is_host s || is_prefix s || bytes_eq s (codes "*")
 
@@ -115,7 +115,7 @@ identities_of s = do
   uris ← uris_of (words_of s)
   if nat_le (length uris) 8 then Some uris else None
 
--- a name of one byte or more, in which no space stands
+-- a name of one byte or more, without spaces
 abbrev pub is_one_word : List ℕ → Bool
 is_one_word s = list_all (λ b. not (b == 32)) s
 
@@ -225,7 +225,7 @@ mixer_line s = do
 abbrev pub store_line : List ℕ → Option Line
 store_line s = if is_store_name s then Some (line.Store s) else None
 
--- a line of this kind, by what stands behind its first word
+-- a line of this kind, by what follows its first word
 abbrev pub line_of_kind : LineKind → List ℕ → Option Line
 line_of_kind kind.Sip s = sip_line s
 line_of_kind kind.Web s = web_line s
@@ -241,7 +241,7 @@ line_of_kind kind.Extension s = extension_line s
 line_of_kind kind.Mixer s = mixer_line s
 line_of_kind kind.Store s = store_line s
 
--- the kind of a line of two words or more, and what stands behind the first
+-- the kind of a line of two words or more, and what follows the first
 abbrev pub kind_and_rest : List ℕ → Option (LineKind × List ℕ)
 kind_and_rest s = do
   words ← parted 32 s
@@ -253,11 +253,11 @@ line_of_words s = do
   x ← kind_and_rest s
   line_of_kind x.0 x.1
 
--- what a line says, where it is of a form of the grammar
+-- the content of a line, where it is of a form of the grammar
 unfoldable pub line_of : List ℕ → Option Line
 line_of s = if is_remark s then Some line.Remark else line_of_words s
 
--- ---- what lines say of each
+-- ---- the values of each kind in lines
 
 abbrev pub sip_in : Line → List Addr
 sip_in (line.Sip addr) = addr ∷ []
@@ -331,13 +331,13 @@ store_in _ = []
 abbrev pub table_of : List Line → Peers
 table_of said = record { known = flat_map peer_in said; routes = flat_map route_in said }
 
--- ---- which line may stand behind which
+-- ---- which line may follow which
 
--- no line says it yet
+-- no line sets it yet
 abbrev pub is_unsaid : {A : Type 0} → (Line → List A) → List Line → Bool
 is_unsaid part said = length (flat_map part said) == 0
 
--- a line says it
+-- a line sets it
 abbrev pub is_said : {A : Type 0} → (Line → List A) → List Line → Bool
 is_said part said = not (is_unsaid part said)
 
@@ -350,8 +350,8 @@ abbrev pub are_new : List AccountIdentity → List AccountIdentity → Bool
 are_new identities [] = true
 are_new identities (one ∷ more) = not (has_identity one.uri identities) && are_new (identities ++ one ∷ []) more
 
--- whether a line may stand right behind these: a peer of a new number and a new address; a route of a new name to a peer that is named above, and of routes 4,096;
--- an account of a new number and of identities that stand nowhere else, and of accounts 10,000; each extension once, and each other kind
+-- whether a line may follow directly after these: a peer of a new number and a new address; a route of a new name to a peer that is named above, with at most 4,096 routes; an
+-- account of a new number and of identities that no other line has, with at most 10,000 accounts; each extension once, and each other kind
 abbrev pub stands : List Line → Line → Bool
 stands said line.Remark = true
 stands said (line.Sip addr) = is_unsaid sip_in said
@@ -372,7 +372,7 @@ stands said (line.Extension extension.Mwi) = is_unsaid mwi_in said
 stands said (line.Mixer mixer) = is_unsaid mixer_in said
 stands said (line.Store name) = is_unsaid store_in said
 
--- what the next line says, where it breaks nothing
+-- the content of the next line, where it breaks no rule
 abbrev pub next_said : List Line → List ℕ → Option Line
 next_said said text = do
   line ← line_of text
@@ -380,7 +380,7 @@ next_said said text = do
 
 -- ---- configurations
 
--- what counts where no line says it
+-- the defaults
 abbrev pub usual_web : Addr
 usual_web = record { ip = 127 ∷ 0 ∷ 0 ∷ 1 ∷ []; port = 8080 }
 
@@ -397,7 +397,7 @@ abbrev pub first_of : {A : Type 0} → List A → Option A
 first_of [] = None
 first_of (x ∷ xs) = Some x
 
--- what the lines say of it, where one does
+-- the value that the lines set, where one does
 abbrev pub first_said : {A : Type 0} → (Line → List A) → List Line → Option A
 first_said part said = first_of (flat_map part said)
 
@@ -423,18 +423,18 @@ directory_by last None home said = Err last
 directory_by last (Some sip) None said = Err last
 directory_by last (Some sip) (Some home) said = Ok (directory_with sip home said)
 
--- the directory of lines that say so much, `last` being the number behind that of the last: `sip` and `home` have to be there
+-- the directory of lines with this content, `last` being the number after that of the last: `sip` and `home` are required
 abbrev pub directory_from : ℕ → Result (List Line) ℕ → Result Directory ℕ
 directory_from last (Ok said) = directory_by last (first_said sip_in said) (first_said home_in said) said
 directory_from last (Err number) = Err number
 
--- the directory of a text, or the number, from 1, of the first line that breaks the grammar: one past the last where a line is absent that has to be there
+-- the directory of a text, or the number, from 1, of the first line that breaks the grammar: one past the last where a required line is absent
 unfoldable pub directory_of : List ℕ → Result Directory ℕ
 directory_of text = directory_from (length (lines_of text) + 1) (said_by next_said 1 [] (lines_of text))
 
 -- ---- words of contracts
 
--- this answer, unless memory ran out
+-- this result, unless memory ran out
 abbrev pub Answers : Result Directory DirectoryFault → Result Directory ℕ → Type 0
 Answers (Ok directory) due = due ≡ Ok directory
 Answers (Err (BadLine number)) due = due ≡ Err number

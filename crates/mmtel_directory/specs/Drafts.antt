@@ -1,4 +1,4 @@
--- How a directory is gathered line by line. What others call speaks of Directory.
+-- How a directory is built line by line. The contracts of public functions use Directory instead.
 use Rattle.std.specs.Prelude.{ℕ, Bool, true, false, nat_lt, not, is_none, ◌&&◌, ◌+◌, ◌++◌, if◌then◌else◌, List, [], ◌∷◌, Option, Some, None, unwrap_or, Result, Ok, Err, ◌≡◌}
 use Rattle.mmtel_scan.specs.Chain.{◌>>=◌}
 use Rattle.mmtel_trust.specs.Peers.{Peers, has_number, has_addr, has_name, with_peer, with_route}
@@ -33,7 +33,7 @@ empty_draft = record {
   store = None;
 }
 
--- whether the draft takes the line
+-- whether the draft accepts the line
 abbrev pub takes : Draft → Line → Bool
 takes draft line.Remark = true
 takes draft (line.Sip addr) = is_none draft.sip
@@ -52,7 +52,7 @@ takes draft (line.Extension extension.Mwi) = not draft.mwi
 takes draft (line.Mixer mixer) = is_none draft.mixer
 takes draft (line.Store name) = is_none draft.store
 
--- the draft with what the line says
+-- the draft with the content of the line
 abbrev pub with_line : Draft → Line → Draft
 with_line draft line.Remark = draft
 with_line draft (line.Sip addr) = record draft { sip = Some addr }
@@ -71,7 +71,7 @@ with_line draft (line.Extension extension.Mwi) = record draft { mwi = true }
 with_line draft (line.Mixer mixer) = record draft { mixer = Some mixer }
 with_line draft (line.Store name) = record draft { store = Some name }
 
--- the draft after the line, where the line breaks nothing
+-- the draft after the line, where the line breaks no rule
 unfoldable pub step : Draft → List ℕ → Option Draft
 step draft text = do
   line ← line_of text
@@ -103,25 +103,25 @@ finished_by last (Some sip) (Some home) draft = Ok (directory_in sip home draft)
 abbrev pub finished : ℕ → Draft → Result Directory ℕ
 finished last draft = finished_by last draft.sip draft.home draft
 
--- the directory of a draft and of the lines to come
+-- the directory of a draft and of the remaining lines
 abbrev pub drafted : ℕ → Draft → List (List ℕ) → Result Directory ℕ
 drafted number draft [] = finished number draft
 drafted number draft (text ∷ texts) = and_then number (step draft text) (λ next. drafted (number + 1) next texts)
 
--- what came of a line: this draft, or the line's number where there is none
+-- the result of a line: this draft, or the line's number where there is none
 abbrev pub Steps : Result (Unit {0}) DirectoryFault → ℕ → Option Draft → Draft → Type 0
 Steps (Ok done) number due after = due ≡ Some after
 Steps (Err (BadLine n)) number due after = (due ≡ None) × (n ≡ number)
 Steps (Err NoMemory) number due after = Unit {0}
 
--- what came of lines: a draft that gives what they and the draft before give, where the last of them has the number before this one; or the number of the first line that
--- is not taken
+-- the result of lines: a draft that gives what they and the draft before give, where the last of them has the number before this one; or the number of the first line that is not
+-- accepted
 abbrev pub Reads : Result ℕ DirectoryFault → Draft → List (List ℕ) → Draft → Type 0
 Reads (Ok last) before texts after = drafted 1 before texts ≡ finished last after
 Reads (Err (BadLine n)) before texts after = drafted 1 before texts ≡ Err n
 Reads (Err NoMemory) before texts after = Unit {0}
 
--- what came of adding something: it is there where the test lets it, and else the line's number is told
+-- the result of adding a value: it is there where the test allows it, and else the line's number is returned
 abbrev pub Adds : {A : Type 0} → Result (Unit {0}) DirectoryFault → ℕ → Bool → A → A → Type 0
 Adds (Ok done) number due next after = (due ≡ true) × (after ≡ next)
 Adds (Err (BadLine n)) number due next after = (due ≡ false) × (n ≡ number)

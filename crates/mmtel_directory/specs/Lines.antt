@@ -1,4 +1,4 @@
--- The lines of a text, and numbers as configurations and scripts write them: formats of this project's own.
+-- The lines of a text, and numbers in the format of configurations and scripts: formats of this project's own.
 use Rattle.std.specs.Prelude.{ℕ, Bool, true, false, nat_lt, ◌==◌, if◌then◌else◌, List, [], ◌∷◌, ◌++◌, ◌+◌, Option, Some, None, Result, Ok, Err}
 use Rattle.std.specs.List.{onto_first, slice_split}
 use Rattle.mmtel_scan.specs.Chain.{◌>>=◌}
@@ -20,22 +20,22 @@ number_from least limit s = do
   n ← plain_number limit s
   if nat_lt n least then None else Some n
 
--- what is made of something, or else the number of the line that gave nothing
+-- the result of a function of a value, or the number of the line without one
 abbrev pub and_then : {A B : Type 0} → ℕ → Option A → (A → Result B ℕ) → Result B ℕ
 and_then number (Some x) more = more x
 and_then number None more = Err number
 
--- what lines say, each read behind all that the lines before it say, or the number of the first that may not stand there; the lines begin at this number, behind lines that
--- say so much
+-- the contents of lines, each read after those of the lines before it, or the number of the first that may not follow there; the lines begin at this number, after lines with these
+-- contents
 abbrev pub said_by : {L : Type 0} → (List L → List ℕ → Option L) → ℕ → List L → List (List ℕ) → Result (List L) ℕ
 said_by read number said [] = Ok said
 said_by read number said (text ∷ texts) = and_then number (read said text) (λ line. said_by read (number + 1) (said ++ line ∷ []) texts)
 
--- the words of a line, which one space parts
+-- the words of a line, which are separated by one space
 unfoldable pub words_of : List ℕ → List (List ℕ)
 words_of s = slice_split (λ b. b == 32) s
 
--- the words behind a first one, where a space follows it
+-- the words after a first one, where a space follows it
 abbrev pub words_after : Option (List ℕ) → List (List ℕ)
 words_after None = []
 words_after (Some s) = words_of s

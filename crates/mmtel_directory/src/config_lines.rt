@@ -40,7 +40,7 @@ pub enum LineKind {
 /// An extension that a configuration may switch on.
 #[derive(Clone, Copy, Debug, PartialEq, Eq)]
 pub enum Extension {
-    /// Reliable provisional answers and UPDATE (RFC 3262, RFC 3311).
+    /// Reliable provisional responses and UPDATE (RFC 3262, RFC 3311).
     Reliable,
     /// Session timers (RFC 4028).
     Timer,
@@ -48,7 +48,7 @@ pub enum Extension {
     Mwi,
 }
 
-/// What a line says.
+/// The content of a line.
 #[derive(Drop)]
 pub enum Line {
     /// Nothing: it is empty, or begins with `#`.
@@ -67,20 +67,20 @@ pub enum Line {
     Account {
         /// Its number.
         account: Account,
-        /// The URIs by which it is named.
+        /// Its identities.
         identities: List<Uri>,
     },
     /// The identity of the operator.
     Operator(Uri),
-    /// The URI at which rooms are made.
+    /// The factory URI, at which conferences are created.
     Factory(Uri),
     /// The bound on the diversions of a call.
     Bound(u16),
     /// The digits of the home country.
     Country(Text),
-    /// An extension is switched on.
+    /// An extension that is switched on.
     Extension(Extension),
-    /// Where the mixer of rooms takes media.
+    /// The address at which the conference mixer receives media.
     Mixer(Mixer),
     /// The name of the store.
     Store(Text),
@@ -262,7 +262,7 @@ fn account_number(digits: &[u8]) -> Option<Account>
 ///
 /// # Errors
 ///
-/// Want of memory alone.
+/// Out of memory only.
 pub fn readable_uri(alloc: Global, bytes: &[u8]) -> Result<Option<Uri>, NoMemory>
     ensures uri { IfOk result (λ uri. uri ≡ readable (uri_of bytes.now)) }
 {
@@ -305,7 +305,7 @@ fn read_identities(alloc: Global, words: &[u8]) -> Result<Option<List<Uri>>, NoM
     }
 }
 
-/// The number of an account, and the words behind it.
+/// The number of an account, and the words after it.
 fn account_words(rest: &[u8]) -> Option<(Account, &[u8])>
     ensures { option_map (λ x. (x.0, x.1.now)) result ≡ account_words rest.now }
 {
@@ -442,7 +442,7 @@ fn line_of_kind(alloc: Global, kind: LineKind, rest: &[u8]) -> Result<Option<Lin
     }
 }
 
-/// The kind of a line, and what stands behind its first word.
+/// The kind of a line, and what follows its first word.
 fn kind_and_rest(text: &[u8]) -> Option<(LineKind, &[u8])>
     ensures { option_map (λ x. (x.0, x.1.now)) result ≡ kind_and_rest text.now }
 {
@@ -450,7 +450,7 @@ fn kind_and_rest(text: &[u8]) -> Option<(LineKind, &[u8])>
     Some((kind_of(word)?, rest))
 }
 
-/// What a line says; None where it is of no form of the grammar.
+/// The content of a line; None where it is of no form of the grammar.
 #[tactic(auto, unfolding(crate::specs::Directory::line_of))]
 pub fn read_line(alloc: Global, text: &[u8]) -> Result<Option<Line>, NoMemory>
     ensures { IfOk result (λ said. said ≡ line_of text.now) }

@@ -14,18 +14,18 @@ use mmtel_trust::{Accounts, PeerTable};
 use mmtel_types::Addr;
 use std::alloc::Global;
 
-/// Who may ask for what by HTTP.
+/// Who may access what by HTTP.
 #[derive(Drop)]
 pub struct WebDirectory {
-    /// The accounts: each may ask for its own record. Calls are decided by the same table.
+    /// The accounts: each may access its own record. Calls are decided by the same table.
     pub accounts: Accounts,
-    /// The operator, who may ask for the charging rows; where there is none, nobody may.
+    /// The operator, who may read the charging rows; where there is none, nobody may.
     pub operator: Option<Uri>,
-    /// Whether the server tells of waiting messages (TS 24.606, RFC 3842).
+    /// Whether the server notifies of waiting messages (TS 24.606, RFC 3842).
     pub mwi: bool,
 }
 
-/// What a configuration says of the server and of those it speaks with.
+/// The configuration of the server and of its peers.
 #[derive(Drop)]
 pub struct Directory {
     /// The server's own address for SIP.
@@ -38,17 +38,17 @@ pub struct Directory {
     pub peers: PeerTable,
     /// The accounts and the operator.
     pub names: WebDirectory,
-    /// The URI at which rooms are made; where there is none, no room is made.
+    /// The factory URI, at which conferences are created; where there is none, no conference is created.
     pub factory: Option<Uri>,
     /// The bound on the diversions of a call: 0 to 16.
     pub bound: u16,
-    /// The digits of the home country: a number with other digits behind its `+` is abroad. Where there are none, no number is.
+    /// The digits of the home country: a number with other digits after its `+` is abroad. Where there are none, no number is.
     pub country: Option<Text>,
-    /// Whether provisional answers are relayed reliably, and UPDATE is known (RFC 3262, RFC 3311).
+    /// Whether provisional responses are relayed reliably, and UPDATE is supported (RFC 3262, RFC 3311).
     pub reliable: bool,
     /// Whether sessions have timers (RFC 4028).
     pub timer: bool,
-    /// Where the mixer of rooms takes media.
+    /// The address at which the conference mixer receives media.
     pub mixer: Mixer,
     /// The name of the store, to which the keeper is bound.
     pub store: Text,
@@ -57,7 +57,7 @@ pub struct Directory {
 /// Why a text is no configuration.
 #[derive(Clone, Copy, Debug, PartialEq, Eq)]
 pub enum DirectoryFault {
-    /// The first line that breaks the grammar, or the one past the last where a line is absent that has to be there.
+    /// The first line that breaks the grammar, or the one past the last where a required line is absent.
     BadLine {
         /// Its number, from 1.
         line: u64,
@@ -74,7 +74,7 @@ impl From<NoMemory> for DirectoryFault {
     }
 }
 
-/// Adds what each line of a text says to the draft; the number behind that of the last line.
+/// Adds the content of each line of a text to the draft; the number after that of the last line.
 fn read_lines(alloc: Global, draft: &mut Draft, bytes: &[u8]) -> Result<u64, DirectoryFault>
     ensures { Reads result draft.old (lines_of bytes.now) draft.new }
 {
@@ -90,28 +90,28 @@ fn read_lines(alloc: Global, draft: &mut Draft, bytes: &[u8]) -> Result<u64, Dir
 
 /// Reads a configuration.
 ///
-/// Each line ends with LF, which the last may lack; one that is empty or begins with `#` says nothing. One space parts the words of a line, and numbers are decimal without
+/// Each line ends with LF, which the last may lack; one that is empty or begins with `#` is ignored. One space separates the words of a line, and numbers are decimal without
 /// leading zeros. `ADDR` is `a.b.c.d:port`, the port of 1 to 65535.
 ///
-/// - `sip ADDR` and `home HOST` have to be there.
+/// - `sip ADDR` and `home HOST` are required.
 /// - `web ADDR`; without it 127.0.0.1:8080.
 /// - `peer N ADDR trusted` or `peer N ADDR untrusted`, `N` of 1 to 1,024; numbers and addresses differ.
 /// - `route NAME N`, up to 4,096 of them: the name is a host, `+` and digits, or `*`, names differ without case, and the peer is named above.
 /// - `account N URI ..`, 1 to 8 URIs, up to 10,000 such lines: `N` of 1 to 4,294,967,295, numbers differ, and so do the identities of all accounts.
 /// - `operator URI`; without it nobody may read the charging rows.
-/// - `factory URI`; without it no room is made.
+/// - `factory URI`; without it no conference is created.
 /// - `bound N`, 0 to 16; without it 5.
 /// - `country DIGITS`, one to three; without it no number is abroad.
-/// - `extension WORD`, of `100rel` (reliable provisional answers and UPDATE, RFC 3262 and RFC 3311), `timer` (session timers, RFC 4028) and
+/// - `extension WORD`, of `100rel` (reliable provisional responses and UPDATE, RFC 3262 and RFC 3311), `timer` (session timers, RFC 4028) and
 ///   `mwi` (message waiting, 3GPP TS 24.606); without it that extension is off.
 /// - `mixer IP PORT`; without it 127.0.0.1 and 40000.
 /// - `store NAME`, a name of any bytes but spaces; without it `:memory:`.
 ///
-/// Each line but peers, routes, accounts and extensions stands at most once, and so does each extension.
+/// Each line but peers, routes, accounts and extensions may occur once only, and so may each extension.
 ///
 /// # Errors
 ///
-/// `BadLine` exactly with the first line that breaks this, or with one past the last where `sip` or `home` is absent; else want of memory alone.
+/// `BadLine` exactly with the first line that breaks this, or with one past the last where `sip` or `home` is absent; else out of memory only.
 pub fn read_directory(alloc: Global, bytes: &[u8]) -> Result<Directory, DirectoryFault>
     ensures exact { Answers result (directory_of bytes.now) }
     ensures bounded { IfOk result (λ directory. directory.bound ≤ 16) }

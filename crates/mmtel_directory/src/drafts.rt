@@ -14,7 +14,7 @@ use mmtel_types::limits::{ACCOUNTS, DIVERSIONS_DEFAULT, ROUTES};
 use mmtel_types::{Account, Addr};
 use std::alloc::Global;
 
-/// What the lines so far say.
+/// The contents of the lines so far.
 #[derive(Drop)]
 pub struct Draft {
     sip: Option<Addr>,
@@ -35,7 +35,7 @@ pub struct Draft {
     store: Option<Text>,
 }
 
-/// Puts what the line of this number says in its place, where no line said it yet.
+/// Sets the value of the line of this number, where no line set it yet.
 fn say_once<T: Drop>(place: &mut Option<T>, number: u64, said: T) -> Result<(), DirectoryFault>
     ensures { Adds result number (is_none place.old) (Some said) place.new }
 {
@@ -46,7 +46,7 @@ fn say_once<T: Drop>(place: &mut Option<T>, number: u64, said: T) -> Result<(), 
     Ok(())
 }
 
-/// Switches an extension on by the line of this number, where no line did it yet.
+/// Switches an extension on by the line of this number, where no line did so yet.
 fn switch_on(switch: &mut bool, number: u64) -> Result<(), DirectoryFault>
     ensures { Adds result number (not switch.old) true switch.new }
 {
@@ -57,7 +57,7 @@ fn switch_on(switch: &mut bool, number: u64) -> Result<(), DirectoryFault>
     Ok(())
 }
 
-/// Adds the identities that the line of this number gives an account.
+/// Adds the identities that the line of this number lists for an account.
 fn add_identities(
     alloc: Global,
     accounts: &mut Accounts,
@@ -213,7 +213,7 @@ impl Draft {
         }
     }
 
-    /// Reads the line of this number, and adds what it says.
+    /// Reads the line of this number, and adds its content.
     #[tactic(auto, unfolding(crate::specs::Drafts::step))]
     pub fn read(&mut self, alloc: Global, number: u64, text: &[u8]) -> Result<(), DirectoryFault>
         ensures { Steps result number (step self.old text.now) self.new }
@@ -224,7 +224,7 @@ impl Draft {
         }
     }
 
-    /// The directory, where `last` is the number behind that of the last line.
+    /// The directory, where `last` is the number after that of the last line.
     pub fn finish(self, alloc: Global, last: u64) -> Result<Directory, DirectoryFault>
         ensures { Answers result (finished last self) }
     {

@@ -1,4 +1,4 @@
-//! Configurations: the directory of the server and of those it speaks with, read of a text of lines.
+//! Configurations: the directory of the server and of its peers, read of a text of lines.
 #![tactic(auto)]
 
 mod config_lines;

@@ -1,4 +1,4 @@
-//! The lines of a text, and numbers as configurations and scripts write them.
+//! The lines of a text, and numbers in the format of configurations and scripts.
 ghost use Rattle.std.specs.Prelude.{◌≡◌, ◌<◌, ◌≤◌, ◌∷◌, [], length, MatchOption, IfSome, option_copied};
 ghost use Rattle.mmtel_directory.specs.Lines.{lines_of, words_of, words_after, is_remark, number_from};
 
@@ -18,7 +18,7 @@ pub fn next_line(bytes: &[u8]) -> Option<(&[u8], &[u8])>
     }
 }
 
-/// The first word, and what follows the space behind it; None where there is no space.
+/// The first word, and what follows the space after it; None where there is no space.
 pub fn first_word(bytes: &[u8]) -> (&[u8], Option<&[u8]>)
     ensures words { words_of bytes.now ≡ result.0.now ∷ words_after (option_copied result.1) }
     ensures shorter { IfSome result.1 (λ more. length more.now < length bytes.now) }
@@ -29,7 +29,7 @@ pub fn first_word(bytes: &[u8]) -> (&[u8], Option<&[u8]>)
     }
 }
 
-/// Whether a line says nothing: it is empty, or begins with `#`.
+/// Whether a line is ignored: it is empty, or begins with `#`.
 pub fn is_remark(line: &[u8]) -> bool
     ensures { result ≡ is_remark line.now }
 {

@@ -1,5 +1,5 @@
--- The diversion that a record asks for at a moment of a call: that of the first rule that holds (TS 24.604 §4.5.2.6 and §4.9.1), with its cause (RFC 4458 §2). And
--- deflection, the diversion by the user's own device (TS 24.604 §4.5.2.6).
+-- The diversion that a record requires at an event of a call: that of the first rule that holds (TS 24.604 §4.5.2.6 and §4.9.1), with its cause (RFC 4458 §2). And deflection, the
+-- diversion by the user's own device (TS 24.604 §4.5.2.6).
 use Rattle.std.specs.Prelude.{ℕ, Bool, false, if◌then◌else◌, List, Option, Some, None, option_and_then, slice_get}
 use Rattle.std.specs.Option.{option_map}
 use Rattle.mmtel_sheet_values.specs.declared.values.Action.{Action}
@@ -15,13 +15,13 @@ use Rattle.mmtel_rules.specs.Rules.{first_that_holds}
 use Rattle.mmtel_rules.specs.declared.values.When.{When}
 use Rattle.mmtel_diversion.specs.declared.choosing.Diversion.{Diversion}
 
--- a diversion: the place of the rule that asks for it, where the call goes, and why
+-- a diversion: the index of its rule, where the call goes, and the cause
 pub record Chosen : Type 0 where
   pub rule : ℕ
   pub forward : Forward
   pub cause : ℕ
 
--- what a diversion of the program says
+-- a diversion of the program, as seen here
 abbrev pub shown : Diversion → Chosen
 shown d = record { rule = d.rule; forward = d.forward.now; cause = d.cause }
 
@@ -33,21 +33,21 @@ cause_of (Some NoAnswer) = 408
 cause_of (Some NotReachable) = 503
 cause_of (Some NotRegistered) = 404
 
--- where the rule forwards to; a rule that only lets through or bars, which stands in no diversion part that was read, forwards nowhere
+-- where the rule forwards to; a rule that only allows or bars, which is in no diversion part that was read, forwards nowhere
 abbrev pub forward_of : Action → Option Forward
 forward_of (Act.Forward forward) = Some forward
 forward_of (Act.Allow allowed) = None
 
--- what the rule at this place asks for
+-- the diversion of the rule at this index
 abbrev pub diversion_by : ℕ → Rule → Option Chosen
 diversion_by place rule = option_map (λ forward. record { rule = place; forward = forward; cause = cause_of rule.condition.event }) (forward_of rule.action)
 
--- what the first rule that holds asks for
+-- the diversion of the first rule that holds
 abbrev pub diversion_among : Circumstances → When → List Rule → Option Chosen
 diversion_among k when rules =
     option_and_then (λ place. option_and_then (diversion_by place) (slice_get rules place)) (first_that_holds k when rules)
 
--- the diversion of the moment; none where diversion is not active
+-- the diversion at the event; none where diversion is not active
 abbrev pub diversion_of : Circumstances → When → Sheet → Option Chosen
 diversion_of k when sheet =
     option_and_then (λ part. diversion_among k when part.rules) sheet.diversion
@@ -57,6 +57,6 @@ abbrev pub allows_deflection : Option DiversionPart → Bool
 allows_deflection None = false
 allows_deflection (Some part) = part.deflection
 
--- the cause of a deflection, which is another one once the device was alerted; none where the record does not allow it
+-- the cause of a deflection, which depends on whether the device was alerted; none where the record does not allow it
 abbrev pub deflection_of : Sheet → (alerted : Bool) → Option ℕ
 deflection_of sheet alerted = if allows_deflection sheet.diversion then Some (if alerted then 487 else 480) else None

@@ -1,4 +1,4 @@
-//! The diversion that a record asks for.
+//! The diversion that a record requires.
 ghost use Rattle.std.specs.Prelude.{◌≡◌};
 ghost use Rattle.std.specs.Option.{option_map};
 ghost use Rattle.mmtel_rules.specs.Circumstances.{known};
@@ -7,14 +7,14 @@ ghost use Rattle.mmtel_diversion.specs.Diversion.{cause_of, deflection_of, diver
 use mmtel_rules::{Facts, When, first};
 use mmtel_sheet_values::{Action, EventWord, Forward, Rule, Sheet};
 
-/// A diversion that a rule asks for.
+/// A diversion by a rule.
 #[derive(Clone, Copy)]
 pub struct Diversion<'a> {
-    /// The place of the rule among those of the record, counted from 0.
+    /// The index of the rule among those of the record, counted from 0.
     pub rule: usize,
-    /// Where the call goes, and who is told what of it.
+    /// Where the call goes, and who is notified of what about it.
     pub forward: &'a Forward,
-    /// Why, as the `cause` parameter of the new target says (RFC 4458 §2).
+    /// The cause, for the `cause` parameter of the new target (RFC 4458 §2).
     pub cause: u16,
 }
 
@@ -31,7 +31,7 @@ fn cause_of(event: Option<EventWord>) -> u16
     }
 }
 
-/// The diversion that the rule at this place asks for; None where it forwards nowhere.
+/// The diversion of the rule at this index; None where it forwards nowhere.
 fn diversion_by(place: usize, rule: &Rule) -> Option<Diversion<'_>>
     ensures { option_map shown result ≡ diversion_by place rule.now }
 {
@@ -45,8 +45,8 @@ fn diversion_by(place: usize, rule: &Rule) -> Option<Diversion<'_>>
     }
 }
 
-/// The diversion that the record asks for at this moment: that of the first of its rules that holds (TS 24.604 §4.5.2.6 and §4.9.1). None where diversion is not active or
-/// no rule holds, and where the first that holds forwards nowhere, which no rule of a record that was read does. It takes no memory.
+/// The diversion that the record requires at this event: that of the first of its rules that holds (TS 24.604 §4.5.2.6 and §4.9.1). None where diversion is not active or no rule
+/// holds, and where the first that holds forwards nowhere, which no rule of a record that was read does. It allocates nothing.
 pub fn choose<'a>(s: &'a Sheet, f: &Facts, when: When) -> Option<Diversion<'a>>
     ensures exact { let facts = f.entry.now in option_map shown result ≡ diversion_of (known facts) when s.now }
 {
@@ -58,7 +58,7 @@ pub fn choose<'a>(s: &'a Sheet, f: &Facts, when: When) -> Option<Diversion<'a>>
 }
 
 /// The cause of a diversion by the user's own device (communication deflection, TS 24.604 §4.5.2.6): 487 once the device was alerted, else 480 (RFC 4458 §2). None where
-/// the record does not allow it. It takes no memory.
+/// the record does not allow it. It allocates nothing.
 pub fn deflect(s: &Sheet, alerted: bool) -> Option<u16>
     ensures exact { result ≡ deflection_of s.now alerted }
 {

@@ -1,4 +1,4 @@
--- What a room makes of a REFER is what becomes of it.
+-- What a conference does with a REFER follows the result of that REFER.
 use Rattle.std.proofs.Common.{◌≡◌, ℕ, Bool, true, false, Option, Some, None, refl}
 use Rattle.mmtel_lex.specs.declared.values.Uri.{Uri}
 use Rattle.mmtel_trust.specs.Peers.{route_of}

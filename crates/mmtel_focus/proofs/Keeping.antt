@@ -1,4 +1,4 @@
--- The rooms that are live, as they are kept, through each change: numbers ascend, and each room is found by its marks.
+-- The invariant of the live conferences through each change: numbers ascend, and the index holds the marks of each conference.
 use Rattle.std.proofs.Common.{◌≡◌, ℕ, zero, suc, ◌+◌, ◌-◌, Bool, true, false, List, [], ◌∷◌, ◌++◌}
 use Rattle.std.proofs.Common.{length, get_or-set_same, lt-length-set, set-set, Some, refl, sym, ap, ◌∙◌, arith, drop, take}
 use Rattle.std.proofs.lemmas.Bool.Decides.{nat_tests}
@@ -13,7 +13,7 @@ use Rattle.mmtel_focus.specs.Marks.{AreKept, marks_of, number_of}
 use Rattle.mmtel_focus.specs.Rooms.{Room}
 use Rattle.mmtel_types.specs.declared.numbers.RoomNo.{RoomNo}
 
--- ---- the rooms from a place on
+-- ---- the conferences from a place on
 
 take_all : {X : Type 0} (xs : List X) → take (length xs) xs ≡ xs
 take_all [] = refl
@@ -29,7 +29,7 @@ take_rest [] (suc k) = take_none (0 - suc k)
 take_rest (x ∷ xs) zero = let e : length (x ∷ xs) - 0 ≡ length (x ∷ xs) = omega arith in ap (λ (n : ℕ). take n (x ∷ xs)) e ∙ take_all (x ∷ xs)
 take_rest (x ∷ xs) (suc k) = let e : length (x ∷ xs) - suc k ≡ length xs - k = omega arith in ap (λ (n : ℕ). take n (drop k xs)) e ∙ take_rest xs k
 
--- ---- a room is changed, or taken away
+-- ---- a conference is changed, or removed
 
 module _ (rooms : List Room) (opened : ℕ) (i : Index) (k : ℕ) (x : Room) (are : AreKept rooms opened i) (is : slice_get rooms k ≡ Some x) where
   changed : (j : Index) (y : Room) → ((q : Key) → (q.owner ≡ number_of x → ⊥) → Holds i q → Holds j q) → y.number ≡ x.number → HoldsAll j (number_of y) (marks_of y)
@@ -39,11 +39,11 @@ module _ (rooms : List Room) (opened : ℕ) (i : Index) (k : ℕ) (x : Room) (ar
     marked = set_marked number_of marks_of (number_of x) i j pass 0 opened rooms k x y refl are.ascend is all are.marked;
   }
 
-  -- its marks are taken out, and an empty room of its number stands there
+  -- its marks are removed, and an empty conference of its number is at its place
   pub out_kept : (j : Index) → Written false (number_of x) (marks_of x) i j → AreKept (slice_set rooms k (new_room x.number)) opened j
   out_kept j out = changed j (new_room x.number) out.others refl (λ m has. absurd has)
 
-  -- another room of its number stands there, which has its marks
+  -- another conference of its number is at its place, with its marks in the index
   pub back_kept : (j : Index) (y : Room) → y.number ≡ x.number → Written true (number_of y) (marks_of y) i j → AreKept (slice_set rooms k y) opened j
   back_kept j y same into = changed j y (λ q other h. into.kept refl q h) same (into.noted refl)
 
@@ -58,7 +58,7 @@ module _ (rooms : List Room) (opened : ℕ) (i : Index) (k : ℕ) (x : Room) (ar
     marked = removed_marked number_of marks_of (number_of x) i j out.others 0 opened rooms k x refl are.ascend is are.marked;
   }
 
--- ---- a room more
+-- ---- one more conference
 
 pub opened_kept : (rooms : List Room) (opened : ℕ) (i j : Index) (x : Room)
     → AreKept rooms opened i → number_of x ≡ opened + 1 → Written true (number_of x) (marks_of x) i j → AreKept (rooms ++ x ∷ []) (number_of x) j
@@ -67,25 +67,25 @@ opened_kept rooms opened i j x are number into = record {
   marked = pushed_marked number_of marks_of i j rooms x (into.kept refl) (into.noted refl) are.marked;
 }
 
--- ---- the room at a place
+-- ---- the conference at a place
 
 pub stands : (l : List Room) (k : ℕ) (x y : Room) → slice_get l k ≡ Some x → slice_get (slice_set l k y) k ≡ Some y
 stands l k x y is = slice_get-get_or (slice_set l k y) k y (lt-length-set l k y (slice_get_within l k x is)) ∙ ap Some (get_or-set_same l k y y (slice_get_within l k x is))
 
--- an empty room of its number
+-- an empty conference of its number
 pub waits : (l : List Room) (k : ℕ) (x y : Room) → slice_get l k ≡ Some x → y.number ≡ x.number → slice_get (slice_set l k (new_room x.number)) k ≡ Some (new_room y.number)
 waits l k x y is same = stands l k x (new_room x.number) is ∙ ap (λ (n : RoomNo). Some (new_room n)) (sym same)
 
--- it was taken out, and is put back as another one
+-- it was taken out, and another one is put back
 pub put_twice : (l : List Room) (k : ℕ) (x y : Room) → slice_set (slice_set l k x) k y ≡ slice_set l k y
 put_twice l k x y = set-set l k x y
 
--- a step that kept the number, or none
+-- a step that keeps the number, or none
 pub same_number : {E : Type 0} (r : Result (Unit {0}) E) (y x z : Room) → OnOk r (y ≡ z) → OnErr r (y ≡ x) → z.number ≡ x.number → y.number ≡ x.number
 same_number (Ok done) y x z is refused same = ap (λ (room : Room). room.number) is ∙ same
 same_number (Err fault) y x z is refused same = ap (λ (room : Room). room.number) refused
 
--- ---- numbers, as they are tested
+-- ---- the equality test of numbers
 
 pub alike : (a b : ℕ) → a ≡ b → (a == b) ≡ true
 alike a b e = grind (arith, nat_tests)

@@ -1,4 +1,4 @@
--- A room that a response or a request is of has the mark by which it is looked for.
+-- A conference to which a response or a request belongs has the mark by which it is looked up.
 use Rattle.std.proofs.Common.{◌≡◌, ℕ, Bool, true, false, List, Option, Some, None, refl, sym, ap, inl, inr}
 use Rattle.std.proofs.lemmas.Slice.Eq.{bytes_eq-Decides}
 use Rattle.std.specs.Prelude.{◌&&◌, is_some, position}

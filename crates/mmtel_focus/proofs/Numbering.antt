@@ -1,4 +1,4 @@
--- A room keeps its number through each row of the room table.
+-- A conference keeps its number in each transition of the step table of conferences.
 use Rattle.std.proofs.Common.{◌≡◌, ℕ, Bool, true, false, List, [], ◌∷◌, Option, Some, None, Result, Ok, Err, refl, ◌∙◌}
 use Rattle.std.specs.Prelude.{◌&&◌, codes, if◌then◌else◌, nat_lt, not, slice_get}
 use Rattle.std.specs.Str.{bytes_eq}
@@ -56,7 +56,7 @@ module _ (row : (place : ℕ) → Seat → Step → Step) (law : (place : ℕ) (
   at_place_keeps (Some place) s = at_seat_keeps place s
 
 module _ (site : Site) (now : ℕ) where
-  -- ---- a seat is told, and left
+  -- ---- a participant is notified, and leaves
 
   pub told_to_keeps : (goes_on : Bool) (line : List ℕ) (number : ℕ) (s : Step) → Keeps s (told_to site goes_on line number s)
   told_to_keeps goes_on line number s = at_place_keeps (told site goes_on line) (λ place seat t. refl) (place_of number s.room.seats) s
@@ -73,7 +73,7 @@ module _ (site : Site) (now : ℕ) where
   closed_with_keeps : (number : ℕ) (s : Step) → Keeps s (closed_with site now number s)
   closed_with_keeps number s = if_keeps (is_creator number) s (closed site now s.room.seats s) s (closed_keeps s.room.seats s) refl
 
-  -- ---- a seat is taken
+  -- ---- a party becomes a participant
 
   pub come_keeps : (leg : Released) (account : Option Account) (key : TKey) (m : Said) (s : Step) → Keeps s (come site now leg account key m s)
   unfolding come
@@ -92,7 +92,7 @@ module _ (site : Site) (now : ℕ) where
   bidden_keeps by None s = told_to_keeps false (own_status 404) by s
   bidden_keeps by (Some u) s = invited_at_keeps by (route_of u site.peers.routes) u s
 
-  -- ---- what a seat asks
+  -- ---- the requests of a participant
 
   invite_keeps : (key : TKey) (m : Said) (place : ℕ) (seat : Seat) (s : Step) → Keeps s (on_invite site now key m place seat s)
   invite_keeps key m place seat s = if_keeps (offers_audio m.heard.body) s (agreed_again site now key m place seat s) (refused site key m 488 place seat s) refl refl
@@ -134,7 +134,7 @@ module _ (site : Site) (now : ℕ) where
   unfolding on_ack
   ack_keeps m place seat s = if_keeps (acknowledges m seat.awaited) s (put place (record seat { awaited = None }) s) s refl refl
 
-  -- ---- what comes of the server's INVITE to a seat
+  -- ---- the results of the server's INVITE to a participant
 
   ended_keeps : (line : List ℕ) (place : ℕ) (seat : Seat) (s : Step) → Keeps s (ended_without site now line place seat s)
   ended_keeps line place seat s = told_by_keeps false line seat.by (dismissed site now place seat s)
@@ -192,7 +192,7 @@ module _ (site : Site) (now : ℕ) where
   pub signal_keeps : (heard : SeatSignal) (place : Option ℕ) (s : Step) → Keeps s (at_place (hears site now heard) place s)
   signal_keeps heard place s = at_place_keeps (hears site now heard) (hears_keeps heard) place s
 
--- ---- a seat is left without a signal
+-- ---- a participant leaves without a signal
 
 left_at_keeps : (place : ℕ) (o : Option Seat) (room : Room) → (left_at place o room).number ≡ room.number
 left_at_keeps place None room = refl

@@ -1,4 +1,4 @@
--- What comes of the server's INVITE to a seat (RFC 3261 §13.2.2, RFC 3515 §2.4.5): its responses, silence, and its deadlines; and of a 2xx without ACK (RFC 3261 §13.3.1.4).
+-- The results of the server's INVITE to a participant (RFC 3261 §13.2.2, RFC 3515 §2.4.5): its responses, a timeout, and its timers; and a 2xx without ACK (RFC 3261 §13.3.1.4).
 use Rattle.std.specs.Prelude.{ℕ, ◌&&◌, not, nat_lt, false, if◌then◌else◌, Option, Some, None, List, slice_set}
 use Rattle.std.specs.Str.{bytes_eq}
 pub use Rattle.mmtel_answers.specs.Said.{tag_given}
@@ -27,7 +27,7 @@ pub use Rattle.mmtel_sip_rules.specs.Statuses.{is_provisional, is_success}
 abbrev pub on_provisional : TKey → (place : ℕ) → Seat → Step → Step
 on_provisional key place seat s = put place (record seat { invite = noted key seat.invite }) s
 
--- ---- a 2xx: its dialog has an ACK, and the one who asked for it is told
+-- ---- a 2xx: ACK is sent in its dialog, and the participant that sent the REFER is notified
 
 abbrev pub stood_in : RoomNo → (now : ℕ) → Remote → (place : ℕ) → Option Seat → List Seat → List Seat
 stood_in room now remote place None seats = seats
@@ -46,13 +46,13 @@ on_success site now m place seat s =
     told_by site false (own_status 200) seat.by
     (at_seat (acknowledged site (tag_given m)) place (standing now (remote_of Callee m.heard.lines) place seat s))
 
--- ---- it ends without one
+-- ---- it ends without a 2xx
 
--- the seat is left, with BYE to somebody who is seated, and the one who asked for it is told
+-- the participant leaves, with BYE where it is connected, and the participant that sent the REFER is notified
 abbrev pub ended_without : Site → (now : ℕ) → (line : List ℕ) → (place : ℕ) → Seat → Step → Step
 ended_without site now line place seat s = told_by site false line seat.by (dismissed site now place seat s)
 
--- the INVITE has ended, and is not loose
+-- the INVITE has ended, and is not abandoned
 abbrev pub ended_unasked : Site → (now : ℕ) → (line : List ℕ) → (place : ℕ) → Seat → Step → Step
 ended_unasked site now line place seat s = at_seat (ended_without site now line) place (put place (record seat { invite = None }) s)
 
@@ -61,7 +61,7 @@ on_failure site now key m place seat s =
     ended_unasked site now (status_line (status_of m.heard.start) (phrase_in m.heard.start)) place seat
     (with_desk (failure_acked site.sip key m seat.invite s.effects.desk) s)
 
--- ---- a 2xx that was acknowledged is heard again: one with the same tag has that ACK again
+-- ---- a further 2xx after one that was acknowledged: the ACK is retransmitted for one with the same tag
 
 abbrev pub acked_again : (ack : List ℕ) → Seat → Step → Step
 acked_again ack seat s = with_desk (emitted (emit.Plain (dialogue_of seat).peer ack) s.effects.desk) s
@@ -69,7 +69,7 @@ acked_again ack seat s = with_desk (emitted (emit.Plain (dialogue_of seat).peer 
 abbrev pub on_repeat : Said → (tag ack : List ℕ) → (place : ℕ) → Seat → Step → Step
 on_repeat m tag ack place seat s = if is_success (status_of m.heard.start) && bytes_eq (tag_given m) tag then acked_again ack seat s else s
 
--- ---- any response, by its client transaction
+-- ---- any response, with its client transaction
 
 abbrev pub on_response : Site → (now : ℕ) → TKey → Said → (place : ℕ) → Seat → Step → Step
 on_response site now key m place seat s =
@@ -85,24 +85,24 @@ on_answer_to (Some (Agreed branch tag ack)) site now key m place seat s = on_rep
 unfoldable pub on_answer : Site → (now : ℕ) → TKey → Said → (place : ℕ) → Seat → Step → Step
 on_answer site now key m place seat s = on_answer_to seat.invite site now key m place seat s
 
--- ---- silence is as a 408 of the server's own
+-- ---- a timeout has the effect of a 408 of the server's own
 
 unfoldable pub on_silence : Site → (now : ℕ) → (place : ℕ) → Seat → Step → Step
 on_silence site now place seat s = if is_waiting seat.invite then ended_unasked site now (own_status 408) place seat s else s
 
--- ---- deadlines; one whose invitation or 2xx no longer waits for it brings nothing
+-- ---- timers; one whose invitation or 2xx no longer waits for it has no effect
 
--- an invitation rang too long: CANCEL where a provisional response came, and it is loose
+-- an invited party has rung too long: CANCEL where a provisional response was received, and the INVITE is abandoned
 abbrev pub too_long : Site → (now : ℕ) → (place : ℕ) → Seat → Step → Step
 too_long site now place seat s =
     at_seat (ended_without site now (own_status 408)) place
     (put place (record seat { invite = once_cancelled_in seat.invite }) (with_desk (cancelled_in site.sip seat.invite s.effects.desk) s))
 
--- somebody who is seated does not ring
+-- a party that is connected does not ring
 abbrev pub on_cap : Site → (now : ℕ) → (due : ℕ) → (place : ℕ) → Seat → Step → Step
 on_cap site now due place seat s = if not (is_seated seat) && waits due seat.invite then too_long site now place seat s else s
 
--- no ACK came: the seat is left
+-- no ACK was received: the participant leaves
 abbrev pub unacknowledged : Site → (now : ℕ) → (place : ℕ) → Seat → Step → Step
 unacknowledged site now place seat s = closed_with site now seat.number (dismissed site now place seat s)
 

@@ -1,4 +1,4 @@
--- A table of rooms and all that was done on it. What a table is after deeds is told from the list of the deeds alone.
+-- A table of conferences and all operations on it. The table after operations is a function of their list alone.
 use Rattle.std.specs.Prelude.{ℕ, ◌≡◌, Bool, true, false, Option, List, [], ◌∷◌, ◌++◌, drop}
 use Rattle.mmtel_answers.specs.Said.{Said}
 use Rattle.mmtel_answers.specs.declared.answers.FurtherMethods.{FurtherMethods}
@@ -21,17 +21,17 @@ use Rattle.mmtel_focus.specs.declared.signals.Joining.{Joining}
 use Rattle.mmtel_focus.specs.declared.signals.Joining.TheVariants as joining
 use Rattle.mmtel_focus.specs.declared.signals.RoomSignal.{RoomSignal}
 
--- what was heard: the moment, the tokens that were drawn before, and the signal
+-- what was received: the moment, the tokens that were drawn before, and the signal
 pub record Heard : Type 0 where
   pub at : ℕ
   pub tokens : Drawn
   pub signal : RoomSignal
 
--- where none is drawn
+-- no token was drawn before
 abbrev pub no_tokens : Drawn
 no_tokens = record { token = []; drawn = 0 }
 
--- a leg, whose account this is, that came by this INVITE
+-- a leg, with its account, that came by this INVITE
 pub record Coming : Type 0 where
   pub at : ℕ
   pub tokens : Drawn
@@ -40,11 +40,11 @@ pub record Coming : Type 0 where
   pub key : TKey
   pub invite : Said
 
--- a caller, by whom no token is drawn
+-- a caller's leg, for which no token is drawn
 abbrev pub coming : (at : ℕ) → Leg → Option Account → TKey → Said → Coming
 coming at leg account key m = record { at = at; tokens = no_tokens; leg = released.Caller leg; account = account; key = key; invite = m }
 
--- a leg, whose account this is, that came out of a call by the REFER of this seat
+-- a leg, with its account, that was moved out of a call by the REFER of this participant
 pub record Adoption : Type 0 where
   pub at : ℕ
   pub tokens : Drawn
@@ -52,24 +52,24 @@ pub record Adoption : Type 0 where
   pub account : Option Account
   pub by : ℕ
 
--- what is done on a table of rooms
+-- an operation on a table of conferences
 pub data Deed : Type 0 where
-  -- a room was opened
+  -- a conference was opened
   Opens : (coming : Coming) → Deed
-  -- a seat of the room of this number was taken
+  -- a leg became a participant of the conference of this number
   Joins : (room : ℕ) → (coming : Coming) → Deed
   Adopts : (room : ℕ) → (adoption : Adoption) → Deed
-  -- a seat was told a status
+  -- a participant was notified of a status
   Notifies : (room seat code : ℕ) → (tokens : Drawn) → Deed
-  -- a signal was heard
+  -- a signal was received
   Hears : (heard : Heard) → Deed
-  -- a seat was left, and a room was closed, without a signal
+  -- a participant left, and a conference was closed, without a signal
   Leaves : (room seat : ℕ) → Deed
   Closes : (room : ℕ) → Deed
-  -- so many rows were handed over
+  -- so many CDRs were handed over
   Drops : (count : ℕ) → Deed
 
--- ---- what they bring forth
+-- ---- the effects of an operation
 
 abbrev pub opened_by : Site → Coming → Table → Step
 opened_by site c table = opened site c.at c.leg c.account c.key c.invite (next_room table) (nothing c.tokens)
@@ -96,9 +96,9 @@ effects_of site (Leaves room seat) table = nothing no_tokens
 effects_of site (Closes room) table = nothing no_tokens
 effects_of site (Drops count) table = nothing no_tokens
 
--- ---- the table after a deed
+-- ---- the table after an operation
 
--- INVITEs that a room left are with the others, and the rows that were closed wait with the others
+-- the INVITEs that a conference abandoned are appended to the others, and so are the CDRs that were closed
 abbrev pub with_moved : Moved → Table → Table
 with_moved moved table = record table { live = moved.live; loose = moved.loose ++ moved.effects.loose; rows = table.rows ++ moved.effects.desk.rows }
 
@@ -118,48 +118,48 @@ did site (Leaves room seat) table = record table { live = left room seat table.l
 did site (Closes room) table = record table { live = closed room table.live }
 did site (Drops count) table = record table { rows = drop count table.rows }
 
--- the table after these deeds, the newest first
+-- the table after these operations, the newest first
 abbrev pub table_after : Site → List Deed → Table
 table_after site [] = no_rooms
 table_after site (deed ∷ deeds) = did site deed (table_after site deeds)
 
--- ---- a value of rooms
+-- ---- the model of `Rooms`
 
 pub record RoomsView : Type 0 where
   pub sip : Addr
   pub mixer : Mixer
   pub methods : FurtherMethods
   pub table : Table
-  -- memory was wanted in a step
+  -- memory ran out in a step
   pub has_failed : Bool
 
--- its configuration, with the peers and the accounts that each call on it is given
+-- its configuration, with the peers and the accounts that are passed to each call on it
 abbrev pub site_of : RoomsView → Peers → List AccountIdentity → Site
 site_of rooms peers accounts = record { sip = rooms.sip; mixer = rooms.mixer; methods = rooms.methods; peers = peers; accounts = accounts }
 
--- it stands for these deeds
+-- it represents the table after these operations
 pub record Stands (peers : Peers) (accounts : List AccountIdentity) (rooms : RoomsView) (deeds : List Deed) : Type 0 where
   pub table : rooms.table ≡ table_after (site_of rooms peers accounts) deeds
   pub works : rooms.has_failed ≡ false
 
--- the rooms after a deed, and what it brings forth
+-- the conferences after an operation, and its effects
 abbrev pub after_deed : Peers → List AccountIdentity → Deed → RoomsView → RoomsView
 after_deed peers accounts deed rooms = record rooms { table = did (site_of rooms peers accounts) deed rooms.table }
 
 abbrev pub brought_by : Peers → List AccountIdentity → Deed → RoomsView → Effects
 brought_by peers accounts deed rooms = effects_of (site_of rooms peers accounts) deed rooms.table
 
--- what a deed brings forth, where these were done before
+-- the effects of an operation after these ones
 abbrev pub brought_after : Site → List Deed → Deed → Effects
 brought_after site deeds deed = effects_of site deed (table_after site deeds)
 
--- ---- how a leg enters a room
+-- ---- how a leg enters a conference
 
 abbrev pub entering : (room at : ℕ) → Drawn → Released → Option Account → Joining → Deed
 entering room at tokens leg account (joining.Invited key invite) = Joins room (record { at = at; tokens = tokens; leg = leg; account = account; key = key; invite = invite.now })
 entering room at tokens leg account (joining.Referred by) = Adopts room (record { at = at; tokens = tokens; leg = leg; account = account; by = by })
 
--- an INVITE offers audio
+-- it is no INVITE, or one that offers audio
 abbrev pub is_offer : Joining → Bool
 is_offer (joining.Invited key invite) = offers_audio invite.now.heard.body
 is_offer (joining.Referred by) = true

@@ -1,4 +1,4 @@
--- How a seat is taken: by an INVITE that comes to the factory or to the room (RFC 4579 §5.4, §5.1), by an invitation (§5.5), and by a leg out of a call (§5.6).
+-- How a party becomes a participant: by an INVITE to the factory or to the conference (RFC 4579 §5.4, §5.1), by an invitation (§5.5), and by a leg moved out of a call (§5.6).
 use Rattle.std.specs.Prelude.{ℕ, ◌+◌, Bool, false, true, if◌then◌else◌, Option, Some, None, List, [], ◌∷◌, ◌++◌, codes}
 use Rattle.mmtel_answers.specs.Said.{Said}
 use Rattle.mmtel_charging.specs.Meters.{Noted}
@@ -35,26 +35,26 @@ pub use Rattle.mmtel_seats.specs.Seats.{metered}
 use Rattle.mmtel_seats.specs.declared.numbers.Next.{Next}
 pub use Rattle.mmtel_sip_rules.specs.Requests.{ack_time}
 
--- ---- a leg that comes to a room without a meter
+-- ---- a leg that enters a conference without a meter
 
--- who it is of, with a participant's meter
+-- the party of the leg, with a participant's meter
 abbrev pub party_of : Option Noted → Released → Party
 party_of meter (released.Caller leg) = Came (metered meter leg)
 party_of meter (released.Callee leg) = Brought (metered meter leg)
 
--- a new seat stands last, and has counted an invitation or a 2xx
+-- a new participant is the last of the list, and counts an invitation or a 2xx
 abbrev pub with_new : Seat → Room → Room
 with_new seat room = record room { taken = next_number room.taken; counted = next_number room.counted; seats = room.seats ++ seat ∷ [] }
 
--- ---- an INVITE that is heard has the mixer's answer
+-- ---- an INVITE that is received gets the mixer's answer
 
--- the 200, and the deadline of its ACK, which has this number in the room
+-- the 200, and the timer of its ACK, which has this number in the conference
 abbrev pub agreed : Site → (now : ℕ) → RoomNo → (seat number : ℕ) → TKey → Said → (tag : List ℕ) → Desk → Desk
 agreed site now room seat number key m tag desk =
     emitted (emit.ArmSeat room seat (due.NoAck number) (now + ack_time))
     (answered_at (contact_value site.sip room) key m tag 200 [] sdp_lines (answer_in site.mixer m.heard.body) desk)
 
--- the ACK has the number of the INVITE, which is the last request that was heard
+-- the ACK has the CSeq number of the INVITE, which is the last request that was received
 abbrev pub new_seat : (now : ℕ) → Room → Released → Option Account → Seat
 new_seat now room leg account = record {
   number = next_number room.taken;
@@ -65,7 +65,7 @@ new_seat now room leg account = record {
   party = party_of (meter_of room.number now account) leg;
 }
 
--- somebody comes to a room
+-- a leg joins a conference
 unfoldable pub come : Site → (now : ℕ) → Released → Option Account → TKey → Said → Step → Step
 come site now leg account key m s =
     with_desk (agreed site now s.room.number (next_number s.room.taken) (next_number s.room.counted) key m (released_leg leg).dialogue.local_tag s.effects.desk)
@@ -74,9 +74,9 @@ come site now leg account key m s =
 abbrev pub new_room : RoomNo → Room
 new_room number = record { number = number; taken = 0; counted = 0; seats = [] }
 
--- ---- somebody is invited
+-- ---- a party is invited
 
--- the numbers of the room's next seat
+-- the numbers of the conference's next participant
 abbrev pub next_in : Room → Next
 next_in room = next_of room.number room.taken room.counted
 
@@ -92,7 +92,7 @@ invited_in site now by account d s =
 abbrev pub invited : Site → (now by : ℕ) → Peer → Uri → Step → Step
 invited site now by peer u s = invited_in site now by (account_of site.accounts u) (invitation_dialog site s.room.number peer (uri_text (target_of u)) s.effects.desk) s
 
--- the seat that asked is told where no peer leads to the URI, and else where no seat is free
+-- the participant that sent the REFER is notified where no route leads to the URI, and else where the conference is full
 abbrev pub told_failure : Site → (by code : ℕ) → Step → Step
 told_failure site by code s = told_to site false (own_status code) by s
 
@@ -104,7 +104,7 @@ unfoldable pub bidden : Site → (now by : ℕ) → Option Uri → Step → Step
 bidden site now by None s = told_failure site by 404 s
 bidden site now by (Some u) s = invited_at site now by (route_of u site.peers.routes) u s
 
--- ---- a leg out of a call is asked in, and has a seat from then on
+-- ---- a leg of a call is invited by a re-INVITE, and is a participant from then on
 
 abbrev pub having_invited_by : Released → Released
 having_invited_by (released.Caller leg) = released.Caller (having_invited leg)
@@ -125,7 +125,7 @@ adopted site now leg account by s =
     with_desk (asked_with site.sip (codes "INVITE") (released_leg leg).dialogue (described site.sip s.room.number) (offer_text site.mixer) s.effects.desk)
     (record s { room = with_new (adopted_seat now s.room leg account by (token s.effects.desk)) s.room })
 
--- two legs are of one side of their calls
+-- both legs are of the same side of their calls
 abbrev pub is_same_side : Released → Released → Bool
 is_same_side (released.Caller leg) (released.Caller other) = true
 is_same_side (released.Caller leg) (released.Callee other) = false

@@ -1,4 +1,4 @@
--- What a seat hears, where its messages are lent: what private functions alone cite.
+-- What a participant receives, where its messages are borrowed: what private functions alone cite.
 use Rattle.mmtel_focus.specs.SeatSignals as of_seat
 use Rattle.mmtel_focus.specs.SeatSignals.{SeatSignal}
 use Rattle.mmtel_focus.specs.declared.signals.LentSignal.{LentSignal}

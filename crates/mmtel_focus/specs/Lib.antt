@@ -1,5 +1,5 @@
--- What public clauses cite: the server as rooms need it, rooms and seats as they are kept, their texts, what a REFER asks for, what a seat hears and does then, the rooms
--- after each deed, and what is asked of them.
+-- What public clauses cite: the configuration as conferences need it, conferences and participants as they are kept, their texts, what a REFER asks for, what a participant
+-- receives and the step that follows, the conferences after each operation, and the queries on them.
 pub mod Site
 pub mod Rooms
 pub mod Texts

@@ -15,16 +15,16 @@ use Rattle.mmtel_focus.specs.declared.referrals.Replaces.{Replaces}
 
 -- ---- Replaces
 
--- what stands behind the `=` of the first of these that has the name
+-- the text after the `=` of the first of these that has the name
 abbrev pub value_named : (name : List ℕ) → List (List ℕ) → Option (List ℕ)
 value_named name words = option_map (behind 61) (find (is_named name) words)
 
--- the Call-ID, and behind it the parameters, each behind a `;`
+-- the Call-ID, and after it the parameters, each after a `;`
 abbrev pub replaces_in : List (List ℕ) → Replaces
 replaces_in [] = record { call_id = []; to_tag = None; from_tag = None }
 replaces_in (call_id ∷ params) = record { call_id = call_id; to_tag = value_named (codes "to-tag") params; from_tag = value_named (codes "from-tag") params }
 
--- a value whose escapes cannot be read names no dialog
+-- a value whose escapes cannot be decoded names no dialog
 abbrev pub replaces_at : (value : List ℕ) → Replaces
 replaces_at value = replaces_in (parts 59 (unwrap_or (percent_decoded value) []))
 
@@ -34,7 +34,7 @@ replaces_of headers = option_map replaces_at (value_named (codes "Replaces") (pa
 
 -- ---- the URI
 
--- INVITE is asked for, by name or because no method is
+-- INVITE is asked for, by name or because no method is named
 abbrev pub is_invite : Option Param → Bool
 is_invite None = true
 is_invite (Some p) = bytes_eq (unwrap_or p.value []) (codes "INVITE")
@@ -53,7 +53,7 @@ abbrev pub replace_or_invite : Uri → Option Replaces → Referral
 replace_or_invite u None = Invite (Some u)
 replace_or_invite u (Some r) = Replace r
 
--- a URI of a scheme that the server does not know leads nowhere
+-- a URI of a scheme that the server does not support has no route
 abbrev pub referral_to : Option Uri → Referral
 referral_to None = Invite None
 referral_to (Some u) = if asks_invite u then replace_or_invite u (replaces_by u) else OtherMethod

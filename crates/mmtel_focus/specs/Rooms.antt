@@ -1,4 +1,4 @@
--- A conference room, its focus and its seats (RFC 4579 §3), as the program keeps them; and a step of a room.
+-- A conference, its focus and its participants (RFC 4579 §3), as the program keeps them; and a step of a conference.
 use Rattle.std.specs.Prelude.{ℕ, List}
 use Rattle.mmtel_desk.specs.declared.desks.Desk.{Desk}
 use Rattle.mmtel_types.specs.declared.numbers.RoomNo.{RoomNo}
@@ -15,18 +15,18 @@ pub use Rattle.mmtel_seats.specs.declared.effects.Effects.{Effects}
 
 pub record Room : Type 0 where
   pub number : RoomNo
-  -- the number of the seat that was taken last, and that of the last invitation or 2xx, counted in this room
+  -- the number of the participant that came last, and that of the last invitation or 2xx, counted within this conference
   pub taken : ℕ
   pub counted : ℕ
-  -- those that are taken, in the order in which they were
+  -- those present, in the order in which they came
   pub seats : List kept.Seat
 
--- a room after a step, and what the step brought forth
+-- a conference after a step, and the effects of the step
 pub record Step : Type 0 where
   pub room : Room
   pub effects : kept_effects.Effects
 
--- this room, in a step that has brought this forth so far
+-- this conference, in a step that has had these effects so far
 abbrev pub in_step : Room → kept_effects.Effects → Step
 in_step room effects = record { room = room; effects = effects }
 

@@ -1,4 +1,4 @@
--- What a seat of a room hears.
+-- What a participant of a conference receives.
 use Rattle.mmtel_answers.specs.Said.{Said}
 use Rattle.mmtel_transaction.specs.declared.words.RoomWord.{RoomWord}
 use Rattle.mmtel_transaction.specs.declared.words.TKey.{TKey}
@@ -8,9 +8,9 @@ pub data SeatSignal : Type 0 where
   Request : (key : TKey) → (request : Said) → SeatSignal
   -- an ACK of it
   Ack : (ack : Said) → SeatSignal
-  -- a response to the server's INVITE to it, by its client transaction
+  -- a response to the server's INVITE to it, with the client transaction
   Answer : (key : TKey) → (response : Said) → SeatSignal
-  -- the server's INVITE to it had no response at all
+  -- the server's INVITE to it got no response at all and timed out
   Silent : SeatSignal
-  -- a deadline of it came
+  -- a timer of it fired
   Due : (what : RoomWord) → SeatSignal

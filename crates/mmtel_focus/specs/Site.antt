@@ -1,2 +1,2 @@
--- What each step of a room is given: the server's configuration, as its seats need it.
+-- The server's configuration, as each step of a conference needs it.
 pub use Rattle.mmtel_seats.specs.Site.{Site}

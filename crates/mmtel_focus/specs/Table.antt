@@ -1,4 +1,5 @@
--- The table of rooms: each signal is of one seat of one room, which takes its row, or of an INVITE that was left; a room is opened, joined, told and left.
+-- The table of conferences: each signal is of one participant of one conference, which takes its transition, or of an abandoned INVITE; a conference is opened, joined, notified
+-- and left.
 use Rattle.std.specs.Prelude.{ℕ, ◌==◌, nat_le, Bool, if◌then◌else◌, Option, Some, None, List, [], ◌∷◌, ◌++◌, length, option_to_list}
 use Rattle.std.specs.Prelude.{position, remove, slice_get, slice_set, Result, Ok, Err}
 use Rattle.std.specs.List.{list_any}
@@ -35,23 +36,23 @@ pub use Rattle.mmtel_seats.specs.Invites.{is_asked, is_sent}
 pub use Rattle.mmtel_sip_rules.specs.Statuses.{is_provisional}
 
 pub record Table : Type 0 where
-  -- the rooms that are live, in the order in which they were opened
+  -- the live conferences, in the order in which they were opened
   pub live : List Room
-  -- the number of the room that was opened last
+  -- the number of the conference that was opened last
   pub opened : ℕ
-  -- INVITEs that were left before they had a final, which may outlive their room
+  -- INVITEs that were abandoned before their final response; they may outlive their conference
   pub loose : List Loose
-  -- the rows that were closed, and wait
+  -- the CDRs that were closed, and wait until they are handed over
   pub rows : List Row
 
 abbrev pub no_rooms : Table
 no_rooms = record { live = []; opened = 0; loose = []; rows = [] }
 
--- so many rooms may be live at once
+-- the maximum number of live conferences
 abbrev pub most_rooms : ℕ
 most_rooms = 1024
 
--- the rooms after a step of one of them, and what it brought forth
+-- the conferences after a step of one of them, and its effects
 pub record Stepped : Type 0 where
   pub live : List Room
   pub effects : Effects
@@ -59,7 +60,7 @@ pub record Stepped : Type 0 where
 abbrev pub unmoved : List Room → Effects → Stepped
 unmoved live effects = record { live = live; effects = effects }
 
--- ---- what a seat hears
+-- ---- what a participant receives
 
 unfoldable pub hears : Site → (now : ℕ) → SeatSignal → (place : ℕ) → Seat → Step → Step
 hears site now (of_seat.Request key request) = on_request site now key request
@@ -68,11 +69,11 @@ hears site now (of_seat.Answer key response) = on_answer site now key response
 hears site now of_seat.Silent = on_silence site now
 hears site now (of_seat.Due what) = on_due site now what
 
--- what comes of it in a room, by the first seat that passes
+-- the step of a conference, by the first participant for which the predicate holds
 abbrev pub heard_by : Site → (now : ℕ) → (whose : Seat → Bool) → SeatSignal → Step → Step
 heard_by site now whose heard s = at_place (hears site now heard) (position whose s.room.seats) s
 
--- ---- a step of a room
+-- ---- a step of a conference
 
 abbrev pub is_room : (number : ℕ) → Room → Bool
 is_room number room = room.number.0 == number
@@ -80,7 +81,7 @@ is_room number room = room.number.0 == number
 abbrev pub place_of : (number : ℕ) → List Room → Option ℕ
 place_of number rooms = position (is_room number) rooms
 
--- the room at this place stands so now, and leaves the table where it closes
+-- the conference at this place is replaced by this one, and is removed from the table where it closes
 abbrev pub put_at : (place : ℕ) → (closes : Bool) → Room → List Room → List Room
 put_at place closes room rooms = if closes then remove (slice_set rooms place room) place else slice_set rooms place room
 
@@ -91,12 +92,12 @@ abbrev pub stepped_at : (row : Step → Step) → (place : ℕ) → Option Room 
 stepped_at row place None live effects = unmoved live effects
 stepped_at row place (Some room) live effects = stepped_by place (row (record { room = room; effects = effects })) live
 
--- the room at this place takes the step, if there is one
+-- the conference at this place takes the step, if there is one
 abbrev pub stepped_in : (row : Step → Step) → (place : Option ℕ) → List Room → Effects → Stepped
 stepped_in row None live effects = unmoved live effects
 stepped_in row (Some place) live effects = stepped_at row place (slice_get live place) live effects
 
--- a step in which no room closes
+-- a step in which no conference closes
 abbrev pub stays_by : (place : ℕ) → Step → List Room → Stepped
 stays_by place s live = record { live = slice_set live place s.room; effects = s.effects }
 
@@ -108,22 +109,22 @@ abbrev pub stays_in : (row : Step → Step) → (place : Option ℕ) → List Ro
 stays_in row None live effects = unmoved live effects
 stays_in row (Some place) live effects = stays_at row place (slice_get live place) live effects
 
--- ---- whose it is
+-- ---- which conference a signal belongs to
 
 abbrev pub asks : (branch : List ℕ) → Room → Bool
 asks branch room = list_any (is_asked branch) room.seats
 
--- the seat of this number in the room of this number hears
+-- the participant of this number in the conference of this number receives the signal
 abbrev pub heard_in : Site → (now : ℕ) → (room seat : ℕ) → SeatSignal → List Room → Effects → Stepped
 heard_in site now room seat heard live effects = stepped_in (heard_by site now (is_seat seat) heard) (place_of room live) live effects
 
--- the seat whose INVITE has this branch hears
+-- the participant whose INVITE has this branch receives the signal
 abbrev pub heard_of : Site → (now : ℕ) → (branch : List ℕ) → SeatSignal → List Room → Effects → Stepped
 heard_of site now branch heard live effects = stepped_in (heard_by site now (is_asked branch) heard) (position (asks branch) live) live effects
 
--- ---- INVITEs that were left
+-- ---- abandoned INVITEs
 
--- the rooms after any signal, the INVITEs that were left, and what it brought forth
+-- the conferences after any signal, the abandoned INVITEs, and the effects
 pub record Moved : Type 0 where
   pub live : List Room
   pub loose : List Loose
@@ -132,7 +133,7 @@ pub record Moved : Type 0 where
 abbrev pub beside : List Loose → Stepped → Moved
 beside loose s = record { live = s.live; loose = loose; effects = s.effects }
 
--- what is left of one stands last
+-- what remains of one is the last of the list
 abbrev pub with_rest : (place : ℕ) → Rest → List Room → List Loose → Effects → Moved
 with_rest place rest live loose effects = record { live = live; loose = without_at place loose ++ option_to_list rest.left; effects = record effects { desk = rest.desk } }
 
@@ -144,12 +145,12 @@ abbrev pub answered_at : Site → (now : ℕ) → TKey → Said → (branch : Li
 answered_at site now key m branch None live loose effects = beside loose (heard_of site now branch (of_seat.Answer key m) live effects)
 answered_at site now key m branch (Some place) live loose effects = answered_loose site.sip key m place (slice_get loose place) live loose effects
 
--- a response: of an INVITE that was left, or of one to a seat
+-- a response: to an abandoned INVITE, or to one to a participant
 abbrev pub answered_by : Site → (now : ℕ) → TKey → Said → (branch : Option (List ℕ)) → List Room → List Loose → Effects → Moved
 answered_by site now key m None live loose effects = beside loose (unmoved live effects)
 answered_by site now key m (Some branch) live loose effects = answered_at site now key m branch (position (is_of branch) loose) live loose effects
 
--- silence ends one that was left
+-- a timeout ends an abandoned one
 abbrev pub silenced_at : Site → (now : ℕ) → (branch : List ℕ) → (place : Option ℕ) → List Room → List Loose → Effects → Moved
 silenced_at site now branch None live loose effects = beside loose (heard_of site now branch of_seat.Silent live effects)
 silenced_at site now branch (Some place) live loose effects = beside (without_at place loose) (unmoved live effects)
@@ -166,10 +167,10 @@ taken site now (signal.Ack room seat ack) live loose effects = beside loose (hea
 taken site now (signal.Answer key response) live loose effects = answered_by site now key response (invite_answered response) live loose effects
 taken site now (signal.Silent branch method) live loose effects = silenced_by site now (invite_silent branch method) live loose effects
 taken site now (signal.Due room seat what) live loose effects = beside loose (heard_in site now room.0 seat (of_seat.Due what) live effects)
--- no more is heard of the INVITE whose client transaction has ended
+-- the INVITE whose client transaction has ended is kept no longer
 taken site now (signal.Over key) live loose effects = beside (without (position (is_loose_key key) loose) loose) (unmoved live effects)
 
--- ---- rooms are opened and joined
+-- ---- conferences are opened and joined
 
 abbrev pub has_no_room : List Room → Bool
 has_no_room rooms = nat_le most_rooms (length rooms)
@@ -177,11 +178,11 @@ has_no_room rooms = nat_le most_rooms (length rooms)
 abbrev pub next_room : Table → RoomNo
 next_room table = record { 0 = next_number table.opened }
 
--- a room of its own for whoever comes
+-- a conference of its own for a leg that comes
 abbrev pub opened : Site → (now : ℕ) → Released → Option Account → TKey → Said → RoomNo → Effects → Step
 opened site now leg account key m number effects = come site now leg account key m (record { room = new_room number; effects = effects })
 
--- the place of a room that takes another seat, or why there is none
+-- the place of a conference that is not full, or why there is none
 abbrev pub access_to : (place : ℕ) → Option Room → Result ℕ RoomFault
 access_to place None = Err Gone
 access_to place (Some room) = if is_full room then Err RoomFull else Ok place
@@ -197,19 +198,19 @@ abbrev pub through : (row : Step → Step) → Result ℕ RoomFault → List Roo
 through row (Ok place) live effects = stays_at row place (slice_get live place) live effects
 through row (Err fault) live effects = unmoved live effects
 
--- by an INVITE to the room, and out of a call; where no seat is free nothing changes
+-- by an INVITE to the conference, and out of a call; where the conference is full or not live nothing changes
 unfoldable pub joined : Site → (now : ℕ) → (room : ℕ) → Released → Option Account → TKey → Said → List Room → Effects → Stepped
 joined site now room leg account key m live effects = through (come site now leg account key m) (access room live) live effects
 
 unfoldable pub referred : Site → (now : ℕ) → (room : ℕ) → Released → Option Account → (by : ℕ) → List Room → Effects → Stepped
 referred site now room leg account by live effects = through (adopted site now leg account by) (access room live) live effects
 
--- ---- NOTIFY that the server asks for
+-- ---- NOTIFY at the server's own initiative
 
 unfoldable pub notified : Site → (room seat code : ℕ) → List Room → Effects → Stepped
 notified site room seat code live effects = stays_in (told_to site (is_provisional code) (own_status code) seat) (place_of room live) live effects
 
--- ---- leaving and closing without a signal: nothing goes out, and an INVITE without a final is given up
+-- ---- leaving and closing without a signal: nothing is sent, and an INVITE without a final response is dropped
 
 abbrev pub without_seat : (place : ℕ) → Room → Room
 without_seat place room = record room { seats = remove room.seats place }
@@ -236,7 +237,7 @@ room_left_at seat (Some place) live = room_left seat place (slice_get live place
 unfoldable pub left : (room seat : ℕ) → List Room → List Room
 left room seat live = room_left_at seat (place_of room live) live
 
--- the row of the seat
+-- the CDR of the participant
 abbrev pub row_by : (now : ℕ) → Option Noted → Option Row
 row_by now None = None
 row_by now (Some meter) = Some (row_of meter now 0 Ended)
@@ -263,7 +264,7 @@ room_of room live = room_at (place_of room live) live
 unfoldable pub row_left : (now room seat : ℕ) → List Room → Option Row
 row_left now room seat live = row_in_room now seat (room_of room live)
 
--- the room is no more
+-- the conference is removed
 abbrev pub closed_at : (place : Option ℕ) → List Room → List Room
 closed_at None live = live
 closed_at (Some place) live = remove live place

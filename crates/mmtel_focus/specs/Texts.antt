@@ -1,5 +1,5 @@
--- Which room a URI names (RFC 4579 §4.4), and the texts of what a room sends: what it names itself and what a NOTIFY says is of its seats; the mixer's answer (RFC 3264),
--- and status lines.
+-- Which conference a URI names (RFC 4579 §4.4), and the texts that a conference sends: how it names itself and the content of a NOTIFY are with its participants; the mixer's
+-- answer (RFC 3264), and status lines.
 use Rattle.std.specs.Prelude.{ℕ, ◌==◌, ◌&&◌, Bool, true, false, if◌then◌else◌, Option, Some, None, List, [], ◌∷◌, ◌++◌, ◌^◌, ◌-◌, codes, decimal}
 use Rattle.std.specs.Str.{bytes_eq}
 use Rattle.mmtel_scan.specs.Chain.{◌>>=◌}
@@ -18,7 +18,7 @@ use Rattle.mmtel_sdp.specs.declared.values.SdpView.{SdpView}
 use Rattle.mmtel_types.specs.declared.addrs.Addr.{Addr}
 pub use Rattle.mmtel_seats.specs.Texts.{contact_line, contact_value, described, fragment, notify_lines, room_from, room_uri, sdp_lines, subscription}
 
--- ---- the room that a URI names
+-- ---- the conference that a URI names
 
 -- the server's port is 5060 where none is written (RFC 3261 §19.1.2)
 abbrev pub is_port : (port : ℕ) → Option ℕ → Bool
@@ -29,12 +29,12 @@ is_port port (Some n) = n == port
 abbrev pub room_by : List ℕ → Option ℕ
 room_by user = after_text (codes "room-") user >>= plain_number (2 ^ 64 - 1)
 
--- a room of this server, whether it is live or not
+-- the conference of this server, whether it is live or not
 abbrev pub room_in : Addr → Uri → Option ℕ
 room_in sip (Sip user host port params headers) = user >>= λ name. if bytes_eq host (ip_text sip.ip) && is_port sip.port port then room_by name else None
 room_in sip (Tel number params) = None
 
--- ---- the mixer's descriptions
+-- ---- the mixer's session descriptions
 
 abbrev pub answer_to : Mixer → Option SdpView → List ℕ
 answer_to mixer None = []
@@ -44,7 +44,7 @@ answer_to mixer (Some view) = answer_text view mixer
 unfoldable pub answer_in : Mixer → (body : List ℕ) → List ℕ
 answer_in mixer body = answer_to mixer (sdp_of body)
 
--- ---- what a NOTIFY says
+-- ---- the content of a NOTIFY
 
 -- a status line (RFC 3261 §7.2), and that of a status of the server's own
 abbrev pub status_line : (code : ℕ) → (phrase : List ℕ) → List ℕ

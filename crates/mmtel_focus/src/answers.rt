@@ -1,4 +1,4 @@
-//! What comes of the server's INVITE to a seat, and of its deadlines.
+//! The results of the server's INVITE to a participant, and its timers.
 ghost use Rattle.std.specs.Prelude.{◌≡◌, ◌<◌, ◌&&◌, false, IfOk, OnOk, length, slice_get};
 ghost use Rattle.std.specs.Str.{bytes_eq};
 ghost use Rattle.mmtel_answers.specs.Said.{phrase_in, status_of};
@@ -34,7 +34,7 @@ fn is_repeat(alloc: Global, response: &Hearing, tag: &[u8]) -> Result<bool, NoMe
     Ok(remote.tag.bytes() == tag)
 }
 
-/// The status line of a response, as it was heard.
+/// The status line of a response, as it was received.
 fn line_of(alloc: Global, response: &Hearing) -> Result<Text, NoMemory>
     ensures { IfOk result (λ t. t
         ≡ status_line (status_of response.now.heard.start) (phrase_in response.now.heard.start)) }
@@ -45,7 +45,7 @@ fn line_of(alloc: Global, response: &Hearing) -> Result<Text, NoMemory>
     }
 }
 
-/// Whoever is invited to the seat at this place is seated.
+/// The invited party at this place is connected.
 fn stand_at(seats: &mut Vec<Seat>, room: RoomNo, now: Moment, remote: Remote, place: usize)
     requires { place < length seats.old.items }
     ensures { seats.new.items ≡ stood_in room now remote place (slice_get seats.old.items place) seats.old.items }
@@ -58,7 +58,7 @@ fn stand_at(seats: &mut Vec<Seat>, room: RoomNo, now: Moment, remote: Remote, pl
 }
 
 impl Room {
-    /// Acknowledges the 2xx of the seat at this place, and keeps its tag and the ACK.
+    /// Acknowledges the 2xx of the participant at this place, and records its tag and the ACK.
     fn acknowledge_at(
         &mut self,
         step: &Step<'_>,
@@ -80,7 +80,7 @@ impl Room {
         Ok(())
     }
 
-    /// Whoever is invited to the seat at this place is seated by a 2xx. Gives its tag.
+    /// The invited party at this place is connected by a 2xx. Returns its tag.
     fn seat_at(
         &mut self,
         alloc: Global,
@@ -101,7 +101,7 @@ impl Room {
         Ok(tag)
     }
 
-    /// Tells the seat whose REFER brought another one that its request has had a success.
+    /// Notifies the participant whose REFER invited another one that its request has succeeded.
     fn tell_success(
         &mut self,
         step: &Step<'_>,
@@ -117,7 +117,7 @@ impl Room {
         self.tell_by(step, false, line.bytes(), by, effects)
     }
 
-    /// A 2xx: it has its ACK, whoever is invited is seated, and the seat that asked is told.
+    /// A 2xx: the ACK is sent, the invited party is connected, and the participant that sent the REFER is notified.
     fn hear_success(
         &mut self,
         step: &Step<'_>,
@@ -137,7 +137,7 @@ impl Room {
         self.tell_success(step, by, effects)
     }
 
-    /// The seat at this place is left, with BYE where somebody is seated, and the seat that asked for it is told this status line.
+    /// The participant at this place leaves, with BYE where it is connected, and the participant that sent the REFER is notified of this status line.
     fn end_at(
         &mut self,
         step: &Step<'_>,
@@ -175,7 +175,7 @@ impl Room {
         self.end_at(step, line, place, effects)
     }
 
-    /// A final from 300: it has its ACK, and the seat is left.
+    /// A final response from 300: the ACK is sent, and the participant leaves.
     fn hear_failure(
         &mut self,
         step: &Step<'_>,
@@ -196,7 +196,7 @@ impl Room {
         self.end_unasked(step, line.bytes(), place, effects)
     }
 
-    /// A response of an INVITE that has no final.
+    /// A response to an INVITE that has no final response.
     fn hear_response(
         &mut self,
         step: &Step<'_>,
@@ -222,7 +222,7 @@ impl Room {
         self.hear_failure(step, key, response, place, effects)
     }
 
-    /// A response of an INVITE whose 2xx had this tag and this ACK: another 2xx with this tag has the ACK again.
+    /// A response to an INVITE whose 2xx had this tag and this ACK: the ACK is retransmitted for another 2xx with this tag.
     fn hear_repeat(
         &self,
         alloc: Global,
@@ -246,7 +246,7 @@ impl Room {
         effects.desk.emit(alloc, Emit::Plain { peer, text })
     }
 
-    /// A response to the server's INVITE to the seat at this place.
+    /// A response to the server's INVITE to the participant at this place.
     #[tactic(auto, unfolding(crate::specs::Answers::on_answer))]
     pub fn hear_answer(
         &mut self,
@@ -273,7 +273,7 @@ impl Room {
         }
     }
 
-    /// The server's INVITE to the seat at this place had no response at all.
+    /// The server's INVITE to the participant at this place got no response at all and timed out.
     #[tactic(auto, unfolding(crate::specs::Answers::on_silence))]
     pub fn hear_silence(
         &mut self,
@@ -294,7 +294,7 @@ impl Room {
         self.end_unasked(step, line.bytes(), place, effects)
     }
 
-    /// An invitation rang too long.
+    /// An invited party has rung too long.
     fn end_ringing(
         &mut self,
         step: &Step<'_>,
@@ -313,7 +313,7 @@ impl Room {
         self.end_at(step, line.bytes(), place, effects)
     }
 
-    /// The deadline of the ringing of the invitation of this number.
+    /// The timer of the ringing of the invitation of this number fires.
     fn hear_cap(
         &mut self,
         step: &Step<'_>,
@@ -334,7 +334,7 @@ impl Room {
         Ok(())
     }
 
-    /// No ACK came: the seat is left, with BYE.
+    /// No ACK was received: the participant leaves, with BYE.
     fn end_unacknowledged(
         &mut self,
         step: &Step<'_>,
@@ -353,7 +353,7 @@ impl Room {
         self.close_with(step, number, effects)
     }
 
-    /// The deadline of the ACK of the 2xx of this number.
+    /// The timer of the ACK of the 2xx of this number fires.
     fn hear_no_ack(
         &mut self,
         step: &Step<'_>,
@@ -373,7 +373,7 @@ impl Room {
         Ok(())
     }
 
-    /// A deadline of the seat at this place.
+    /// A timer of the participant at this place fires.
     #[tactic(auto, unfolding(crate::specs::Answers::on_due))]
     pub fn hear_due(
         &mut self,

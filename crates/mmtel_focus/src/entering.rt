@@ -1,4 +1,4 @@
-//! A leg enters a room of the table, and a seat of one is told.
+//! A leg enters a conference of the table, and a participant of one is notified.
 ghost use Rattle.std.specs.Prelude.{◌≡◌, ◌<◌, IfErr, IfOk, None, OnOk, length, slice_get, true};
 ghost use Rattle.mmtel_leg.specs.Releases.{released_leg};
 ghost use Rattle.mmtel_sdp.specs.Offers.{offers_audio};
@@ -19,7 +19,7 @@ use mmtel_sip_rules::is_provisional;
 use mmtel_transaction::TKey;
 use mmtel_types::RoomNo;
 
-/// The place of the room of this number, where it takes another seat.
+/// The place of the conference of this number, where it is live and not full.
 pub fn access(live: &LiveRooms, room: RoomNo) -> Result<usize, RoomFault>
     ensures access { result ≡ access room.0 live.now.items }
     ensures place { IfOk result (λ place. place < length live.now.items) }
@@ -36,11 +36,11 @@ pub fn access(live: &LiveRooms, room: RoomNo) -> Result<usize, RoomFault>
     }
 }
 
-/// A leg comes to the room at this place by an INVITE that offers audio.
+/// A leg joins the conference at this place by an INVITE that offers audio.
 ///
 /// # Errors
 ///
-/// Want of memory alone; the leg is handed back, and the rooms are as before.
+/// Out of memory only; the leg is handed back, and the conferences have not changed.
 #[tactic(auto, using(crate::proofs::Keeping::put_twice))]
 pub fn join_at(
     live: &mut LiveRooms,
@@ -71,11 +71,11 @@ pub fn join_at(
     come
 }
 
-/// A leg comes to the room at this place out of a call.
+/// A leg is moved out of a call into the conference at this place.
 ///
 /// # Errors
 ///
-/// Want of memory alone; a leg of the same side without a meter is handed back.
+/// Out of memory only; a leg of the same side without a meter is handed back.
 #[tactic(auto, using(crate::proofs::Keeping::put_twice))]
 pub fn adopt_at(
     live: &mut LiveRooms,
@@ -103,7 +103,7 @@ pub fn adopt_at(
     adopted
 }
 
-/// Tells a seat of the room at this place a status line.
+/// Notifies a participant of the conference at this place of a status line.
 #[tactic(auto, using(crate::proofs::Keeping::put_twice))]
 fn tell_at(
     live: &mut LiveRooms,
@@ -134,7 +134,7 @@ fn tell_at(
     }
 }
 
-/// Tells a seat the status of this code; nothing goes out once it has left.
+/// Notifies a participant of the status of this code; nothing is sent once it has left.
 #[tactic(auto, unfolding(crate::specs::Table::notified))]
 pub fn notify(
     live: &mut LiveRooms,

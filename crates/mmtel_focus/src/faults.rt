@@ -1,14 +1,14 @@
-//! Why a leg finds no seat.
+//! Why a leg cannot enter a conference.
 
-/// Why a leg finds no seat.
+/// Why a leg cannot enter a conference.
 #[derive(Clone, Copy, Debug, PartialEq, Eq)]
 pub enum RoomFault {
-    /// So many rooms are live that no more is opened.
+    /// The maximum number of conferences is live.
     NoRoom,
-    /// So many seats of the room are taken that no more is.
+    /// The conference has its maximum number of participants.
     RoomFull,
-    /// The room is not live.
+    /// The conference is not live.
     Gone,
-    /// Want of memory.
+    /// Memory ran out.
     NoMemory,
 }

@@ -1,4 +1,4 @@
-//! Which seat has a dialog, and how many seats of a room are taken.
+//! Which participant has a dialog, and how many participants a conference has.
 ghost use Rattle.std.specs.Prelude.{◌≡◌, Some, position};
 ghost use Rattle.std.specs.Option.{option_copied};
 ghost use Rattle.mmtel_focus.specs.Names.{found, found_in, has_dialog, is_named, number_at, seat_named, seats_taken};
@@ -11,7 +11,7 @@ use mmtel_seats::Seat;
 use mmtel_transaction::told;
 use mmtel_types::RoomNo;
 
-/// Whether somebody is seated there whose dialog has these names.
+/// Whether the participant is connected and its dialog has these identifiers.
 fn is_named(seat: &Seat, name: DialogName<'_>) -> bool
     ensures { result ≡ is_named name.entry.call_id.now name.entry.local.now name.entry.remote.now seat.now }
 {
@@ -36,7 +36,7 @@ fn place_named(seats: &[Seat], name: DialogName<'_>) -> Option<usize>
     seats.iter().position(|seat| is_named(seat, name))
 }
 
-/// The seat of a room whose dialog has these names.
+/// The participant of a conference whose dialog has these identifiers.
 fn seat_named(room: &Room, name: DialogName<'_>) -> Option<u64>
     ensures { result ≡ seat_named name.entry.call_id.now name.entry.local.now name.entry.remote.now room.now }
 {
@@ -55,7 +55,7 @@ fn having_in(rooms: &[Room], name: DialogName<'_>) -> Option<usize>
     rooms.iter().position(|room| has_dialog(room, name))
 }
 
-/// The place of the room that has a seat whose dialog has these names.
+/// The place of the conference with a participant whose dialog has these identifiers.
 fn place_having(live: &LiveRooms, name: DialogName<'_>) -> Option<usize>
     ensures { result ≡ position (has_dialog name.entry.call_id.now name.entry.local.now name.entry.remote.now) live.now.items }
 {
@@ -73,7 +73,7 @@ fn found_in(room: &Room, name: DialogName<'_>) -> Option<(RoomNo, u64)>
     }
 }
 
-/// The room and the seat whose dialog has these names.
+/// The conference and the participant whose dialog has these identifiers.
 pub fn find(live: &LiveRooms, name: DialogName<'_>) -> Option<(RoomNo, u64)>
     ensures { result ≡ found name.entry.call_id.now name.entry.local.now name.entry.remote.now live.now.items }
 {
@@ -86,7 +86,7 @@ pub fn find(live: &LiveRooms, name: DialogName<'_>) -> Option<(RoomNo, u64)>
     }
 }
 
-/// How many seats of a room are taken; none where it is not live.
+/// How many participants a conference has; none where it is not live.
 pub fn seats_taken(live: &LiveRooms, room: RoomNo) -> u32
     ensures { result ≡ seats_taken room.0 live.now.items }
 {

@@ -1,4 +1,4 @@
-//! Somebody is invited into a room (RFC 4579 §5.5).
+//! A party is invited into a conference (RFC 4579 §5.5).
 ghost use Rattle.std.specs.Prelude.{◌≡◌, OnOk};
 ghost use Rattle.mmtel_focus.specs.Joining.{bidden, told_failure};
 ghost use Rattle.mmtel_focus.specs.Rooms.{in_step};
@@ -10,7 +10,7 @@ use mmtel_scan::NoMemory;
 use mmtel_seats::{Bid, Effects, Step, bring};
 
 impl Room {
-    /// Tells the seat that asked that nobody is invited, by this status.
+    /// Notifies the participant that sent the REFER that nobody is invited, by this status.
     fn tell_failure(
         &mut self,
         step: &Step<'_>,
@@ -27,7 +27,8 @@ impl Room {
         self.tell(step, false, line.bytes(), by, effects)
     }
 
-    /// Invites whoever this URI, which is taken, is of, by the REFER of a seat; the seat is told where no peer leads there, and else where no seat is free.
+    /// Invites the party of this URI, which is moved out, by the REFER of a participant; the participant is notified where no route leads there, and else where the conference is
+    /// full.
     #[tactic(auto, using(crate::proofs::Bids::bid_taken))]
     pub fn bid(
         &mut self,

@@ -1,4 +1,4 @@
-//! How a seat is taken: by an INVITE to the room, and by a leg out of a call.
+//! How a party becomes a participant: by an INVITE to the conference, or by a leg moved out of a call.
 ghost use Rattle.std.specs.Prelude.{◌≡◌, [], IfErr, IfOk, None, OnErr, OnOk, Some, codes, true};
 ghost use Rattle.mmtel_desk.specs.Desks.{token};
 ghost use Rattle.mmtel_desk.specs.Invitations.{sent};
@@ -29,16 +29,16 @@ use mmtel_transaction::{Emit, RoomWord, TKey};
 use mmtel_types::{Account, Moment, RoomNo};
 use std::alloc::Global;
 
-/// Who enters a room. It must be spent.
+/// A leg that enters a conference. The value is linear: it must be spent.
 pub struct Entrant {
     /// The leg, which has no meter.
     pub leg: Released,
-    /// Whose account is charged for the seat.
+    /// The account that is charged for the participant.
     pub account: Option<Account>,
 }
 
 impl Entrant {
-    /// The leg of somebody who does not enter.
+    /// The leg, where it does not enter.
     pub fn into_leg(self) -> Released
         ensures leg { result ≡ self.leg }
     {
@@ -47,7 +47,7 @@ impl Entrant {
     }
 }
 
-/// Who a leg is of, with a participant's meter.
+/// The party of a leg, with a participant's meter.
 fn party_of(leg: Released, meter: Option<Meter>, now: Moment) -> Party
     ensures { result ≡ party_of meter leg }
 {
@@ -57,7 +57,7 @@ fn party_of(leg: Released, meter: Option<Meter>, now: Moment) -> Party
     }
 }
 
-/// Answers an INVITE to a room with the mixer's answer.
+/// Responds to an INVITE to a conference with the mixer's answer.
 fn answer(
     step: &Step<'_>,
     room: RoomNo,
@@ -83,7 +83,7 @@ fn answer(
     desk.answer_at(step.alloc, contact.bytes(), key, invite, tag, own)
 }
 
-/// Answers an INVITE to a room with the mixer's answer, and arms the deadline of its ACK.
+/// Responds to an INVITE to a conference with the mixer's answer, and arms the timer of its ACK.
 pub fn agree(
     step: &Step<'_>,
     numbers: Next,
@@ -111,7 +111,7 @@ pub fn agree(
     )
 }
 
-/// The seat of somebody who comes to a room.
+/// The participant that joins a conference.
 fn new_seat(room: &Room, leg: Released, account: Option<Account>, now: Moment) -> Seat
     ensures { result ≡ new_seat now room.now leg account }
 {
@@ -132,7 +132,7 @@ fn new_seat(room: &Room, leg: Released, account: Option<Account>, now: Moment) -
     }
 }
 
-/// The seat of a leg that was asked in by the REFER of a seat.
+/// The participant of a leg that is invited by the REFER of another one.
 fn adopted_seat(
     room: &Room,
     leg: Released,
@@ -166,7 +166,7 @@ fn adopted_seat(
     }
 }
 
-/// Asks a leg into a room by an INVITE with the mixer's offer.
+/// Sends a re-INVITE with the mixer's offer on a leg that enters a conference.
 fn ask<P>(
     step: &Step<'_>,
     room: RoomNo,
@@ -227,7 +227,7 @@ fn ask_in(
 }
 
 impl Room {
-    /// A room that nobody has come to.
+    /// A conference without participants.
     pub fn new(alloc: Global, number: RoomNo) -> Room
         ensures { result ≡ new_room number }
     {
@@ -239,14 +239,14 @@ impl Room {
         }
     }
 
-    /// The numbers of the next seat.
+    /// The numbers of the next participant.
     pub fn next(&self) -> Next
         ensures { result ≡ next_in self.now }
     {
         Next::after(self.number, self.taken, self.counted)
     }
 
-    /// Counts a seat that was taken with these numbers, and with it an invitation or a 2xx.
+    /// Counts a participant that came with these numbers, and with it an invitation or a 2xx.
     pub fn count(&mut self, next: Next)
         ensures { self.new ≡ record self.old { taken = next.seat; counted = next.number } }
     {
@@ -254,11 +254,11 @@ impl Room {
         self.counted = next.number;
     }
 
-    /// A leg comes to the room by an INVITE that offers audio: it has the mixer's answer, and a seat.
+    /// A leg joins the conference by an INVITE that offers audio: it gets the mixer's answer, and is a participant.
     ///
     /// # Errors
     ///
-    /// Want of memory alone; the leg is handed back, and the room is as before.
+    /// Out of memory only; the leg is handed back, and the conference has not changed.
     #[tactic(auto, unfolding(crate::specs::Joining::come))]
     pub fn come(
         &mut self,
@@ -294,11 +294,11 @@ impl Room {
         Ok(())
     }
 
-    /// Takes a leg out of a call: it is asked in by an INVITE, and has a seat from now on.
+    /// Moves a leg of a call into the conference: it is invited by a re-INVITE, and is a participant from now on.
     ///
     /// # Errors
     ///
-    /// Want of memory alone; a leg of the same side without a meter is handed back, and the room is as before.
+    /// Out of memory only; a leg of the same side without a meter is handed back, and the conference has not changed.
     #[tactic(auto, unfolding(crate::specs::Joining::adopted))]
     pub fn adopt(
         &mut self,

@@ -1,4 +1,4 @@
-//! How a room closes.
+//! How a conference closes.
 ghost use Rattle.std.specs.Prelude.{◌≡◌, OnOk};
 ghost use Rattle.mmtel_focus.specs.Rooms.{in_step};
 ghost use Rattle.mmtel_focus.specs.Seats.{closed, closed_with};
@@ -8,7 +8,7 @@ use mmtel_scan::NoMemory;
 use mmtel_seats::{CREATOR, Effects, Step};
 
 impl Room {
-    /// All who are left have BYE and leave, the first one first, and the room closes.
+    /// All remaining participants are sent BYE and leave, the first one first, and the conference closes.
     #[tactic(auto, unfolding(crate::specs::Seats::closed))]
     fn close_room(&mut self, step: &Step<'_>, effects: &mut Effects) -> Result<(), NoMemory>
         ensures room { OnOk result (self.new
@@ -24,7 +24,7 @@ impl Room {
         Ok(())
     }
 
-    /// The room closes where the seat of its creator was left.
+    /// The conference closes where its creator left.
     pub fn close_with(
         &mut self,
         step: &Step<'_>,

@@ -1,5 +1,5 @@
-//! Conference rooms (RFC 4579): seats that the server holds together with a mixer, by the room table; who comes, who is invited by REFER (RFC 3515), and whose leg comes
-//! out of a call (RFC 3891).
+//! Conferences (RFC 4579): participants that the server connects with a mixer, by the step table of conferences; who joins, who is invited by REFER (RFC 3515), and whose leg is
+//! moved out of a call (RFC 3891).
 #![tactic(auto)]
 
 mod answers;

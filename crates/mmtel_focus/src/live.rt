@@ -1,4 +1,4 @@
-//! The rooms that are live, as they are kept: in the order of their numbers, and each is found by its marks.
+//! The live conferences, as they are kept: in the order of their numbers, with an index by their marks.
 ghost use Rattle.std.specs.Prelude.{◌≡◌, ◌≤◌, ◌<◌, ◌+◌, ◌++◌, ◌∷◌, [], ℕ, IfErr, IfOk, None, OnErr, OnOk, Some, drop, length, remove};
 ghost use Rattle.std.specs.Prelude.{slice_get, slice_set, take, true};
 ghost use Rattle.std.specs.List.Sorted.{IsNonDecreasingBy};
@@ -25,7 +25,7 @@ use std::alloc::Global;
 use std::marker::Model;
 use std::mem;
 
-/// The rooms that are live. They must be spent.
+/// The live conferences. The value is linear: it must be spent.
 pub struct LiveRooms {
     rooms: Vec<Room>,
     opened: u64,
@@ -44,7 +44,7 @@ impl Model for LiveRooms {
     ghost invariant = { λ r. AreKept r.rooms.items r.opened r.index };
 }
 
-/// Spends a room and all its seats, without rows.
+/// Spends a conference and all its participants, without CDRs.
 pub fn give_up_room(room: Room, at: Moment) {
     let Room {
         number: _,
@@ -59,7 +59,7 @@ pub fn give_up_room(room: Room, at: Moment) {
     seats.destroy_empty();
 }
 
-/// The first of all moments: of rows that nobody keeps.
+/// The moment 0, for CDRs that are discarded.
 pub fn beginning() -> Moment {
     match Moment::new(0) {
         Some(moment) => moment,
@@ -67,7 +67,7 @@ pub fn beginning() -> Moment {
     }
 }
 
-/// The place of the room of this number.
+/// The place of the conference of this number.
 fn place_in(rooms: &[Room], number: RoomNo) -> Option<usize>
     requires { IsNonDecreasingBy number_of rooms.now }
     ensures { result ≡ place_of number.0 rooms.now }
@@ -84,7 +84,7 @@ fn place_in(rooms: &[Room], number: RoomNo) -> Option<usize>
     }
 }
 
-/// From which place on no room has a lower number.
+/// The first place from which on no conference has a lower number.
 fn below(rooms: &[Room], number: u64) -> usize
     requires { IsNonDecreasingBy number_of rooms.now }
     ensures within { result ≤ length rooms.now }
@@ -93,7 +93,7 @@ fn below(rooms: &[Room], number: u64) -> usize
     rooms.partition_point(|room| room.number.0 < number)
 }
 
-/// So many places after another one, where so many rooms are kept.
+/// The place so many places after another one, where so many conferences are kept.
 fn after(from: usize, places: usize, count: usize) -> Option<usize>
     requires { from + places < count }
     ensures { result ≡ Some (from + places) }
@@ -102,11 +102,11 @@ fn after(from: usize, places: usize, count: usize) -> Option<usize>
     if place < count { Some(place) } else { None }
 }
 
-/// A room of its own for a leg that comes by an INVITE which offers audio.
+/// A conference of its own for a leg that comes by an INVITE which offers audio.
 ///
 /// # Errors
 ///
-/// Want of memory alone; the leg is handed back.
+/// Out of memory only; the leg is handed back.
 #[tactic(auto, unfolding(crate::specs::Joining::come))]
 fn open(
     step: &Step<'_>,
@@ -135,7 +135,7 @@ fn open(
 }
 
 impl LiveRooms {
-    /// None yet. It takes no memory.
+    /// None yet. It allocates nothing.
     pub fn new(alloc: Global) -> LiveRooms
         ensures { result ≡ record { items = []; opened = 0 } }
     {
@@ -146,21 +146,21 @@ impl LiveRooms {
         }
     }
 
-    /// The rooms, in the order in which they were opened.
+    /// The conferences, in the order in which they were opened.
     pub fn rooms(&self) -> &[Room]
         ensures { result.now ≡ self.now.items }
     {
         &self.rooms
     }
 
-    /// The place of the room of this number.
+    /// The place of the conference of this number.
     pub fn place_of(&self, number: RoomNo) -> Option<usize>
         ensures { result ≡ place_of number.0 self.now.items }
     {
         place_in(&self.rooms, number)
     }
 
-    /// From which place on a room may have this mark.
+    /// The place before which no conference has this mark.
     pub fn from(&self, mark: Mark) -> usize
         ensures within { result ≤ length self.now.items }
         ensures none { Unmarked marks_of mark (take result self.now.items) }
@@ -171,7 +171,7 @@ impl LiveRooms {
         }
     }
 
-    /// The rooms from this place on.
+    /// The conferences from this place on.
     pub fn rooms_from(&self, from: usize) -> &[Room]
         requires { from ≤ length self.now.items }
         ensures { result.now ≡ drop from self.now.items }
@@ -180,7 +180,7 @@ impl LiveRooms {
         &rooms[from..]
     }
 
-    /// The place of a room that stands at this one among those from another place on.
+    /// The place, among all conferences, of one at this place among those from another place on.
     pub fn later(&self, from: usize, place: Option<usize>) -> Option<usize>
         requires { (n : ℕ) → place ≡ Some n → from + n < length self.now.items }
         ensures { result ≡ option_map (λ n. from + n) place }
@@ -191,11 +191,11 @@ impl LiveRooms {
         }
     }
 
-    /// Opens a room for a leg that comes by an INVITE which offers audio. It has the next number.
+    /// Opens a conference for a leg that comes by an INVITE which offers audio. It has the next number.
     ///
     /// # Errors
     ///
-    /// Want of memory alone, for the room or for its number: 2^64 - 1 are opened in all; the leg is handed back.
+    /// Out of memory only, or where all numbers are used: 2^64 - 1 are opened in all; the leg is handed back.
     pub fn open(
         &mut self,
         step: &Step<'_>,
@@ -235,7 +235,7 @@ impl LiveRooms {
         }
     }
 
-    /// Takes the room at this place out, for a step of it: an empty room of its number stands there until it is put back.
+    /// Moves the conference at this place out, for a step of it: an empty conference of its number is at this place until it is put back.
     pub fn take_out(&mut self, alloc: Global, place: usize) -> Room
         requires { place < length self.old.items }
         ensures room { slice_get self.old.items place ≡ Some result }
@@ -247,7 +247,7 @@ impl LiveRooms {
         mem::replace(room, blank)
     }
 
-    /// Puts the room back that was taken out at this place.
+    /// Puts the conference back that was moved out of this place.
     pub fn put_back(&mut self, place: usize, room: Room)
         requires { slice_get self.old.items place ≡ Some (new_room room.number) }
         ensures { self.new ≡ record self.old { items = slice_set self.old.items place room } }
@@ -257,7 +257,7 @@ impl LiveRooms {
         give_up_room(blank, beginning());
     }
 
-    /// Takes the room at this place away.
+    /// Removes the conference at this place.
     pub fn remove(&mut self, place: usize) -> Room
         requires { place < length self.old.items }
         ensures room { slice_get self.old.items place ≡ Some result }
@@ -268,7 +268,7 @@ impl LiveRooms {
         room
     }
 
-    /// Leaves a seat of the room at this place.
+    /// A participant of the conference at this place leaves.
     pub fn leave_at(&mut self, place: usize, seat: u64, now: Moment) -> Option<Row>
         requires { place < length self.old.items }
         ensures live { self.new
@@ -282,7 +282,7 @@ impl LiveRooms {
         row
     }
 
-    /// Spends all of them, without rows. It takes no memory.
+    /// Spends all of them, without CDRs. It allocates nothing.
     pub fn give_up(self) {
         let LiveRooms {
             rooms,

@@ -1,4 +1,4 @@
-//! By what a room is found: the branches of the INVITEs to its seats, and the server's tags of their dialogs.
+//! The marks by which a conference is found: the branches of the INVITEs to its participants, and the server's tags of their dialogs.
 ghost use Rattle.std.specs.Prelude.{◌≡◌, ◌∷◌, [], flat_map};
 ghost use Rattle.mmtel_desk.specs.Marks.{Written};
 ghost use Rattle.mmtel_focus.specs.Marks.{branch_of, marks_of, seat_marks, sent_marks};
@@ -8,7 +8,7 @@ use mmtel_desk::{Index, Mark};
 use mmtel_seats::{Invite, Seat};
 use mmtel_transaction::told;
 
-/// The branch of the server's INVITE to a seat.
+/// The branch of the server's INVITE to a participant.
 fn branch_of(invite: &Invite) -> &[u8]
     ensures { result.now ≡ branch_of invite.now }
 {
@@ -18,7 +18,7 @@ fn branch_of(invite: &Invite) -> &[u8]
     }
 }
 
-/// The room of this number is found by the server's INVITE to this seat from now on, or no more.
+/// Enters the mark of the server's INVITE to this participant for the conference of this number, or removes it.
 fn put_invite(index: &mut Index, seat: &Seat, room: u64, stays: bool)
     ensures { Written stays room (sent_marks seat.now.invite) index.old index.new }
 {
@@ -28,7 +28,7 @@ fn put_invite(index: &mut Index, seat: &Seat, room: u64, stays: bool)
     }
 }
 
-/// By this seat.
+/// The same of the marks of this participant.
 fn put_seat(index: &mut Index, seat: &Seat, room: u64, stays: bool)
     ensures { Written stays room (seat_marks seat.now) index.old index.new }
 {
@@ -36,7 +36,7 @@ fn put_seat(index: &mut Index, seat: &Seat, room: u64, stays: bool)
     put_invite(index, seat, room, stays);
 }
 
-/// By these seats.
+/// The same of the marks of these participants.
 fn put_seats(index: &mut Index, seats: &[Seat], room: u64, stays: bool)
     ensures { Written stays room (flat_map seat_marks seats.now) index.old index.new }
 {
@@ -45,7 +45,7 @@ fn put_seats(index: &mut Index, seats: &[Seat], room: u64, stays: bool)
     }
 }
 
-/// This room is found by its seats from now on, or no more.
+/// Enters the marks of all participants of this conference, or removes them.
 pub fn put_room(index: &mut Index, room: &Room, stays: bool)
     ensures { Written stays room.now.number.0 (marks_of room.now) index.old index.new }
 {

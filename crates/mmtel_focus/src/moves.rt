@@ -1,4 +1,4 @@
-//! A signal moves the rooms: the seat that it is of takes its row, or something is heard of an INVITE that was left.
+//! A signal is processed: the participant that it is of takes its transition, or it belongs to an abandoned INVITE.
 ghost use Rattle.std.specs.Prelude.{◌≡◌, ◌<◌, ℕ, List, OnOk, Some, length, position, slice_get};
 ghost use Rattle.mmtel_desk.specs.Loose.{is_of};
 ghost use Rattle.mmtel_focus.specs.Lent.{lent};
@@ -19,7 +19,7 @@ use mmtel_transaction::{TKey, told};
 use mmtel_types::{Addr, RoomNo};
 use std::alloc::Global;
 
-/// The place of the seat of a room to which the INVITE of this branch went.
+/// The place of the participant of a conference to which the INVITE of this branch was sent.
 fn asked_at(seats: &[Seat], branch: &[u8]) -> Option<usize>
     ensures { result ≡ position (is_asked branch.now) seats.now }
 {
@@ -27,14 +27,14 @@ fn asked_at(seats: &[Seat], branch: &[u8]) -> Option<usize>
 }
 
 impl Room {
-    /// Whether the INVITE of this branch went to a seat of the room.
+    /// Whether the INVITE of this branch was sent to a participant of the conference.
     fn asks(&self, branch: &[u8]) -> bool
         ensures { result ≡ asks branch.now self.now }
     {
         self.seats.iter().any(|seat| seat.is_asked(branch))
     }
 
-    /// The seat at this place hears.
+    /// The participant at this place receives a signal.
     #[tactic(auto, unfolding(crate::specs::Table::hears))]
     fn hear_at(
         &mut self,
@@ -62,7 +62,7 @@ impl Room {
         }
     }
 
-    /// The seat at a place hears, if there is one.
+    /// The participant at a place receives a signal, if there is one.
     fn hear(
         &mut self,
         step: &Step<'_>,
@@ -83,7 +83,7 @@ impl Room {
     }
 }
 
-/// The room at this place hears, by its seat at that place; it leaves the table where it closes.
+/// The conference at this place receives a signal, by its participant at that place; it is removed from the table where it closes.
 #[tactic(auto, using(crate::proofs::Keeping::put_twice))]
 fn step_at(
     live: &mut LiveRooms,
@@ -120,7 +120,7 @@ fn step_at(
     }
 }
 
-/// The seat of this number in the room of this number hears.
+/// The participant of this number in the conference of this number receives a signal.
 fn hear_in(
     live: &mut LiveRooms,
     step: &Step<'_>,
@@ -144,14 +144,14 @@ fn hear_in(
     }
 }
 
-/// The place of the one of these rooms to a seat of which the INVITE of this branch went.
+/// The place of the one of these conferences to a participant of which the INVITE of this branch was sent.
 fn asking_in(rooms: &[Room], branch: &[u8]) -> Option<usize>
     ensures { result ≡ position (asks branch.now) rooms.now }
 {
     rooms.iter().position(|room| room.asks(branch))
 }
 
-/// The place of the room to a seat of which the INVITE of this branch went.
+/// The place of the conference to a participant of which the INVITE of this branch was sent.
 fn asking_at(live: &LiveRooms, branch: &[u8]) -> Option<usize>
     ensures { result ≡ position (asks branch.now) live.now.items }
 {
@@ -160,7 +160,7 @@ fn asking_at(live: &LiveRooms, branch: &[u8]) -> Option<usize>
     live.later(start, place)
 }
 
-/// The seat to which the INVITE of this branch went hears.
+/// The participant to which the INVITE of this branch was sent receives a signal.
 fn hear_of(
     live: &mut LiveRooms,
     step: &Step<'_>,
@@ -183,7 +183,7 @@ fn hear_of(
     }
 }
 
-/// A response to the INVITE at this place, which was left.
+/// A response to the abandoned INVITE at this place.
 fn hear_loose_at(
     loose: &mut List<Loose>,
     alloc: Global,
@@ -206,7 +206,7 @@ fn hear_loose_at(
     }
 }
 
-/// A response to the INVITE of this branch: one that was left, or that of a seat.
+/// A response to the INVITE of this branch: an abandoned one, or that of a participant.
 fn hear_answer(
     live: &mut LiveRooms,
     loose: &mut List<Loose>,
@@ -241,7 +241,7 @@ fn hear_answer(
     }
 }
 
-/// The INVITE of this branch had no response at all: one that was left has ended.
+/// The INVITE of this branch got no response at all and timed out: an abandoned one has ended.
 fn hear_silence(
     live: &mut LiveRooms,
     loose: &mut List<Loose>,
@@ -266,7 +266,7 @@ fn hear_silence(
     }
 }
 
-/// A response: to an INVITE of the server's own, by its branch, or to another request, whose response is not awaited.
+/// A response: to an INVITE of the server's own, by its branch, or to another request, whose response is not waited for.
 fn hear_response(
     live: &mut LiveRooms,
     loose: &mut List<Loose>,
@@ -292,7 +292,7 @@ fn hear_response(
     }
 }
 
-/// The request of this branch and this method had no response at all.
+/// The request of this branch and this method got no response at all and timed out.
 fn hear_silent(
     live: &mut LiveRooms,
     loose: &mut List<Loose>,
@@ -315,7 +315,7 @@ fn hear_silent(
     }
 }
 
-/// No more is heard of the INVITE of this client transaction, which has ended.
+/// Removes the abandoned INVITE of this client transaction, which has ended.
 fn drop_ended(loose: &mut List<Loose>, key: TKey)
     ensures { loose.new ≡ without (position (is_loose_key key) loose.old) loose.old }
 {
@@ -323,7 +323,7 @@ fn drop_ended(loose: &mut List<Loose>, key: TKey)
     drop_at(loose, place);
 }
 
-/// The rooms once they heard a signal, and the INVITEs that were left.
+/// The conferences after a signal, and the abandoned INVITEs.
 #[tactic(auto, unfolding(crate::specs::Table::taken))]
 pub fn take(
     live: &mut LiveRooms,

@@ -1,4 +1,4 @@
-//! A seat is left, and a room closes, without a signal: nothing goes out.
+//! A participant leaves, and a conference closes, without a signal: nothing is sent.
 ghost use Rattle.std.specs.Prelude.{◌≡◌, ◌≤◌, ◌<◌, [], IfOk, OnErr, OnOk, length, map, remove, slice_get, vec_capacity};
 ghost use Rattle.mmtel_focus.specs.Names.{all_ended, ended, seats_in};
 ghost use Rattle.mmtel_focus.specs.Seats.{place_of};
@@ -13,7 +13,7 @@ use mmtel_seats as seats;
 use mmtel_types::{Cause, Moment, RoomNo};
 use std::alloc::Global;
 
-/// The row of a meter that ends now.
+/// The CDR of a meter that ends now.
 fn row_by(meter: Option<Meter>, now: Moment) -> Option<Row>
     ensures { result ≡ row_by now meter }
 {
@@ -24,7 +24,7 @@ fn row_by(meter: Option<Meter>, now: Moment) -> Option<Row>
 }
 
 impl Room {
-    /// Leaves the seat at this place, where somebody is seated, and gives its row.
+    /// The participant at this place leaves, where it is connected; returns its CDR.
     fn leave_at(&mut self, place: usize, now: Moment) -> Option<Row>
         requires { place < length self.old.seats }
         ensures room { self.new ≡ left_at place (slice_get self.old.seats place) self.old }
@@ -37,7 +37,7 @@ impl Room {
         row_by(meter, now)
     }
 
-    /// Leaves the seat of this number, where somebody is seated, and gives its row.
+    /// The participant of this number leaves, where it is connected; returns its CDR.
     pub fn leave(&mut self, seat: u64, now: Moment) -> Option<Row>
         ensures room { self.new ≡ seat_left seat self.old }
         ensures row { result ≡ row_in now (place_of seat self.old.seats) self.old.seats }
@@ -49,7 +49,7 @@ impl Room {
     }
 }
 
-/// Leaves a seat, where somebody is seated, and gives its row.
+/// A participant leaves, where it is connected; returns its CDR.
 #[tactic(auto, unfolding(crate::specs::Table::left, crate::specs::Table::row_left))]
 pub fn leave(live: &mut LiveRooms, room: RoomNo, seat: u64, now: Moment) -> Option<Row>
     ensures live { live.new ≡ record live.old { items = left room.0 seat live.old.items } }
@@ -61,7 +61,7 @@ pub fn leave(live: &mut LiveRooms, room: RoomNo, seat: u64, now: Moment) -> Opti
     }
 }
 
-/// What is left of the seats of a room, in their order.
+/// What remains of the participants of a conference, in their order.
 fn end_all(room: Room, blank: Vec<Ended>) -> Vec<Ended>
     requires empty { blank.items ≡ [] }
     requires capacity { length room.seats ≤ vec_capacity blank }
@@ -82,7 +82,7 @@ fn end_all(room: Room, blank: Vec<Ended>) -> Vec<Ended>
     all
 }
 
-/// Closes the room at this place.
+/// Closes the conference at this place.
 fn close_at(live: &mut LiveRooms, alloc: Global, place: usize) -> Result<Vec<Ended>, NoMemory>
     requires { place < length live.old.items }
     ensures ended { IfOk result (λ all. all.items ≡ map ended (seats_in (slice_get live.old.items place))) }
@@ -99,11 +99,11 @@ fn close_at(live: &mut LiveRooms, alloc: Global, place: usize) -> Result<Vec<End
     Ok(end_all(live.remove(place), blank))
 }
 
-/// Closes a room, and gives what is left of its seats, in their order; none where it is not live.
+/// Closes a conference, and returns what remains of its participants, in their order; none where it is not live.
 ///
 /// # Errors
 ///
-/// Want of memory alone; the rooms are then as before.
+/// Out of memory only; the conferences have not changed then.
 #[tactic(auto, unfolding(crate::specs::Table::closed))]
 pub fn close(live: &mut LiveRooms, alloc: Global, room: RoomNo) -> Result<Vec<Ended>, NoMemory>
     ensures ended { IfOk result (λ all. all.items ≡ all_ended room.0 live.old.items) }

@@ -12,14 +12,14 @@ use mmtel_seats::is_method;
 use mmtel_trust::uri_in;
 use std::alloc::Global;
 
-/// The dialog that is to be replaced (RFC 3891 §3), its escapes read.
+/// The dialog that is to be replaced (RFC 3891 §3), unescaped.
 #[derive(Drop)]
 pub struct Replaces {
     /// Its Call-ID.
     pub call_id: Text,
-    /// The tag of the side that is asked, here the server; None where none is said.
+    /// The tag of the side that receives the request, here the server; None where none is given.
     pub to_tag: Option<Text>,
-    /// The other side's tag; None where none is said.
+    /// The other side's tag; None where none is given.
     pub from_tag: Option<Text>,
 }
 
@@ -30,13 +30,13 @@ pub enum Referral {
     Missing,
     /// A request of another method than INVITE.
     OtherMethod,
-    /// An INVITE to this URI; None where it is of no scheme that the server knows.
+    /// An INVITE to this URI; None where it is of a scheme that the server does not support.
     Invite(Option<Uri>),
-    /// An INVITE in the place of this dialog.
+    /// An INVITE that replaces this dialog.
     Replace(Replaces),
 }
 
-/// What stands behind the `=` of the first of these words that has the name.
+/// The text after the `=` of the first of these words that has the name.
 fn value_named(alloc: Global, byte: u8, name: &[u8], bytes: &[u8]) -> Result<Option<Text>, NoMemory>
     ensures { IfOk result (λ v. v ≡ value_named name.now (parts byte bytes.now)) }
 {
@@ -49,7 +49,7 @@ fn value_named(alloc: Global, byte: u8, name: &[u8], bytes: &[u8]) -> Result<Opt
     }
 }
 
-/// The dialog that a Replaces names, its escapes read.
+/// The dialog that a Replaces names, unescaped.
 fn replaces_in(alloc: Global, value: &[u8]) -> Result<Replaces, NoMemory>
     ensures { IfOk result (λ r. r ≡ replaces_in (parts 59 value.now)) }
 {
@@ -72,7 +72,7 @@ fn replaces_in(alloc: Global, value: &[u8]) -> Result<Replaces, NoMemory>
     }
 }
 
-/// The dialog that a Replaces names, as it is escaped.
+/// The dialog that an escaped Replaces names.
 fn replaces_at(alloc: Global, value: &[u8]) -> Result<Replaces, NoMemory>
     ensures { IfOk result (λ r. r ≡ replaces_at value.now) }
 {
@@ -82,7 +82,7 @@ fn replaces_at(alloc: Global, value: &[u8]) -> Result<Replaces, NoMemory>
     }
 }
 
-/// That of the first Replaces in the header part of a URI.
+/// The dialog that the first Replaces in the header part of a URI names.
 #[tactic(auto, unfolding(crate::specs::Referrals::replaces_of))]
 fn replaces_of(alloc: Global, headers: &[u8]) -> Result<Option<Replaces>, NoMemory>
     ensures { IfOk result (λ r. r ≡ replaces_of headers.now) }
@@ -102,7 +102,7 @@ fn replaces_by(alloc: Global, uri: &Uri) -> Result<Option<Replaces>, NoMemory>
     }
 }
 
-/// The first parameter that names a method.
+/// The first parameter `method`.
 fn method_of(params: &[Param]) -> Option<&Param>
     ensures { option_copied result ≡ find is_method params.now }
 {
@@ -130,7 +130,7 @@ fn asks_invite(uri: &Uri) -> bool
     }
 }
 
-/// What a REFER asks for by this URI, which is taken where it goes into the answer.
+/// What a REFER asks for by this URI, which is moved into the result where the result has it.
 fn referral_by(alloc: Global, uri: &mut Option<Uri>) -> Result<Referral, NoMemory>
     ensures { IfOk result (λ r. r ≡ referral_to uri.old) }
 {
@@ -155,12 +155,12 @@ fn referral_to(alloc: Global, uri: Option<Uri>) -> Result<Referral, NoMemory>
     referral_by(alloc, &mut uri)
 }
 
-/// What a REFER asks for by its first Refer-To (RFC 3515 §2.1): an INVITE, by name or because its URI names no method, in the place of a dialog where the header part of
+/// What a REFER asks for by its first Refer-To (RFC 3515 §2.1): an INVITE, by name or because its URI names no method; an INVITE that replaces a dialog, where the header part of
 /// that URI has a Replaces (RFC 3891 §3); or a request of another method.
 ///
 /// # Errors
 ///
-/// Want of memory alone.
+/// Out of memory only.
 #[tactic(auto, unfolding(crate::specs::Referrals::referral_in))]
 pub fn referral_of(alloc: Global, request: &Hearing) -> Result<Referral, NoMemory>
     ensures referral { IfOk result (λ r. r ≡ referral_in request.now.heard.refer_to) }

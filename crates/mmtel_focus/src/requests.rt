@@ -1,4 +1,4 @@
-//! What a seat asks in its dialog, and its ACK.
+//! The requests of a participant in its dialog, and its ACK.
 ghost use Rattle.std.specs.Prelude.{◌≡◌, ◌<◌, [], OnErr, OnOk, length, slice_get, true};
 ghost use Rattle.mmtel_answers.specs.Answers.{allowed};
 ghost use Rattle.mmtel_desk.specs.Sending.{answered};
@@ -24,7 +24,7 @@ use mmtel_seats::{Awaited, Effects, Next, Step, contact_value};
 use mmtel_sip_rules::is_same_number;
 use mmtel_transaction::TKey;
 
-/// Whether an ACK is that of the 2xx that waits for one.
+/// Whether an ACK is that of the 2xx whose ACK is due.
 fn acknowledges(ack: &Hearing, awaited: Option<Awaited>) -> bool
     ensures { result ≡ acknowledges ack.now awaited }
 {
@@ -34,7 +34,7 @@ fn acknowledges(ack: &Hearing, awaited: Option<Awaited>) -> bool
     }
 }
 
-/// Answers a request with named lines.
+/// Responds to a request with these header fields.
 fn answer_with(
     step: &Step<'_>,
     key: TKey,
@@ -56,7 +56,7 @@ fn answer_with(
 }
 
 impl Room {
-    /// Answers a request with a status alone.
+    /// Responds to a request with a status alone.
     fn refuse(
         &self,
         step: &Step<'_>,
@@ -78,7 +78,7 @@ impl Room {
             .reply(step.alloc, step.setting.sip, key, request, tag, code)
     }
 
-    /// Answers an INVITE that offers audio with the mixer's answer.
+    /// Responds to an INVITE that offers audio with the mixer's answer.
     fn agree_again(
         &mut self,
         step: &Step<'_>,
@@ -107,7 +107,7 @@ impl Room {
         Ok(())
     }
 
-    /// An INVITE: the mixer's answer to an offer of audio, and else 488.
+    /// An INVITE: the mixer's answer to an offer of audio, else 488.
     fn hear_invite(
         &mut self,
         step: &Step<'_>,
@@ -128,7 +128,7 @@ impl Room {
         self.refuse(step, key, request, 488, place, effects)
     }
 
-    /// A BYE: 200, and the seat is left.
+    /// A BYE: 200, and the participant leaves.
     fn hear_bye(
         &mut self,
         step: &Step<'_>,
@@ -159,7 +159,7 @@ impl Room {
         self.close_with(step, number, effects)
     }
 
-    /// Accepts a REFER; the 202 names the room (RFC 3515 §2.2).
+    /// Accepts a REFER; the 202 names the conference (RFC 3515 §2.2).
     fn accept(
         &self,
         step: &Step<'_>,
@@ -186,7 +186,7 @@ impl Room {
         desk.answer_at(step.alloc, contact.bytes(), key, request, tag, own)
     }
 
-    /// Tells the seat of this number that what it asked for is tried.
+    /// Notifies the participant of this number that its request is being tried.
     fn tell_trying(
         &mut self,
         step: &Step<'_>,
@@ -201,7 +201,7 @@ impl Room {
         self.tell(step, true, line.bytes(), number, effects)
     }
 
-    /// A REFER that asks for this; a URI is taken out of it.
+    /// A REFER that asks for this; a URI is moved out of it.
     fn hear_referral(
         &mut self,
         step: &Step<'_>,
@@ -276,7 +276,7 @@ impl Room {
         answer_with(step, key, request, tag, 200, named, &mut effects.desk)
     }
 
-    /// A request that was heard.
+    /// A request that was accepted.
     fn hear_heard(
         &mut self,
         step: &Step<'_>,
@@ -307,7 +307,7 @@ impl Room {
         self.refuse(step, key, request, 481, place, effects)
     }
 
-    /// Answers a request that is out of order, or crosses an INVITE.
+    /// Refuses a request that is out of order, or that crosses an INVITE.
     fn refuse_unheard(
         &self,
         step: &Step<'_>,
@@ -337,7 +337,7 @@ impl Room {
         }
     }
 
-    /// The seat at this place takes note of a request, or refuses it.
+    /// The participant at this place accepts a request, or refuses it.
     #[tactic(auto, using(crate::proofs::Places::set_back))]
     fn note_request(&mut self, request: &Hearing, place: usize) -> Result<(), DialogueFault>
         requires { place < length self.old.seats }
@@ -348,7 +348,7 @@ impl Room {
         self.seats[place].hear(request)
     }
 
-    /// A request of the seat at this place.
+    /// A request of the participant at this place.
     #[tactic(auto, unfolding(crate::specs::Requests::on_request))]
     pub fn hear_request(
         &mut self,
@@ -373,7 +373,7 @@ impl Room {
         }
     }
 
-    /// An ACK of the seat at this place: nothing goes out.
+    /// An ACK of the participant at this place: nothing is sent.
     #[tactic(auto, unfolding(crate::specs::Requests::on_ack))]
     pub fn hear_ack(
         &mut self,

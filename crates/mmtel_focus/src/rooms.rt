@@ -1,18 +1,18 @@
-//! A room.
+//! A conference.
 
 use mmtel_seats::Seat;
 use mmtel_types::RoomNo;
 use std::marker::Model;
 
-/// A conference room. It must be spent.
+/// A conference. The value is linear: it must be spent.
 pub struct Room {
     /// Its number.
     pub number: RoomNo,
-    /// The number of the seat that was taken last.
+    /// The number of the participant that came last.
     pub taken: u64,
-    /// The number of the last invitation or 2xx, counted in this room.
+    /// The number of the last invitation or 2xx, counted within this conference.
     pub counted: u64,
-    /// The seats that are taken, in the order in which they were.
+    /// The participants, in the order in which they came.
     pub seats: Vec<Seat>,
 }
 

@@ -1,37 +1,37 @@
-//! What rooms and their seats hear.
+//! What conferences and their participants receive.
 
 use mmtel_answers::Hearing;
 use mmtel_scan::Text;
 use mmtel_transaction::{RoomWord, TKey};
 use mmtel_types::RoomNo;
 
-/// What the rooms hear. The peer from which a message was heard stands with it.
+/// What the conferences receive. Each message comes with the peer from which it was received.
 #[derive(Drop)]
 pub enum RoomSignal {
-    /// A request of a seat in its dialog, other than ACK; it opened this server transaction.
+    /// A request of a participant in its dialog, other than ACK; it opened this server transaction.
     Request {
         room: RoomNo,
         seat: u64,
         key: TKey,
         request: Hearing,
     },
-    /// An ACK of a seat that is of a 2xx.
+    /// An ACK of a participant, to a 2xx.
     Ack {
         room: RoomNo,
         seat: u64,
         ack: Hearing,
     },
-    /// A response that this client transaction heard; it is known by the branch and the CSeq method of what it answers.
+    /// A response that this client transaction received; it is matched by the branch and the CSeq method of the request that it answers.
     Answer {
         key: TKey,
         response: Hearing,
     },
-    /// A request had no response at all and was given up: its branch, with the cookie, and its method.
+    /// A request got no response at all and its client transaction timed out: its branch, with the magic cookie, and its method.
     Silent {
         branch: Text,
         method: Text,
     },
-    /// A deadline of a seat came.
+    /// A timer of a participant fired.
     Due {
         room: RoomNo,
         seat: u64,
@@ -43,26 +43,26 @@ pub enum RoomSignal {
     },
 }
 
-/// What a seat hears, its messages lent by the signal that the rooms hear.
+/// What a participant receives; its messages are borrowed from the signal that the conferences receive.
 #[derive(Clone, Copy)]
 pub enum LentSignal<'a> {
     /// A request of it, which opened this server transaction.
     Request { key: TKey, request: &'a Hearing },
     /// An ACK of it.
     Ack { ack: &'a Hearing },
-    /// A response to the server's INVITE to it, by its client transaction.
+    /// A response to the server's INVITE to it, with the client transaction.
     Answer { key: TKey, response: &'a Hearing },
-    /// The server's INVITE to it had no response at all.
+    /// The server's INVITE to it got no response at all and timed out.
     Silent,
-    /// A deadline of it came.
+    /// A timer of it fired.
     Due { what: RoomWord },
 }
 
-/// How a leg comes to a room.
+/// How a leg enters a conference.
 #[derive(Drop)]
 pub enum Joining<'a> {
     /// By this INVITE, which offers audio and opened this server transaction.
     Invited { key: TKey, invite: &'a Hearing },
-    /// Out of a call, by the REFER of the seat of this number.
+    /// Out of a call, by the REFER of the participant of this number.
     Referred { by: u64 },
 }

@@ -1,4 +1,4 @@
-//! The table of rooms.
+//! The table of conferences.
 ghost use Rattle.std.specs.Prelude.{◌≡◌, ◌≤◌, ◌++◌, ◌∷◌, false, List, IfOk, OnOk, length};
 ghost use Rattle.mmtel_answers.specs.Answers.{no_further_methods};
 ghost use Rattle.mmtel_trust.specs.Peers.{Peers};
@@ -27,7 +27,7 @@ use std::alloc::Global;
 use std::marker::Model;
 use std::mem;
 
-/// The conference rooms of a server. They must be spent.
+/// The conferences of a server. The value is linear: it must be spent.
 pub struct Rooms {
     sip: Addr,
     mixer: Mixer,
@@ -52,7 +52,7 @@ impl Model for Rooms {
     } };
 }
 
-/// Tokens of which none is drawn.
+/// A token generator that has drawn no token.
 fn no_tokens() -> Tokens
     ensures { result ≡ no_tokens }
 {
@@ -60,11 +60,11 @@ fn no_tokens() -> Tokens
 }
 
 impl Rooms {
-    /// No rooms yet, for where the mixer takes media and the server's address.
+    /// No conferences yet, of a server with this address and this mixer.
     ///
     /// # Errors
     ///
-    /// Want of memory alone.
+    /// Out of memory only.
     pub fn new(alloc: Global, mixer: Mixer, sip: Addr) -> Result<Rooms, NoMemory>
         ensures rooms { IfOk result (λ rooms. rooms
             ≡ record { sip = sip; mixer = mixer; methods = no_further_methods; table = no_rooms; has_failed = false }) }
@@ -83,7 +83,7 @@ impl Rooms {
         })
     }
 
-    /// The same rooms, of a server that knows these methods beside those that it always knows: who asks by OPTIONS is told of them.
+    /// The same conferences, of a server that supports these methods beside those that it always supports: a response to OPTIONS lists them.
     pub fn with_methods(self, methods: FurtherMethods) -> Rooms
         ensures { result ≡ record self { methods = methods } }
     {
@@ -92,7 +92,7 @@ impl Rooms {
         rooms
     }
 
-    /// What a step of the rooms is given, where these are the peers and the accounts, and this is the moment.
+    /// The context of a step of the conferences, with these peers and these accounts, at this moment.
     fn step<'a>(
         &self,
         alloc: Global,
@@ -113,7 +113,7 @@ impl Rooms {
         Step { alloc, setting, at }
     }
 
-    /// Keeps the INVITEs that a step left, and the rows that it closed until they are handed over.
+    /// Keeps the INVITEs that a step abandoned, and the CDRs that it closed until they are handed over.
     fn keep(&mut self, alloc: Global, loose: List<Loose>, rows: List<Row>) -> Result<(), NoMemory>
         ensures { OnOk result (self.new
             ≡ record self.old { table = record self.old.table { loose = self.old.table.loose ++ loose; rows = self.old.table.rows ++ rows } }) }
@@ -127,7 +127,7 @@ impl Rooms {
         }
     }
 
-    /// Keeps what a step left and closed, and gives what goes out.
+    /// Keeps what a step abandoned and closed, and returns its output.
     fn settle(&mut self, alloc: Global, effects: Effects) -> Result<Emits, NoMemory>
         ensures kept { OnOk result (self.new ≡ record self.old {
           table =
@@ -143,8 +143,8 @@ impl Rooms {
         Ok(out)
     }
 
-    /// The room and the seat whose dialog has this Call-ID, this tag of the server and this tag of the other side (RFC 3261 §12.2.2); None exactly where no seat of a live
-    /// room has it.
+    /// The conference and the participant whose dialog has this Call-ID, this tag of the server and this tag of the other side (RFC 3261 §12.2.2); None exactly where no
+    /// participant of a live conference has it.
     pub fn find(&self, call_id: &[u8], local: &[u8], remote: &[u8]) -> Option<(RoomNo, u64)>
         ensures { (peers : Peers) (accounts : List AccountIdentity) (deeds : List Deed) →
             Stands peers accounts self.now deeds →
@@ -158,7 +158,7 @@ impl Rooms {
         finding::find(&self.live, name)
     }
 
-    /// How many seats of a room are taken, pending invitations among them; 0 where it is not live.
+    /// How many participants a conference has, pending invitations among them; 0 where it is not live.
     pub fn seats(&self, room: RoomNo) -> u32
         ensures { (peers : Peers) (accounts : List AccountIdentity) (deeds : List Deed) →
             Stands peers accounts self.now deeds →
@@ -167,7 +167,7 @@ impl Rooms {
         finding::seats_taken(&self.live, room)
     }
 
-    /// The rows of seats that were left by a signal and that were not handed over, in the order in which they were closed.
+    /// The CDRs of participants that left by a signal, as far as they were not handed over, in the order in which they were closed.
     pub fn rows_waiting(&self) -> &[Row]
         ensures rows { (peers : Peers) (accounts : List AccountIdentity) (deeds : List Deed) →
             Stands peers accounts self.now deeds →
@@ -177,7 +177,7 @@ impl Rooms {
         self.rows.items()
     }
 
-    /// So many of the rows that wait were handed over.
+    /// Removes the first CDRs, so many as were handed over.
     pub fn drop_rows(&mut self, count: usize)
         requires { count ≤ length self.old.table.rows }
         ensures site { (peers : Peers) (accounts : List AccountIdentity) →
@@ -189,7 +189,7 @@ impl Rooms {
         drop_first(&mut self.rows, count);
     }
 
-    /// Spends all rooms, without rows. It takes no memory.
+    /// Spends all conferences, without CDRs. It allocates nothing.
     pub fn give_up(self) {
         let Rooms {
             sip: _,

@@ -1,4 +1,4 @@
-//! NOTIFY to a seat (RFC 3515 §2.4.4).
+//! NOTIFY to a participant (RFC 3515 §2.4.4).
 ghost use Rattle.std.specs.Prelude.{◌≡◌, ◌<◌, OnOk, length};
 ghost use Rattle.mmtel_focus.specs.Rooms.{in_step};
 ghost use Rattle.mmtel_focus.specs.Seats.{at_seat, told, told_by, told_to};
@@ -8,7 +8,7 @@ use mmtel_scan::NoMemory;
 use mmtel_seats::{Effects, Step, place_of};
 
 impl Room {
-    /// Tells the seat at this place.
+    /// Notifies the participant at this place.
     fn tell_at(
         &mut self,
         step: &Step<'_>,
@@ -28,7 +28,7 @@ impl Room {
         party.tell(step, room, goes_on, line, &mut effects.desk)
     }
 
-    /// Tells the seat of this number a status line; nothing goes out where it has left.
+    /// Notifies the participant of this number of a status line; nothing is sent where it has left.
     pub fn tell(
         &mut self,
         step: &Step<'_>,
@@ -48,7 +48,7 @@ impl Room {
         }
     }
 
-    /// Tells the seat whose REFER brought another one, if one did.
+    /// Notifies the participant whose REFER invited another one, if one did.
     pub fn tell_by(
         &mut self,
         step: &Step<'_>,

@@ -1,4 +1,4 @@
-//! Which room a URI names, and the texts of what a room sends beside its requests.
+//! Which conference a URI names, and the texts that a conference sends beside its requests.
 ghost use Rattle.std.specs.Prelude.{◌≡◌, IfOk, true};
 ghost use Rattle.mmtel_sdp.specs.Offers.{offers_audio};
 ghost use Rattle.mmtel_focus.specs.Texts.{answer_in, is_port, own_status, room_by, room_in, status_line};
@@ -37,14 +37,14 @@ pub fn status_line(alloc: Global, code: u16, phrase: &[u8]) -> Result<Text, NoMe
     Ok(out)
 }
 
-/// That of a status of the server's own.
+/// The status line of a status of the server's own.
 pub fn own_status(alloc: Global, code: u16) -> Result<Text, NoMemory>
     ensures { IfOk result (λ t. t ≡ own_status code) }
 {
     status_line(alloc, code, phrase_of(code))
 }
 
-/// Whether it is the server's port, where it is written or not.
+/// Whether this is the server's port; it is 5060 where none is written.
 fn is_port(own: u16, port: Option<u16>) -> bool
     ensures { result ≡ is_port own port }
 {
@@ -54,7 +54,7 @@ fn is_port(own: u16, port: Option<u16>) -> bool
     }
 }
 
-/// The number of the room that a user names.
+/// The number of the conference that the user part of a URI names.
 fn room_by(user: &[u8]) -> Option<u64>
     ensures { result ≡ room_by user.now }
 {
@@ -64,12 +64,12 @@ fn room_by(user: &[u8]) -> Option<u64>
     }
 }
 
-/// The room of this server that a URI names, whether it is live or not: `room-N` at the server's address, where port 5060 need not be written (RFC 4579 §4.4, RFC 3261
-/// §19.1.2). None where it names none.
+/// The number of the conference of this server that a URI names, whether it is live or not: `room-N` at the server's address, where port 5060 need not be written (RFC 4579 §4.4,
+/// RFC 3261 §19.1.2). None where it names none.
 ///
 /// # Errors
 ///
-/// Want of memory alone.
+/// Out of memory only.
 pub fn room_named(alloc: Global, sip: Addr, uri: &Uri) -> Result<Option<u64>, NoMemory>
     ensures number { IfOk result (λ room. room ≡ room_in sip uri.now) }
 {

@@ -1,4 +1,4 @@
--- Two seats of one public part, and two rooms: what is told of them alike, and what they are after one change of each.
+-- Two participants with the same public part, and two conferences: what is equal of both, and what they are after one change of each.
 use Rattle.std.proofs.Common.{◌≡◌, ℕ, Bool, true, false, List, [], ◌∷◌, Option, Some, None, refl, ap, sym, ◌∙◌, map}
 use Rattle.std.specs.Option.{option_map}
 use Rattle.std.specs.Prelude.{nat_le}
@@ -32,7 +32,7 @@ use Rattle.mmtel_focus_laws.proofs.Lists.{commuting, telling}
 module _ (known : Peer → Bool) where
   -- ---- parties
 
-  -- two of one public part are of one kind
+  -- two with the same public part are of one kind
   pub by_party : (P : Party → Party → Type 0) → ((l m : Leg) → public_leg known l ≡ public_leg known m → P (Invited l) (Invited m)) → ((l m : Leg) → public_leg known l ≡ public_leg known m → P (Came l) (Came m)) →
       ((l m : Leg) → public_leg known l ≡ public_leg known m → P (Brought l) (Brought m)) → (p q : Party) → public_party known p ≡ public_party known q → P p q
   by_party P invited came brought (Invited l) (Invited m) e =
@@ -64,7 +64,7 @@ module _ (known : Peer → Bool) where
   seated_public (Came leg) = refl
   seated_public (Brought leg) = refl
 
-  -- ---- INVITEs to seats
+  -- ---- INVITEs to participants
 
   pub by_invite : (b c : Bool) (P : Option Invite → Option Invite → Type 0) → P None None → ((n m : ℕ) (i j : Invitation) → n ≡ m → public_waiting known i ≡ public_waiting known j → P (Some (Waiting n i)) (Some (Waiting m j))) →
       ((u v t s a d : List ℕ) → u ≡ v → t ≡ s → blank_if b a ≡ blank_if c d → P (Some (Agreed u t a)) (Some (Agreed v s d))) → (o p : Option Invite) → public_invite known b o ≡ public_invite known c p → P o p
@@ -85,11 +85,11 @@ module _ (known : Peer → Bool) where
       let ack : blank_if b a ≡ blank_if c d = cc in
       agreed u v t s a d branch tag ack
 
-  -- as an INVITE that was left
+  -- as an abandoned INVITE
   pub as_left : (i j : Invitation) → public_waiting known i ≡ public_waiting known j → public_invitation known i ≡ public_invitation known j
   as_left i j e = ap (λ (z : Invitation). record z { ack = blank_maybe (known z.dialogue.peer) z.ack; early = option_map (public_said (known z.dialogue.peer)) z.early }) e
 
-  -- ---- what is told of two seats
+  -- ---- what is equal of two participants
 
   module _ (v w : Seat) (e : public_seat known v ≡ public_seat known w) where
     pub parties : public_party known v.party ≡ public_party known w.party
@@ -119,7 +119,7 @@ module _ (known : Peer → Bool) where
     pub seateds : is_seated v ≡ is_seated w
     seateds = telling is_seated_by (public_party known) seated_public v.party w.party parties
 
-    -- with other parties, whose peers are as trusted
+    -- with other parties, whose peers are trusted as before
     pub with_parties : (p q : Party) → public_party known p ≡ public_party known q → known (leg_of p).dialogue.peer ≡ known (dialogue_of v).peer → known (leg_of q).dialogue.peer ≡ known (dialogue_of w).peer →
         public_seat known (record v { party = p }) ≡ public_seat known (record w { party = q })
     with_parties p q same f g =
@@ -135,7 +135,7 @@ module _ (known : Peer → Bool) where
         ap (λ (z : Seat). record z { invite = public_invite known (known (dialogue_of v).peer) o }) e
         ∙ ap (λ (z : Option Invite). record (public_seat known w) { invite = z }) same
 
-  -- the number of a seat and the branch of its INVITE are public
+  -- the number of a participant and the branch of its INVITE are public
   pub asked_public : (branch : List ℕ) (v : Seat) → is_asked branch (public_seat known v) ≡ is_asked branch v
   asked_public branch v = by v.invite
     where
@@ -150,7 +150,7 @@ module _ (known : Peer → Bool) where
   pub waits_same : (due : ℕ) (b c : Bool) (o p : Option Invite) → public_invite known b o ≡ public_invite known c p → waits due o ≡ waits due p
   waits_same due b c o p e = by_invite b c (λ x y. waits due x ≡ waits due y) refl (λ n m i j number same. ap (λ (k : ℕ). waits due (Some (Waiting k i))) number) (λ u v t s a d branch tag ack. refl) o p e
 
-  -- ---- seats after what changes them
+  -- ---- participants after a change
 
   told_public : (p : Party) → public_party known (told_party p) ≡ told_party (public_party known p)
   told_public (Invited leg) = refl
@@ -207,7 +207,7 @@ module _ (known : Peer → Bool) where
   heard-seats m v w e =
       with_parties v w e (heard_seat m v).party (heard_seat m w).party (heard_public m v ∙ (ap (λ (z : Seat). (heard_seat m z).party) e ∙ sym (heard_public m w))) (ap known (heard_peer m v)) (ap known (heard_peer m w))
 
-  -- the last number is public
+  -- the last CSeq number is public
   last_same : (p q : Party) → public_party known p ≡ public_party known q → (leg_of p).dialogue.last ≡ (leg_of q).dialogue.last
   last_same p q e = ap (λ (l : Leg). l.dialogue.last) (legs p q e)
 
@@ -259,7 +259,7 @@ module _ (known : Peer → Bool) where
       (λ n m i j number w. agreed_same i.branch j.branch tag tag (blank_if (known d.peer) (ack_text sip d branch)) (blank_if (known e.peer) (ack_text sip e branch)) (ap (λ (z : Invitation). z.branch) w) refl (acks sip d e branch same))
       (λ u v t s a c one two ack. agreed_same u v t s (blank_if (known d.peer) a) (blank_if (known e.peer) c) one two ack) o p eq
 
-  -- ---- INVITEs that are left
+  -- ---- abandoned INVITEs
 
   abbrev within_of : (had_bye : Bool) → Leg → Invitation → Loose
   within_of had_bye l i = record { invitation = record i { dialogue = l.dialogue; ack = blank_maybe (known l.dialogue.peer) i.ack; forks = ended_dialogs had_bye l.dialogue; early = option_map (public_said (known l.dialogue.peer)) i.early }; within = true }
@@ -287,7 +287,7 @@ module _ (known : Peer → Bool) where
       by_invite b c (λ x y. map (public_loose known) (loosened_in had_bye p x) ≡ map (public_loose known) (loosened_in had_bye q y)) refl
       (λ n m i j number w. ap (λ (z : Loose). z ∷ []) (left-one had_bye p q i j e w)) (λ u v t s a d branch tag ack. refl) o r same
 
-  -- ---- rooms
+  -- ---- conferences
 
   pub seats-set : (r s : Room) (xs ys : List Seat) → public_room known r ≡ public_room known s → map (public_seat known) xs ≡ map (public_seat known) ys → public_room known (record r { seats = xs }) ≡ public_room known (record s { seats = ys })
   seats-set r s xs ys e same =

@@ -1,4 +1,4 @@
--- Each row of the room table keeps two steps alike.
+-- Each transition of the step table of conferences keeps two steps equal but for private places.
 use Rattle.std.proofs.Common.{◌≡◌, ◌+◌, ◌&&◌, not, ℕ, Bool, true, false, List, [], ◌∷◌, ◌++◌, Option, Some, None, Result, Ok, Err, refl, ap, sym, ◌∙◌, map, subst, codes, nat_lt}
 use Rattle.std.specs.Prelude.{if◌then◌else◌, slice_set}
 use Rattle.std.specs.Str.{bytes_eq}
@@ -68,11 +68,11 @@ module _ (heads : Heads) (site : Site) (keys : TKey → Bool) where
   abbrev known : Peer → Bool
   known = λ peer. trusts site peer
 
-  -- two seats, in two steps
+  -- two participants, in two steps
   abbrev pub Row : (f g : (place : ℕ) → Seat → Step → Step) → Type 0
   Row = λ f g. (place : ℕ) (v w : Seat) (s r : Step) → public_seat known v ≡ public_seat known w → AlikeRows T s r → AlikeRows T (f place v s) (g place w r)
 
-  -- ---- an INVITE has the mixer's answer
+  -- ---- an INVITE gets the mixer's answer
 
   abbrev Numbers : Type 0
   Numbers = RoomNo × ℕ × ℕ × List ℕ
@@ -85,7 +85,7 @@ module _ (heads : Heads) (site : Site) (keys : TKey → Bool) where
       (same-like heads site keys (emit.ArmSeat k.0 k.1 (due.NoAck k.2) (now + ack_time)) (answered_at (contact_value site.sip k.0) key p.one.said k.3 200 [] sdp_lines (answer_in site.mixer p.one.said.heard.body) x) (answered_at (contact_value site.sip k.0) key p.other.said k.3 200 [] sdp_lines (answer_in site.mixer p.one.said.heard.body) y)
       (answered-like heads site keys (contact_value site.sip k.0) key p k.3 200 sdp_lines (answer_in site.mixer p.one.said.heard.body) x y asked a)))
 
-  -- ---- seats that are taken
+  -- ---- a party becomes a participant
 
   new-room : (v w : Seat) (s r : Step) → public_seat known v ≡ public_seat known w → AlikeRows T s r → public_room known (with_new v s.room) ≡ public_room known (with_new w r.room)
   new-room v w s r e a =
@@ -142,7 +142,7 @@ module _ (heads : Heads) (site : Site) (keys : TKey → Bool) where
       ∙ (ap (λ (b : List ℕ). adopted_seat now r.room (public_released known other) account by b) (tokens_same T s.effects.desk r.effects.desk a.effects.desk)
       ∙ sym (adopted_public now r.room account by (token r.effects.desk) other))))) a
 
-  -- ---- somebody is invited
+  -- ---- a party is invited
 
   dialog_same : (n m : RoomNo) (peer : Peer) (uri : List ℕ) (x y : Desk) → n ≡ m → AlikeDesks T x y → invitation_dialog site n peer uri x ≡ invitation_dialog site m peer uri y
   dialog_same n m peer uri x y e a =
@@ -184,7 +184,7 @@ module _ (heads : Heads) (site : Site) (keys : TKey → Bool) where
   bidden-rows now n None s r a = failure-rows n n 404 s r refl a
   bidden-rows now n (Some u) s r a = invited_at-rows now n (route_of u site.peers.routes) u s r a
 
-  -- ---- what a seat asks
+  -- ---- the requests of a participant
 
   module _ (now : ℕ) (key : TKey) (p : Pair) (asked : AreRequests T key p) where
     refused-rows : (code : ℕ) → Row (refused site key p.one.said code) (refused site key p.other.said code)
@@ -303,7 +303,7 @@ module _ (heads : Heads) (site : Site) (keys : TKey → Bool) where
       (ap (λ (m : Said). acknowledges m v.awaited) said ∙ ap (λ (z : Seat). acknowledges p.other.said z.awaited) e)
       (put-rows heads site keys place (record v { awaited = None }) (record w { awaited = None }) s r (acknowledged-seats known v w e) a) a
 
-  -- ---- the INVITE to a seat ends without a 2xx
+  -- ---- the INVITE to a participant ends without a 2xx
 
   without-rows : (now : ℕ) (line : List ℕ) → Row (ended_without site now line) (ended_without site now line)
   without-rows now line place v w s r e a = told_by-rows heads site keys false line v.by w.by (dismissed site now place v s) (dismissed site now place w r) (bys known v w e) (dismissed-rows heads site keys now place v w s r e a)
@@ -324,7 +324,7 @@ module _ (heads : Heads) (site : Site) (keys : TKey → Bool) where
       if-rows heads site keys (is_waiting v.invite) (is_waiting w.invite) (ended_unasked site now (own_status 408) place v s) s (ended_unasked site now (own_status 408) place w r) r
       (waitings known (known (dialogue_of v).peer) (known (dialogue_of w).peer) v.invite w.invite (invites known v w e)) (unasked-rows now (own_status 408) place v w s r e a) a
 
-  -- ---- deadlines
+  -- ---- timers
 
   cancelled-by : (b c : Bool) (o q : Option Invite) (x y : Desk) → public_invite known b o ≡ public_invite known c q → AlikeDesks T x y → AlikeDesks T (cancelled_in site.sip o x) (cancelled_in site.sip q y)
   cancelled-by b c o q x y e a =
@@ -356,7 +356,7 @@ module _ (heads : Heads) (site : Site) (keys : TKey → Bool) where
   due-rows now (due.Cap number) place v w s r e a = cap-rows now number place v w s r e a
   due-rows now (due.NoAck number) place v w s r e a = no_ack-rows now number place v w s r e a
 
-  -- ---- responses to the INVITE to a seat
+  -- ---- responses to the INVITE to a participant
 
   module _ (now : ℕ) (key : TKey) (p : Pair) (said : AreAlike p) where
     provisional-rows : Row (on_provisional key) (on_provisional key)
@@ -420,7 +420,7 @@ module _ (heads : Heads) (site : Site) (keys : TKey → Bool) where
         told_by-rows heads site keys false (own_status 200) v.by w.by (at_seat (acknowledged site (tag_given p.one.said)) place x) (at_seat (acknowledged site (tag_given p.other.said)) place y) (bys known v w e)
         (at-seat heads site keys (acknowledged site (tag_given p.one.said)) (acknowledged site (tag_given p.other.said)) place x y (λ i j h k same. acknowledged-rows place i j x y same stand) stand)
 
-    -- ---- a final from 300
+    -- ---- a final response from 300
     final-by : (b c : Bool) (o q : Option Invite) (x y : Desk) → IsOfInvite T key p.one o → IsOfInvite T key p.other q → public_invite known b o ≡ public_invite known c q → AlikeDesks T x y →
         AlikeDesks T (failure_acked site.sip key p.one.said o x) (failure_acked site.sip key p.other.said q y)
     final-by b c o q x y f g e a =
@@ -439,7 +439,7 @@ module _ (heads : Heads) (site : Site) (keys : TKey → Bool) where
         (desk-rows heads site keys (failure_acked site.sip key p.one.said v.invite s.effects.desk) (failure_acked site.sip key p.other.said w.invite r.effects.desk) s r
         (final-by (known (dialogue_of v).peer) (known (dialogue_of w).peer) v.invite w.invite s.effects.desk r.effects.desk f.invite g.invite (invites known v w e) a.effects.desk) a))
 
-    -- ---- a 2xx that is heard again
+    -- ---- a retransmitted 2xx
     again-like : (i j : Peer) (t k : List ℕ) (x y : Desk) → i ≡ j → blank_if (known i) t ≡ blank_if (known j) k → AlikeDesks T x y → AlikeDesks T (emitted (emit.Plain i t) x) (emitted (emit.Plain j k) y)
     again-like i j t k x y e same a = emitted-alike T (emit.Plain i t) (emit.Plain j k) x y (ap (λ (z : Peer). Sent z (blank_if (known i) t)) e ∙ ap (λ (u : List ℕ). Sent j u) same) a
 

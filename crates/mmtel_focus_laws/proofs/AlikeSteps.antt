@@ -1,4 +1,5 @@
--- Two steps of a room that are alike, and the words of the room table, each of which keeps them alike: seats at a place, NOTIFY, seats that are left, a room that closes, and answers.
+-- Two steps of a conference that are equal but for private places, and the parts of the step table of conferences, each of which keeps them so: participants at a place, NOTIFY, participants that leave, a conference
+-- that closes, and responses.
 use Rattle.std.proofs.Common.{◌≡◌, ℕ, Bool, true, false, List, [], ◌∷◌, Option, Some, None, refl, ap, sym, ◌∙◌, map, subst, codes}
 use Rattle.std.specs.Option.{option_map}
 use Rattle.std.specs.Prelude.{if◌then◌else◌, remove, slice_get, slice_set}
@@ -71,7 +72,7 @@ module _ (heads : Heads) (site : Site) (keys : TKey → Bool) where
   without-room : (place : ℕ) (s r : Step) → AlikeRows T s r → public_room known (without place s).room ≡ public_room known (without place r).room
   without-room place s r a = seats-set known s.room r.room (remove s.room.seats place) (remove r.room.seats place) a.room (same_remove (public_seat known) s.room.seats r.room.seats place (seats-in s r a))
 
-  -- ---- the seat at a place
+  -- ---- the participant at a place
 
   abbrev pub IsAt : (place : ℕ) → Step → Seat → Type 0
   IsAt = λ place s v. slice_get s.room.seats place ≡ Some v
@@ -126,7 +127,7 @@ module _ (heads : Heads) (site : Site) (keys : TKey → Bool) where
       by None = a
       by (Some number) = told_to-rows on line number number s r refl a
 
-  -- ---- a seat is left
+  -- ---- a participant leaves
 
   filed-by : (now : ℕ) (m n : Option Noted) (x y : Desk) → m ≡ n → AlikeDesks T x y → AlikeDesks T (filed_by now m x) (filed_by now n y)
   filed-by now m n x y e a = subst (λ (k : Option Noted). AlikeDesks T (filed_by now m x) (filed_by now k y)) e (by m)
@@ -160,7 +161,7 @@ module _ (heads : Heads) (site : Site) (keys : TKey → Bool) where
   pub dismissed-rows : (now place : ℕ) (v w : Seat) (s r : Step) → public_seat known v ≡ public_seat known w → AlikeRows T s r → AlikeRows T (dismissed site now place v s) (dismissed site now place w r)
   dismissed-rows now place v w s r e a = record { room = without-room place s r a; effects = dismissed-with now v w s.effects r.effects e a.effects }
 
-  -- ---- the room closes
+  -- ---- the conference closes
 
   closed-rows : (now : ℕ) (vs ws : List Seat) (s r : Step) → map (public_seat known) vs ≡ map (public_seat known) ws → AlikeRows T s r → AlikeRows T (closed site now vs s) (closed site now ws r)
   unfolding closed
@@ -175,7 +176,7 @@ module _ (heads : Heads) (site : Site) (keys : TKey → Bool) where
   pub closed_with-rows : (now n m : ℕ) (s r : Step) → n ≡ m → AlikeRows T s r → AlikeRows T (closed_with site now n s) (closed_with site now m r)
   closed_with-rows now n m s r e a = if-rows (is_creator n) (is_creator m) (closed site now s.room.seats s) s (closed site now r.room.seats r) r (ap is_creator e) (closed-rows now s.room.seats r.room.seats s r (seats-in s r a) a) a
 
-  -- ---- answers, with the tag of the seat's dialog
+  -- ---- responses, with the tag of the participant's dialog
 
   pub answered-rows : (c d : List ℕ) (key : TKey) (p : Pair) (code : ℕ) (named : List Line) (v w : Seat) (s r : Step) → c ≡ d → AreRequests T key p → public_seat known v ≡ public_seat known w → AlikeRows T s r →
       AlikeRows T (with_desk (answered_at c key p.one.said (tag_of v) code [] named [] s.effects.desk) s) (with_desk (answered_at d key p.other.said (tag_of w) code [] named [] r.effects.desk) r)

@@ -1,4 +1,4 @@
--- Two tables of rooms of one public part keep it through each deed that is done on both, under one configuration.
+-- Two tables of conferences with the same public part keep it so in each operation that is done on both, under one configuration.
 use Rattle.std.proofs.Common.{◌≡◌, ℕ, Bool, true, false, List, [], ◌∷◌, ◌++◌, Option, Some, None, Result, Ok, Err, refl, ap, sym, ◌∙◌, map, subst, drop}
 use Rattle.std.specs.Option.{option_map}
 use Rattle.std.specs.Prelude.{if◌then◌else◌, option_to_list, position, remove, slice_get, slice_set}
@@ -40,7 +40,7 @@ use Rattle.mmtel_focus_laws.proofs.Lists.{same_any, same_append, same_get, same_
 use Rattle.mmtel_focus_laws.proofs.AlikeRows.{ack-rows, adopted-rows, answer-rows, come-rows, due-rows, request-rows, silence-rows}
 use Rattle.mmtel_focus_laws.proofs.AlikeSteps.{AlikeRows, at-place, told_to-rows}
 
--- the rooms after a step of two tables, and what it brought forth
+-- the conferences after a step of two tables, and its effects
 pub record AlikeStepped (t : Trust) (one other : Stepped) : Type 0 where
   pub live : map (public_room t.peer) one.live ≡ map (public_room t.peer) other.live
   pub effects : AlikeEffects t one.effects other.effects
@@ -69,7 +69,7 @@ module _ (heads : Heads) (site : Site) (keys : TKey → Bool) where
   beside-alike : (ls ms : List Loose) (s r : Stepped) → AreLoose ls ms → AlikeStepped T s r → AlikeMoved T (beside ls s) (beside ms r)
   beside-alike ls ms s r a b = record { live = b.live; loose = a; effects = b.effects }
 
-  -- ---- a step of a room at a place
+  -- ---- a step of a conference at a place
 
   put_at-alike : (place : ℕ) (b c : Bool) (u v : Room) (us vs : List Room) → b ≡ c → public_room known u ≡ public_room known v → AreRooms us vs → AreRooms (put_at place b u us) (put_at place c v vs)
   put_at-alike place b c u v us vs e same a = subst (λ (d : Bool). AreRooms (put_at place b u us) (put_at place d v vs)) e (by b)
@@ -78,7 +78,7 @@ module _ (heads : Heads) (site : Site) (keys : TKey → Bool) where
       by true = same_remove (public_room known) (slice_set us place u) (slice_set vs place v) place (same_set (public_room known) us vs place u v a same)
       by false = same_set (public_room known) us vs place u v a same
 
-  -- two rows that keep rooms of one public part alike, of the rooms at this place
+  -- two transitions that keep the public parts of the conferences at this place equal
   abbrev Keeps : (f g : Step → Step) (u v : Room) (e k : Effects) → Type 0
   Keeps = λ f g u v e k. AlikeRows T (record { room = u; effects = e }) (record { room = v; effects = k }) → AlikeRows T (f (record { room = u; effects = e })) (g (record { room = v; effects = k }))
 
@@ -115,7 +115,7 @@ module _ (heads : Heads) (site : Site) (keys : TKey → Bool) where
   room_place : (number : ℕ) (us vs : List Room) → AreRooms us vs → place_of number us ≡ place_of number vs
   room_place number us vs a = same_place (public_room known) (is_room number) (λ x. refl) us vs a
 
-  -- ---- a seat hears
+  -- ---- a participant receives a signal
 
   asks_public : (branch : List ℕ) (room : Room) → asks branch (public_room known room) ≡ asks branch room
   asks_public branch room = same_any (public_seat known) (is_asked branch) (asked_public known branch) room.seats
@@ -142,7 +142,7 @@ module _ (heads : Heads) (site : Site) (keys : TKey → Bool) where
       stepped-alike (heard_by site now (is_asked branch) x) (heard_by site now (is_asked branch) y) (position (asks branch) us) (position (asks branch) vs) us vs e k (same_place (public_room known) (asks branch) (asks_public branch) us vs a)
       (λ at u v f g h i. heard_by-alike now x y (is_asked branch) u v e k (asked_public known branch) (hear at u v f h g i)) a b
 
-  -- ---- what each seat hears
+  -- ---- what each participant receives
 
   request-hears : (now : ℕ) (key : TKey) (p : Pair) (whose : Seat → Bool) (u v : Room) → AreRequests T key p → HearAlike now (of_seat.Request key p.one.said) (of_seat.Request key p.other.said) whose u v
   unfolding hears
@@ -166,7 +166,7 @@ module _ (heads : Heads) (site : Site) (keys : TKey → Bool) where
   unfolding hears
   answer-hears now key p whose u v said one other place i j s r f g h k e a = answer-rows heads site keys now key p said place i j s r (one place i f g) (other place j h k) e a
 
-  -- ---- INVITEs that were left
+  -- ---- abandoned INVITEs
 
   loose_place : (branch : List ℕ) (ls ms : List Loose) → AreLoose ls ms → position (is_of branch) ls ≡ position (is_of branch) ms
   loose_place branch ls ms a = same_place (public_loose known) (is_of branch) (λ l. refl) ls ms a
@@ -260,7 +260,7 @@ module _ (heads : Heads) (site : Site) (keys : TKey → Bool) where
   taken-alike now (heard.Over key) x y e k h a b c =
       record { live = a; loose = without-loose (position (is_loose_key key) x.loose) (position (is_loose_key key) y.loose) x.loose y.loose (same_place (public_loose known) (is_loose_key key) (λ l. refl) x.loose y.loose b) b; effects = c }
 
-  -- ---- a leg comes to a room
+  -- ---- a leg enters a conference
 
   through-alike : (f g : Step → Step) (x y : Result ℕ RoomFault) (us vs : List Room) (e k : Effects) → x ≡ y → ((u v : Room) → Keeps f g u v e k) → AreRooms us vs → AlikeEffects T e k → AlikeStepped T (through f x us e) (through g y vs k)
   through-alike f g x y us vs e k same keeps a b = subst (λ (z : Result ℕ RoomFault). AlikeStepped T (through f x us e) (through g z vs k)) same (by x)
@@ -269,7 +269,7 @@ module _ (heads : Heads) (site : Site) (keys : TKey → Bool) where
       by (Ok place) = stays_at-alike f g place (slice_get us place) (slice_get vs place) us vs e k keeps (same_get (public_room known) us vs a place) a b
       by (Err fault) = record { live = a; effects = b }
 
-  -- ---- seats that are left without a signal
+  -- ---- participants that leave without a signal
 
   left_at-alike : (place : ℕ) (x y : Option Seat) (u v : Room) → option_map (public_seat known) x ≡ option_map (public_seat known) y → public_room known u ≡ public_room known v → public_room known (left_at place x u) ≡ public_room known (left_at place y v)
   left_at-alike place None None u v e a = a
@@ -317,7 +317,7 @@ module _ (heads : Heads) (site : Site) (keys : TKey → Bool) where
       by None = a
       by (Some place) = same_remove (public_room known) us vs place a
 
-  -- ---- deeds
+  -- ---- operations
 
   abbrev pub Tables : (one other : Table) → Type 0
   Tables = λ one other. public_table known one ≡ public_table known other
@@ -341,7 +341,7 @@ module _ (heads : Heads) (site : Site) (keys : TKey → Bool) where
   stepped-tables : (s r : Stepped) (x y : Table) → AlikeStepped T s r → Tables x y → Tables (with_moved (beside x.loose s) x) (with_moved (beside y.loose r) y)
   stepped-tables s r x y a b = moved-alike (beside x.loose s) (beside y.loose r) x y (beside-alike x.loose y.loose s r (looses x y b) a) b
 
-  -- what a deed brings forth, and the table after it
+  -- the effects of an operation, and the table after it
   abbrev pub Done : Deeds → (x y : Table) → Type 0
   Done = λ d x y. AlikeEffects T (effects_of site (one_deed d) x) (effects_of site (other_deed d) y) × Tables (did site (one_deed d) x) (did site (other_deed d) y)
 

@@ -1,4 +1,4 @@
--- What is asked of a table of rooms rests on its public part alone.
+-- Queries on a table of conferences depend on its public part alone.
 use Rattle.std.proofs.Common.{◌≡◌, ℕ, Bool, List, Option, Some, None, Ok, Err, refl, ap, sym, ◌∙◌, map}
 use Rattle.std.specs.Option.{option_map}
 use Rattle.std.specs.Prelude.{if◌then◌else◌, is_some, nat_le, position, slice_get}
@@ -56,7 +56,7 @@ module _ (known : Peer → Bool) where
         by None = refl
         by (Some place) = ap (λ (o : Option Room). found_in call_id local remote o) (got (public_room known) live place) ∙ in_public (slice_get live place)
 
-  -- ---- whether a room takes another seat
+  -- ---- whether a conference is full
 
   to_public : (place : ℕ) (o : Option Room) → access_to place (option_map (public_room known) o) ≡ access_to place o
   to_public place None = refl

@@ -1,4 +1,4 @@
--- The book of a step: entries follow one another, and stand among what else runs.
+-- The ledger of a step: entries follow one another, among other meters that run.
 use Rattle.std.proofs.Common.{◌≡◌, ℕ, zero, suc, List, [], ◌∷◌, ◌++◌, Option, Some, None, ◌∙◌, refl, sym, ap, subst, append_assoc}
 use Rattle.std.specs.Prelude.{IfSome, slice_get, slice_set}
 use Rattle.std.specs.List.{flat_map, remove}
@@ -63,7 +63,7 @@ booked_begun at front back meter is = record {
   follows = ([], refl, refl, is, (refl, refl));
 }
 
--- ---- an item of a list, and what stands round it
+-- ---- an item of a list, and the items before and after it
 
 pub record IsAt {A : Type 0} (items : List A) (place : ℕ) (item : A) : Type 0 where
   pub front : List A
@@ -87,7 +87,7 @@ stands (x ∷ items) (suc place) item e =
       put_removed = λ y. ap (λ xs. x ∷ xs) (rest.put_removed y);
     }
 
--- what runs in a list, with an item in its place
+-- what runs in a list, with an item at its place
 pub flat_among : {A B : Type 0} (f : A → List B) (front : List A) (item : A) (back : List A) → flat_map f (front ++ item ∷ back) ≡ flat_map f front ++ (f item ++ flat_map f back)
 flat_among f front item back = flat_map-append f front (item ∷ back)
 

@@ -1,4 +1,4 @@
--- Under two configurations that are equal but for the URIs of accounts alike tables of rooms stay alike, and the same is seen of each deed.
+-- Under two configurations that are equal but for the URIs of accounts, tables of conferences that are equal but for private places stay so, and the same is seen of each operation.
 use Rattle.std.proofs.Common.{Bool, List, [], ◌∷◌, refl, subst}
 use Rattle.mmtel_transaction.specs.declared.words.TKey.{TKey}
 use Rattle.mmtel_focus.specs.Histories.{did, effects_of}

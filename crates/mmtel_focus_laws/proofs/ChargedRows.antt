@@ -1,4 +1,4 @@
--- What each row of the room table books.
+-- What each transition of the step table of conferences enters in the ledger.
 use Rattle.std.proofs.Common.{◌≡◌, ◌&&◌, not, Bool, true, false, ℕ, List, [], Option, Some, None, Result, Ok, Err, ◌∙◌, refl, sym, ap, subst, nat_lt}
 use Rattle.std.specs.Prelude.{codes, if◌then◌else◌, option_to_list, slice_get}
 use Rattle.std.specs.Str.{bytes_eq}
@@ -49,7 +49,7 @@ use Rattle.mmtel_seats.specs.declared.seats.Party.TheVariants.{Brought, Came, In
 use Rattle.mmtel_seats.specs.declared.seats.Seat.{Seat}
 use Rattle.mmtel_focus_laws.proofs.ChargedSteps.{ArePlain, Books, EndsBooks, IsPlain, KeepsBooks, begun_books, books_at_seat, books_if, books_then, closed_with_books, dismissed_books, ends_at_seat, ends_if, ends_then, goes_on, left_books, meter_begins, plain_there, put_books, same, same_meter, says, stays, taken_books, told_by_books, told_to_books}
 
--- ---- answers
+-- ---- responses
 
 refused_books : (at : ℕ) (site : Site) (key : TKey) (m : Said) (code : ℕ) → KeepsBooks at (refused site key m code)
 refused_books at site key m code place seat s e p = says at s (replied site.sip key m (tag_of seat) code s.effects.desk) refl p
@@ -169,7 +169,7 @@ ack_books at m place seat s e p =
 
 -- ---- a response
 
--- somebody who is invited is seated, and else who is there stays
+-- an invited party is connected, and any other one is unchanged
 seated_books : (at : ℕ) (room : RoomNo) (remote : Remote) (place : ℕ) (seat other : Seat) (s : Step) (party : Party) → slice_get s.room.seats place ≡ Some seat → seat.party ≡ party → other.party ≡ stood room at seat.account remote party → IsPlain party →
     ArePlain s.room.seats → Books at s (put place other s)
 seated_books at room remote place seat other s (Invited leg) e f g q p =
@@ -195,14 +195,14 @@ success_books at site m place seat s e p =
     let second = books_at_seat at (acknowledged site (tag_given m)) (acknowledged_books at site (tag_given m)) place next first.plain in
     books_then at s next (on_success site at m place seat s) first (books_then at next told (on_success site at m place seat s) second (told_by_books at site false (own_status 200) seat.by told second.plain))
 
--- it ends without one
+-- it ends without a 2xx
 without_books : (at : ℕ) (site : Site) (line : List ℕ) → KeepsBooks at (ended_without site at line)
 without_books at site line place seat s e p =
     let next : Step = dismissed site at place seat s in
     let first = dismissed_books at site place seat s e p in
     books_then at s next (ended_without site at line place seat s) first (told_by_books at site false line seat.by next first.plain)
 
--- of a seat that is as it was, but for its INVITE
+-- of a participant that is as before, except for its INVITE
 then_without : (at : ℕ) (site : Site) (line : List ℕ) (place : ℕ) (seat : Seat) (invite : Option Invite) (s : Step) → slice_get s.room.seats place ≡ Some seat → ArePlain s.room.seats →
     Books at s (at_seat (ended_without site at line) place (put place (record seat { invite = invite }) s))
 then_without at site line place seat invite s e p =
@@ -243,14 +243,14 @@ pub answer_books : (at : ℕ) (site : Site) (key : TKey) (m : Said) → KeepsBoo
 unfolding on_answer
 answer_books at site key m place seat s e p = answer_to_books at seat.invite site key m place seat s e p
 
--- ---- silence
+-- ---- a timeout
 
 pub silence_books : (at : ℕ) (site : Site) → KeepsBooks at (on_silence site at)
 unfolding on_silence
 silence_books at site place seat s e p =
     books_if at (is_waiting seat.invite) s (ended_unasked site at (own_status 408) place seat s) s (then_without at site (own_status 408) place seat None s e p) (stays at s p)
 
--- ---- deadlines
+-- ---- timers
 
 cancel_rows : (b : Bool) (sip : Addr) (i : Invitation) (desk : Desk) → (if b then cancel_sent sip i desk else desk).rows ≡ desk.rows
 cancel_rows true sip i desk = refl

@@ -1,4 +1,4 @@
--- What a step of a room books: how a seat is changed, left, and taken.
+-- What a step of a conference enters in the ledger: how a participant is changed, leaves, and is added.
 use Rattle.std.proofs.Common.{◌≡◌, Bool, true, false, ℕ, List, [], ◌∷◌, ◌++◌, Option, Some, None, ◌⊎◌, inl, inr, ◌∙◌, refl, sym, ap, subst, append_assoc}
 use Rattle.std.specs.Prelude.{IfSome, codes, if◌then◌else◌, option_to_list, slice_get, slice_set}
 use Rattle.std.specs.List.{remove}
@@ -21,7 +21,7 @@ use Rattle.mmtel_seats.specs.declared.seats.Seat.{Seat}
 use Rattle.mmtel_focus_laws.specs.Charging.{IsBegun, IsBooked, among, meters_of, rows_at, runs, runs_in}
 use Rattle.mmtel_focus_laws.proofs.Books.{booked_begun, booked_closed, booked_same, booked_then, flat_among, flat_without, stands}
 
--- ---- somebody who is invited has no meter yet
+-- ---- an invited party has no meter yet
 
 abbrev pub IsPlain : Party → Type 0
 IsPlain (Invited leg) = leg.meter ≡ None
@@ -55,7 +55,7 @@ plain_removed seats place seat e p =
     let parts = plain_parts x.front (seat ∷ x.back) (subst ArePlain x.whole p) in
     subst ArePlain (sym x.removed) (plain_joined x.front x.back parts.0 parts.1.1)
 
--- ---- from one step to another, where the room goes on
+-- ---- from one step to another, where the conference stays open
 
 pub record Books (at : ℕ) (s t : Step) : Type 0 where
   pub rows : List Row
@@ -64,7 +64,7 @@ pub record Books (at : ℕ) (s t : Step) : Type 0 where
   pub still : t.effects.closes ≡ s.effects.closes
   pub plain : ArePlain t.room.seats
 
--- where it goes on, or closes without seats
+-- where it stays open, or closes without participants
 pub record Ends (at : ℕ) (s t : Step) : Type 0 where
   pub rows : List Row
   pub filed : t.effects.desk.rows ≡ s.effects.desk.rows ++ rows
@@ -75,7 +75,7 @@ pub record Ends (at : ℕ) (s t : Step) : Type 0 where
 pub goes_on : (at : ℕ) (s t : Step) → Books at s t → Ends at s t
 goes_on at s t e = record { rows = e.rows; filed = e.filed; booked = e.booked; ends = inl e.still; plain = e.plain }
 
--- ---- nothing is booked
+-- ---- nothing is entered in the ledger
 
 pub same : (at : ℕ) (s t : Step) → t.effects.desk.rows ≡ s.effects.desk.rows → runs t.room ≡ runs s.room → t.effects.closes ≡ s.effects.closes → ArePlain t.room.seats → Books at s t
 same at s t e f g p = record { rows = []; filed = e ∙ sym (append-nil s.effects.desk.rows); booked = booked_same at (runs s.room) (runs t.room) f; still = g; plain = p }
@@ -105,7 +105,7 @@ ends_then at s t u e f = record {
     by (inl g) = inl (g ∙ e.still)
     by (inr g) = inr g
 
--- messages alone
+-- messages alone are sent
 pub says : (at : ℕ) (s : Step) (desk : Desk) → desk.rows ≡ s.effects.desk.rows → ArePlain s.room.seats → Books at s (with_desk desk s)
 says at s desk e p = same at s (with_desk desk s) e refl refl p
 
@@ -117,7 +117,7 @@ pub ends_if : (at : ℕ) (b : Bool) (s t u : Step) → Ends at s t → Ends at s
 ends_if at true s t u e f = e
 ends_if at false s t u e f = f
 
--- ---- a row, at the place of its seat
+-- ---- a transition, at the place of its participant
 
 abbrev pub KeepsBooks : (at : ℕ) → (row : (place : ℕ) → Seat → Step → Step) → Type 0
 KeepsBooks at row = (place : ℕ) (seat : Seat) (s : Step) → slice_get s.room.seats place ≡ Some seat → ArePlain s.room.seats → Books at s (row place seat s)
@@ -133,7 +133,7 @@ pub books_at_place : (at : ℕ) (row : (place : ℕ) → Seat → Step → Step)
 books_at_place at row k None s p = stays at s p
 books_at_place at row k (Some place) s p = books_at_seat at row k place s p
 
--- the same of a row by which the room may close
+-- the same of a transition in which the conference may close
 abbrev pub EndsBooks : (at : ℕ) → (row : (place : ℕ) → Seat → Step → Step) → Type 0
 EndsBooks at row = (place : ℕ) (seat : Seat) (s : Step) → slice_get s.room.seats place ≡ Some seat → ArePlain s.room.seats → Ends at s (row place seat s)
 
@@ -148,7 +148,7 @@ pub ends_at_place : (at : ℕ) (row : (place : ℕ) → Seat → Step → Step) 
 ends_at_place at row k None s p = goes_on at s s (stays at s p)
 ends_at_place at row k (Some place) s p = ends_at_seat at row k place s p
 
--- ---- a seat is changed
+-- ---- a participant is changed
 
 pub put_runs : (seats : List Seat) (place : ℕ) (seat other : Seat) → slice_get seats place ≡ Some seat → meters_of other ≡ meters_of seat → runs_in (slice_set seats place other) ≡ runs_in seats
 put_runs seats place seat other e f =
@@ -159,7 +159,7 @@ pub put_books : (at : ℕ) (place : ℕ) (seat other : Seat) (s : Step) → slic
 put_books at place seat other s e f g p =
     same at s (put place other s) refl (put_runs s.room.seats place seat other e f) refl (plain_put s.room.seats place seat other e g p)
 
--- a meter begins in it
+-- its meter begins
 pub begun_books : (at : ℕ) (place : ℕ) (seat other : Seat) (s : Step) (meter : Option Noted) → slice_get s.room.seats place ≡ Some seat → meters_of seat ≡ [] → meters_of other ≡ option_to_list meter → IfSome meter (IsBegun at) → IsPlain other.party → ArePlain s.room.seats → Books at s (put place other s)
 begun_books at place seat other s meter e f g is h p =
     let x = stands s.room.seats place seat e in
@@ -175,7 +175,7 @@ begun_books at place seat other s meter e f g is h p =
       plain = plain_put s.room.seats place seat other e h p;
     }
 
--- ---- a seat is left
+-- ---- a participant leaves
 
 pub filed_rows : (at : ℕ) (meter : Option Noted) (desk : Desk) → (filed_by at meter desk).rows ≡ desk.rows ++ rows_at at meter
 filed_rows at None desk = sym (append-nil desk.rows)
@@ -206,11 +206,11 @@ same_leg_meter (Invited before) leg e = e
 same_leg_meter (Came before) leg e = e
 same_leg_meter (Brought before) leg e = e
 
--- the same dialog or another, with the meter as it was
+-- with the same dialog or another one, and the same meter
 pub same_meter : (party : Party) (leg : Leg) → leg.meter ≡ (leg_of party).meter → option_to_list (leg_of (with_leg leg party)).meter ≡ option_to_list (leg_of party).meter
 same_meter party leg e = ap option_to_list (same_leg_meter party leg e)
 
--- as another, with the same party
+-- as another participant, with the same party
 pub dismissed_as : (at : ℕ) (site : Site) (place : ℕ) (seat other : Seat) (s : Step) → slice_get s.room.seats place ≡ Some seat → other.party ≡ seat.party → ArePlain s.room.seats → Books at s (dismissed site at place other s)
 dismissed_as at site place seat other s is e p = gone_books at place seat s (dismissed_with site at other s.effects) is (rows_by (is_seated other) ∙ ap (λ x. s.effects.desk.rows ++ rows_at at (leg_of x).meter) e) (closes_by (is_seated other)) p
   where
@@ -234,7 +234,7 @@ dismissed_as at site place seat other s is e p = gone_books at place seat s (dis
 pub dismissed_books : (at : ℕ) (site : Site) → KeepsBooks at (dismissed site at)
 dismissed_books at site place seat s is p = dismissed_as at site place seat seat s is refl p
 
--- ---- a room closes
+-- ---- a conference closes
 
 pub closed_books : (at : ℕ) (site : Site) (seats : List Seat) (s : Step) → s.room.seats ≡ seats → ArePlain s.room.seats → Ends at s (closed site at seats s)
 unfolding closed
@@ -264,7 +264,7 @@ told_plain (Invited leg) e = e
 told_plain (Came leg) e = tt
 told_plain (Brought leg) e = tt
 
--- nobody begins and nobody leaves
+-- no meter begins and none ends
 pub record IsQuiet (s t : Step) : Type 0 where
   pub filed : t.effects.desk.rows ≡ s.effects.desk.rows
   pub runs_on : runs t.room ≡ runs s.room
@@ -302,13 +302,13 @@ pub told_by_books : (at : ℕ) (site : Site) (on : Bool) (line : List ℕ) (by :
 told_by_books at site on line None s p = stays at s p
 told_by_books at site on line (Some number) s p = told_to_books at site on line number s p
 
--- ---- a seat is taken
+-- ---- a participant is added
 
 pub meter_begins : (at : ℕ) (room : RoomNo) (account : Option Account) → IfSome (meter_of room at account) (IsBegun at)
 meter_begins at room None = tt
 meter_begins at room (Some account) = record { kind = refl; began = refl; answered = refl }
 
--- it stands last; somebody who is invited has no meter yet
+-- it is the last of the list; an invited party has no meter yet
 pub taken_books : (at : ℕ) (s t : Step) (seat : Seat) (meter : Option Noted) → t.room.seats ≡ s.room.seats ++ seat ∷ [] → meters_of seat ≡ option_to_list meter → IfSome meter (IsBegun at) →
     t.effects.desk.rows ≡ s.effects.desk.rows → t.effects.closes ≡ s.effects.closes → IsPlain seat.party → ArePlain s.room.seats → Books at s t
 taken_books at s t seat meter e f is filed still g p = record {

@@ -1,4 +1,4 @@
--- What is booked over a table of rooms, deed by deed.
+-- What is entered in the ledger over a table of conferences, operation by operation.
 use Rattle.std.proofs.Common.{◌≡◌, Bool, true, false, ℕ, zero, suc, List, [], ◌∷◌, ◌++◌, map, Option, Some, None, Result, Ok, Err, ◌⊎◌, inl, inr, ◌∙◌, refl, sym, ap, subst, nat_lt, append_assoc}
 use Rattle.std.specs.Prelude.{if◌then◌else◌, option_to_list, position, slice_get, slice_set}
 use Rattle.std.specs.List.{remove}
@@ -47,7 +47,7 @@ use Rattle.mmtel_focus_laws.proofs.Books.{beside, booked_same, booked_within, fl
 use Rattle.mmtel_focus_laws.proofs.ChargedRows.{ack_books, answer_books, due_books, request_books, silence_books}
 use Rattle.mmtel_focus_laws.proofs.ChargedSteps.{ArePlain, Books, Ends, EndsBooks, IsPlain, IsQuiet, ends_at_place, goes_on, meter_begins, plain_removed, taken_books, told_to_quiet}
 
--- ---- nobody who is invited has a meter, in any room
+-- ---- no invited party has a meter, in any conference
 
 abbrev pub AllPlain : List Room → Type 0
 AllPlain [] = Unit {0}
@@ -90,9 +90,9 @@ round live place room e p =
       gone_plain = subst AllPlain (sym x.removed) (all_joined x.front x.back parts.0 parts.1.1);
     }
 
--- ---- a step of the rooms
+-- ---- a step of the conferences
 
--- what is booked of it, from these effects on
+-- what it enters in the ledger, from these effects on
 record Moves (at : ℕ) (live : List Room) (before : Effects) (later : List Room) (after : Effects) : Type 0 where
   pub rows : List Row
   pub filed : after.desk.rows ≡ before.desk.rows ++ rows
@@ -114,13 +114,13 @@ stepped_by_books at place room s live effects e open_still p f = record { rows =
     x : Round live place room
     x = round live place room e p
 
-    -- it stays in its place
+    -- the conference stays at its place
     stays : IsBooked at (running live) (running (slice_set live place s.room)) f.rows
     stays =
         subst (λ y. IsBooked at y (running (slice_set live place s.room)) f.rows) (sym x.runs_in)
         (subst (λ y. IsBooked at (running x.front ++ (runs room ++ running x.back)) y f.rows) (sym (x.put_runs s.room)) (booked_within at (running x.front) (running x.back) (runs room) (runs s.room) f.rows f.booked))
 
-    -- it closes without seats
+    -- it closes without participants
     goes : s.room.seats ≡ [] → IsBooked at (running live) (running (remove (slice_set live place s.room) place)) f.rows
     goes g =
         subst (λ y. IsBooked at (running live) y f.rows) (x.put_runs s.room ∙ ap (λ y. running x.front ++ (runs_in y ++ running x.back)) g ∙ sym (x.out_runs s.room)) stays
@@ -140,7 +140,7 @@ stepped_by_books at place room s live effects e open_still p f = record { rows =
     plain_by true = x.out_plain s.room
     plain_by false = x.put_plain s.room f.plain
 
--- a step in which no room closes
+-- a step in which no conference closes
 stays_by_books : (at : ℕ) (place : ℕ) (room : Room) (s : Step) (live : List Room) (effects : Effects) → slice_get live place ≡ Some room → AllPlain live → Books at (begin room effects) s → Goes at live effects (stays_by place s live)
 stays_by_books at place room s live effects e p f =
     let x = round live place room e p in
@@ -163,7 +163,7 @@ stays_at_books at row place live effects k p = by (slice_get live place) refl
     by None e = unmoved_books at live effects effects refl p
     by (Some room) e = stays_by_books at place room (row (begin room effects)) live effects e p (k (begin room effects) (round live place room e p).room_plain)
 
--- a row of rooms
+-- a transition of conferences
 abbrev EndsRooms : (at : ℕ) → (row : Step → Step) → Type 0
 EndsRooms at row = (s : Step) → ArePlain s.room.seats → Ends at s (row s)
 
@@ -178,7 +178,7 @@ stepped_in_books : (at : ℕ) (row : Step → Step) (o : Option ℕ) (live : Lis
 stepped_in_books at row None live effects f k p = unmoved_books at live effects effects refl p
 stepped_in_books at row (Some place) live effects f k p = stepped_at_books at row place live effects f k p
 
--- ---- what a seat hears
+-- ---- what a participant receives
 
 hears_books : (at : ℕ) (site : Site) (heard : SeatSignal) → EndsBooks at (hears site at heard)
 unfolding hears
@@ -191,7 +191,7 @@ hears_books at site (of_seat.Due what) place seat s e p = due_books at site what
 step_books : (at : ℕ) (site : Site) (whose : Seat → Bool) (heard : SeatSignal) → EndsRooms at (table.heard_by site at whose heard)
 step_books at site whose heard s p = ends_at_place at (hears site at heard) (hears_books at site heard) (position whose s.room.seats) s p
 
--- ---- INVITEs that were left file nothing
+-- ---- abandoned INVITEs file nothing
 
 rest_if : (b : Bool) (one two : Rest) (desk : Desk) → one.desk.rows ≡ desk.rows → two.desk.rows ≡ desk.rows → (if b then one else two).desk.rows ≡ desk.rows
 rest_if true one two desk e f = e
@@ -263,7 +263,7 @@ signal_books at site (signal.Silent branch method) live loose effects f p = sile
 signal_books at site (signal.Due room seat what) live loose effects f p = heard_in_books at site room.0 seat (of_seat.Due what) live effects f p
 signal_books at site (signal.Over key) live loose effects f p = unmoved_books at live effects effects refl p
 
--- ---- seats are taken
+-- ---- participants are added
 
 party_meters : (meter : Option Noted) (leg : Released) → option_to_list (leg_of (party_of meter leg)).meter ≡ option_to_list meter
 party_meters meter (released.Caller leg) = refl
@@ -299,7 +299,7 @@ unfolding referred
 adoption_books site room a table p =
     through_books a.at (adopted site a.at a.leg a.account a.by) (access room table.live) table.live (nothing a.tokens) (λ s q. adopted_books a.at site a.leg a.account a.by s q) p
 
--- a room is opened
+-- a conference is opened
 opened_books : (site : Site) (c : Coming) (table : Table) → Books c.at (begin (new_room (next_room table)) (nothing c.tokens)) (opened_by site c table)
 opened_books site c table = come_books c.at site c.leg c.account c.key c.invite (begin (new_room (next_room table)) (nothing c.tokens)) tt
 
@@ -354,7 +354,7 @@ pub notified_quiet : (site : Site) (room seat code : ℕ) (live : List Room) (ef
 unfolding notified
 notified_quiet site room seat code live effects p = telling_in site seat code (place_of room live) live effects p
 
--- ---- a seat is left without a signal
+-- ---- a participant leaves without a signal
 
 record Gives (before after : List Room) (answer : (at : ℕ) → Option Row) : Type 0 where
   pub front : List Noted
@@ -372,7 +372,7 @@ row_is : (at : ℕ) (meter : Option Noted) → row_by at meter ≡ option_map (r
 row_is at None = refl
 row_is at (Some meter) = refl
 
--- in a room
+-- in one conference
 record GivesIn (room : Room) (after : Room) (answer : (at : ℕ) → Option Row) : Type 0 where
   pub front : List Noted
   pub meter : Option Noted
@@ -413,7 +413,7 @@ gives_in : (o : Option ℕ) (room : Room) → ArePlain room.seats → GivesIn ro
 gives_in None room p = in_none room p
 gives_in (Some place) room p = gives_at place room p
 
--- among the others
+-- among the other conferences
 gives_room : (seat place : ℕ) (room : Room) (live : List Room) → slice_get live place ≡ Some room → AllPlain live → Gives live (slice_set live place (seat_left seat room)) (λ at. row_in_room at seat (Some room))
 gives_room seat place room live e p =
     let x = round live place room e p in
@@ -443,7 +443,7 @@ gives : (room seat : ℕ) (live : List Room) → AllPlain live → Gives live (l
 unfolding left row_left
 gives room seat live p = gives_by seat (place_of room live) live p
 
--- ---- a room is closed without a signal
+-- ---- a conference is closed without a signal
 
 record GivesAll (before after : List Room) (meters : List Noted) : Type 0 where
   pub front : List Noted
@@ -488,7 +488,7 @@ closes_all : (room : ℕ) (live : List Room) → AllPlain live → GivesAll live
 unfolding closed
 closes_all room live p = closed_by (place_of room live) live p
 
--- ---- each deed
+-- ---- each operation
 
 moved_charged : (at : ℕ) (table later : Table) (tokens : Drawn) (after : Effects) → later.rows ≡ table.rows ++ after.desk.rows → Moves at table.live (nothing tokens) later.live after → IsCharged at table later
 moved_charged at table later tokens after e f = record { rows = f.rows; filed = e ∙ ap (λ x. table.rows ++ x) f.filed; booked = f.booked }

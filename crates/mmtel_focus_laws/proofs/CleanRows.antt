@@ -1,4 +1,4 @@
--- Each row of the room table keeps the room clean, and sends what is clean.
+-- Each transition of the step table of conferences keeps the conference clean, and sends what is clean.
 use Rattle.std.proofs.Common.{◌+◌, ◌&&◌, not, true, false, ℕ, List, [], ◌∷◌, Option, Some, None, Result, Ok, Err, refl, nat_lt}
 use Rattle.std.specs.Prelude.{IfSome, codes, if◌then◌else◌}
 use Rattle.std.specs.Str.{bytes_eq}
@@ -65,7 +65,7 @@ use Rattle.mmtel_call_laws.proofs.Heads.Sending.{IsCleanInvitation, IsCleanRemot
 use Rattle.mmtel_focus_laws.proofs.CleanSteps.{IsCleanHere, IsCleanInvite, IsCleanParty, IsCleanRoom, IsCleanSeat, IsCleanStep, KeepsClean, at_seat_clean, closed_with_clean, dismissed_clean, if_step, left_clean, put_clean, told_by_clean, told_to_clean, with_desk_clean, with_leg_clean}
 use Rattle.mmtel_focus_laws.proofs.CleanTexts.{IsCleanReferral, contact_clean, described_clean, from_clean, referral_clean, sdp_clean, target_clean}
 
--- ---- answers
+-- ---- responses
 
 abbrev pub Hears : Said → Type 0
 Hears m = IsCleanHeard m.heard
@@ -77,7 +77,7 @@ with_lines_clean : (site : Site) (key : TKey) (m : Said) (code : ℕ) (named : L
 with_lines_clean site key m code named h f place seat s e is =
     with_desk_clean (answered site.sip key m (tag_of seat) code [] named [] s.effects.desk) s (answered_clean [] site.sip key m (tag_of seat) code [] named [] s.effects.desk h e.party_in.1 refl f is.desk_in) is
 
--- with the Contact of the room
+-- with the Contact of the conference
 room_answer_clean : (site : Site) (room : RoomNo) (key : TKey) (m : Said) (tag : List ℕ) (code : ℕ) (named : List Line) (body : List ℕ) (desk : Desk) → Hears m → IsClean tag → AreCleanLines named → IsCleanDesk [] desk →
     IsCleanDesk [] (answered_at (contact_value site.sip room) key m tag code [] named body desk)
 room_answer_clean site room key m tag code named body desk h e f had =
@@ -112,7 +112,7 @@ bye_row site at key m h place seat s e is =
     let told : Step = refused site key m 200 place seat s in
     closed_with_clean site at seat.number (left at false place seat told) (left_clean at false place seat told e (refused_clean site key m 200 h place seat s e is))
 
--- ---- seats are taken
+-- ---- a party becomes a participant
 
 new_clean : (seat : Seat) (room : Room) → IsCleanSeat seat → IsCleanRoom room → IsCleanRoom (with_new seat room)
 new_clean seat room e is = each_append IsCleanSeat room.seats (seat ∷ []) is (e, tt)
@@ -157,7 +157,7 @@ unfolding bidden
 bidden_clean site at by None s e is = told_to_clean site false (own_status 404) by s is
 bidden_clean site at by (Some u) s e is = at_peer_clean site at by (route_of u site.peers.routes) u s e is
 
--- a leg that comes
+-- a leg that enters
 party_clean : (meter : Option Noted) (leg : Released) → IsCleanHere (released_leg leg).dialogue → IsCleanParty (party_of meter leg)
 party_clean meter (released.Caller leg) e = e
 party_clean meter (released.Callee leg) e = e
@@ -324,7 +324,7 @@ pub silence_row : (site : Site) (at : ℕ) → KeepsClean (on_silence site at)
 unfolding on_silence
 silence_row site at place seat s e is = if_step (is_waiting seat.invite) (ended_unasked site at (own_status 408) place seat s) s (then_without site at (own_status 408) place seat None s e tt is) is
 
--- ---- deadlines
+-- ---- timers
 
 cancelled_in_clean : (sip : Addr) (o : Option Invite) (desk : Desk) → IfSome o IsCleanInvite → IsCleanDesk [] desk → IsCleanDesk [] (cancelled_in sip o desk)
 cancelled_in_clean sip None desk e had = had

@@ -1,4 +1,4 @@
--- What a room keeps is clean, and what a seat is told when it is told, left and taken.
+-- What a conference keeps is clean, and so is what is sent as a participant is notified, leaves, and is added.
 use Rattle.std.proofs.Common.{Bool, true, false, ℕ, zero, suc, List, [], ◌∷◌, take, drop, Option, Some, None, refl}
 use Rattle.std.specs.Prelude.{IfSome, codes, if◌then◌else◌, slice_get, slice_set}
 use Rattle.std.specs.List.{remove}
@@ -69,7 +69,7 @@ each_set P (y ∷ xs) (suc n) x e f = (e.0, each_set P xs n x e.1 f)
 pub each_removed : {A : Type 0} (P : A → Type 0) (n : ℕ) (xs : List A) → Each P xs → Each P (remove xs n)
 each_removed P n xs e = each_append P (take n xs) (drop (suc n) xs) (each_take P n xs e) (each_drop P (suc n) xs e)
 
--- ---- a row at the place of its seat
+-- ---- a transition at the place of its participant
 
 abbrev pub KeepsClean : (row : (place : ℕ) → Seat → Step → Step) → Type 0
 KeepsClean row = (place : ℕ) (seat : Seat) (s : Step) → IsCleanSeat seat → IsCleanStep s → IsCleanStep (row place seat s)
@@ -118,7 +118,7 @@ pub told_by_clean : (site : Site) (on : Bool) (line : List ℕ) (by : Option ℕ
 told_by_clean site on line None s is = is
 told_by_clean site on line (Some number) s is = told_to_clean site on line number s is
 
--- ---- a seat is left
+-- ---- a participant leaves
 
 filed_clean : (at : ℕ) (meter : Option Noted) (desk : Desk) → IsCleanDesk [] desk → IsCleanDesk [] (filed_by at meter desk)
 filed_clean at None desk is = is
@@ -173,7 +173,7 @@ dismissed_clean site at place seat s e is = gone_clean place s (dismissed_with s
         (record { loose_in = is.loose_in; desk_in = bye_clean [] site.sip (dialogue_of seat) s.effects.desk e.party_in.0 is.desk_in })
     by false = left_with_clean at false seat s.effects e (record { loose_in = is.loose_in; desk_in = is.desk_in })
 
--- ---- the room closes
+-- ---- the conference closes
 
 pub closed_clean : (site : Site) (at : ℕ) (seats : List Seat) (s : Step) → Each IsCleanSeat seats → IsCleanStep s → IsCleanStep (closed site at seats s)
 unfolding closed

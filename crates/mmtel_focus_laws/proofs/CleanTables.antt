@@ -1,4 +1,4 @@
--- Each deed keeps the table clean, and sends what is clean.
+-- Each operation keeps the table clean, and sends what is clean.
 use Rattle.std.proofs.Common.{◌+◌, Bool, true, false, ℕ, List, [], ◌∷◌, take, drop, Option, Some, None, Result, Ok, Err}
 use Rattle.std.specs.Prelude.{IfSome, if◌then◌else◌, option_to_list, position, slice_get, slice_set}
 use Rattle.std.specs.List.{remove}
@@ -40,13 +40,13 @@ use Rattle.mmtel_focus_laws.specs.Heads.{EmitsAreClean, EmitsHaveTheirLines, IsC
 use Rattle.mmtel_focus_laws.proofs.CleanRows.{ack_row, adopted_clean, answer_row, come_clean, due_row, request_row, silence_row}
 use Rattle.mmtel_focus_laws.proofs.CleanSteps.{IsCleanEffects, IsCleanHere, IsCleanRoom, IsCleanSeat, IsCleanStep, KeepsClean, at_place_clean, each_removed, each_set, told_to_clean}
 
--- ---- a step of the rooms
+-- ---- a step of the conferences
 
 record IsCleanStepped (s : Stepped) : Type 0 where
   pub live_in : Each IsCleanRoom s.live
   pub effects_in : IsCleanEffects s.effects
 
--- a row of rooms
+-- a transition of conferences
 abbrev KeepsRooms : (row : Step → Step) → Type 0
 KeepsRooms row = (s : Step) → IsCleanStep s → IsCleanStep (row s)
 
@@ -65,7 +65,7 @@ room_clean row place (Some room) live effects k e is had =
 at_clean : (row : Step → Step) (place : ℕ) (live : List Room) (effects : Effects) → KeepsRooms row → Each IsCleanRoom live → IsCleanEffects effects → IsCleanStepped (stepped_at row place (slice_get live place) live effects)
 at_clean row place live effects k is had = room_clean row place (slice_get live place) live effects k (each_get IsCleanRoom live place is) is had
 
--- a step in which no room closes
+-- a step in which no conference closes
 stays_by_clean : (place : ℕ) (s : Step) (live : List Room) → Each IsCleanRoom live → IsCleanStep s → IsCleanStepped (stays_by place s live)
 stays_by_clean place s live is e = record { live_in = each_set IsCleanRoom live place s.room is e.room_in; effects_in = record { loose_in = e.loose_in; desk_in = e.desk_in } }
 
@@ -85,7 +85,7 @@ in_clean : (row : Step → Step) (o : Option ℕ) (live : List Room) (effects : 
 in_clean row None live effects k is had = record { live_in = is; effects_in = had }
 in_clean row (Some place) live effects k is had = at_clean row place live effects k is had
 
--- ---- what a seat hears
+-- ---- what a participant receives
 
 abbrev IsCleanSeatSignal : SeatSignal → Type 0
 IsCleanSeatSignal (of_seat.Request key request) = IsOfClean request.heard
@@ -111,7 +111,7 @@ heard_in_clean site at room seat heard live effects h is had = in_clean (table.h
 heard_of_clean : (site : Site) (at : ℕ) (branch : List ℕ) (heard : SeatSignal) (live : List Room) (effects : Effects) → IsCleanSeatSignal heard → Each IsCleanRoom live → IsCleanEffects effects → IsCleanStepped (heard_of site at branch heard live effects)
 heard_of_clean site at branch heard live effects h is had = in_clean (table.heard_by site at (is_asked branch) heard) (position (asks branch) live) live effects (heard_by_clean site at (is_asked branch) heard h) is had
 
--- ---- INVITEs that were left
+-- ---- abandoned INVITEs
 
 record IsCleanMoved (moved : Moved) : Type 0 where
   pub live_in : Each IsCleanRoom moved.live
@@ -178,7 +178,7 @@ signal_clean site at (signal.Due room seat what) live loose effects h is e had =
 signal_clean site at (signal.Over key) live loose effects h is e had =
     unmoved_clean live (without (position (is_loose_key key) loose) loose) effects is (without_clean (position (is_loose_key key) loose) loose e) had
 
--- ---- seats are taken
+-- ---- participants are added
 
 nothing_clean : (tokens : Drawn) → IsClean tokens.token → IsCleanEffects (nothing tokens)
 nothing_clean tokens e = record { loose_in = tt; desk_in = record { token_in = e; out_in = tt } }
@@ -212,7 +212,7 @@ unfolding notified
 notified_clean site room seat code tokens t is live =
     stays_in_clean (told_to site (is_provisional code) (own_status code) seat) (place_of room t.live) t.live (nothing tokens) (λ s e. told_to_clean site (is_provisional code) (own_status code) seat s e) live (nothing_clean tokens is)
 
--- ---- a seat is left, and a room closed, without a signal
+-- ---- a participant leaves, and a conference is closed, without a signal
 
 left_at_clean : (place : ℕ) (o : Option Seat) (room : Room) → IsCleanRoom room → IsCleanRoom (left_at place o room)
 left_at_clean place None room is = is
@@ -246,13 +246,13 @@ closed_clean : (room : ℕ) (live : List Room) → Each IsCleanRoom live → Eac
 unfolding closed
 closed_clean room live is = closed_at_clean (place_of room live) live is
 
--- ---- each deed
+-- ---- each operation
 
 record IsCleanTable (t : Table) : Type 0 where
   pub live_in : Each IsCleanRoom t.live
   pub loose_in : Each (IsCleanLoose []) t.loose
 
--- the table after it, and what went out
+-- the table after it, and its output
 record Did (site : Site) (deed : Deed) (t : Table) : Type 0 where
   pub table_in : IsCleanTable (did site deed t)
   pub out_in : Each (IsCleanEmit []) (effects_of site deed t).desk.out

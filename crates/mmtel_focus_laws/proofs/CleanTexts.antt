@@ -1,4 +1,4 @@
--- The texts of a room are clean, and the URI that a REFER asks for.
+-- The texts of a conference are clean, and so is the URI to which a REFER asks for an INVITE.
 use Rattle.std.proofs.Common.{◌≡◌, Bool, true, false, ℕ, List, [], ◌∷◌, ◌++◌, Option, Some, None, refl}
 use Rattle.std.specs.Prelude.{IfSome, codes, decimal, filter, if◌then◌else◌}
 use Rattle.mmtel_scan.specs.Chain.{◌>>=◌}
@@ -25,7 +25,7 @@ use Rattle.mmtel_call_laws.proofs.Heads.Building.{addr_clean}
 use Rattle.mmtel_call_laws.proofs.Heads.Bytes.{all_cons, decimal_clean, joined, line_clean, parted}
 use Rattle.mmtel_call_laws.proofs.Heads.Hearing.{read_uri_clean}
 
--- ---- how a room names itself
+-- ---- how a conference names itself
 
 pub room_clean : (sip : Addr) (room : RoomNo) → IsClean (room_uri sip room)
 unfolding room_uri
@@ -98,7 +98,7 @@ target_clean (Tel number params) e =
     let two = parted number (params_text params) one.1 in
     joined (codes "tel:") (number ++ params_text kept) refl (joined number (params_text kept) two.0 (filtered_clean is_no_method params two.1))
 
--- what is asked for has a clean URI, whatever was said
+-- the URI of the request that is asked for is clean, whatever was received
 abbrev pub IsCleanReferral : Referral → Type 0
 IsCleanReferral referral.Missing = Unit {0}
 IsCleanReferral referral.OtherMethod = Unit {0}

@@ -1,4 +1,4 @@
--- What goes out is seen alike, message by message: of two dialogs of one public part, and to two messages that are the same but for private places.
+-- The output is seen as the same, message by message: of two dialogs with the same public part, and for two messages that are equal but for private places.
 use Rattle.std.proofs.Common.{◌≡◌, ℕ, Bool, true, false, List, [], ◌∷◌, ◌++◌, None, refl, ap, sym, ◌∙◌, subst}
 use Rattle.mmtel_answers.specs.Answers.{own_answer, own_reply}
 use Rattle.mmtel_answers.specs.Said.{Said}
@@ -31,7 +31,7 @@ use Rattle.mmtel_focus.specs.Site.{Site}
 use Rattle.mmtel_focus_laws.specs.Heard.{Message, Pair, AreRequests, shown}
 use Rattle.mmtel_focus_laws.specs.Parts.{trust_of, trusts}
 
--- the configuration as calls have it, of which the peers alone are asked
+-- the configuration as calls have it, of which only the peers matter
 abbrev pub as_calls : Site → calls.Site
 as_calls site = record {
   sip = site.sip;
@@ -55,7 +55,7 @@ module _ (heads : Heads) (site : Site) (keys : TKey → Bool) where
   abbrev pub Alike : (one other : Desk) → Type 0
   Alike = λ one other. AlikeDesks T one other
 
-  -- a word that is seen alike of each thing and of its public part is so of two things of one public part
+  -- where the effect of each thing is seen as that of its public part, the effects of two things with the same public part are seen as the same
   like : {A : Type 0} (f : A → Desk → Desk) (v pv w pw : A) → ((x y : Desk) → AlikeDesks T x y → AlikeDesks T (f pv x) (f v y)) → ((x y : Desk) → AlikeDesks T x y → AlikeDesks T (f pw x) (f w y)) →
       pv ≡ pw → (x y : Desk) → AlikeDesks T x y → AlikeDesks T (f v x) (f w y)
   like f v pv w pw one two e x y a =
@@ -105,7 +105,7 @@ module _ (heads : Heads) (site : Site) (keys : TKey → Bool) where
       like (λ (m : Said) (k : Desk). answered_at contact key m tag code [] named body k) p.one.said (shown p.one) p.other.said (shown p.other)
       (λ u v b. answered-alike contact key p.one tag code named body u v asked.one b) (λ u v b. answered-alike contact key p.other tag code named body u v asked.other b) asked.alike x y a
 
-  -- ---- the ACK of a final from 300
+  -- ---- the ACK of a final response from 300
 
   abbrev Both : Type 0
   Both = Invitation × Said
@@ -117,7 +117,7 @@ module _ (heads : Heads) (site : Site) (keys : TKey → Bool) where
       (λ u v b. acked-final heads (as_calls site) keys key i p.one.role p.one.said u v f b) (λ u v b. acked-final heads (as_calls site) keys key j p.other.role p.other.said u v g b)
       (ap (λ (z : Invitation). (z, shown p.one)) same ∙ ap (λ (m : Said). (public_invitation known j, m)) said) x y a
 
-  -- ---- a 2xx that makes a dialog
+  -- ---- a 2xx that creates a dialog
 
   pub met-like : (p : Pair) (key : TKey) (d e : Dialogue) → IsAnswer T key d.peer p.one.role p.one.said → IsAnswer T key e.peer p.other.role p.other.said → shown p.one ≡ shown p.other → public_dialog known d ≡ public_dialog known e →
       public_dialog known (met d (remote_of Callee p.one.said.heard.lines)) ≡ public_dialog known (met e (remote_of Callee p.other.said.heard.lines))
@@ -127,7 +127,7 @@ module _ (heads : Heads) (site : Site) (keys : TKey → Bool) where
       ∙ (ap (λ (m : Said). public_dialog known (met (public_dialog known e) (remote_of Callee m.heard.lines))) said
       ∙ met_alike heads (as_calls site) keys e p.other.role p.other.said g.whole))
 
-  -- ---- a response to an INVITE that was left
+  -- ---- a response to an abandoned INVITE
 
   pub left-like : (key : TKey) (p : Pair) (l m : Loose) (x y : Desk) → IsAnswer T key l.invitation.dialogue.peer p.one.role p.one.said → IsAnswer T key m.invitation.dialogue.peer p.other.role p.other.said → shown p.one ≡ shown p.other →
       public_loose known l ≡ public_loose known m → AlikeDesks T x y → RestsAlike T (on_response site.sip key p.one.said.heard l x) (on_response site.sip key p.other.said.heard m y)
@@ -143,7 +143,7 @@ module _ (heads : Heads) (site : Site) (keys : TKey → Bool) where
             (desks-back T (on_response site.sip key (shown p.one).heard (public_loose known l) x).desk (on_response site.sip key p.one.said.heard l x).desk one.desk) same_said.desk;
       }
 
-  -- ---- rows, and what is no message
+  -- ---- CDRs, and what is no message
 
   pub filed-like : (row : Row) (x y : Desk) → AlikeDesks T x y → AlikeDesks T (filed row x) (filed row y)
   filed-like row x y a = record { tokens = a.tokens; rows = ap (λ (l : List Row). l ++ row ∷ []) a.rows; out = a.out }

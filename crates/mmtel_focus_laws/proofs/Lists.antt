@@ -1,4 +1,4 @@
--- Two lists of which each item has one public part: what stands at a place, what is put there and taken away, and where one is found.
+-- Two lists whose items have the same public parts: the item at a place, writing and removing one, and searching.
 use Rattle.std.proofs.Common.{◌≡◌, ℕ, zero, suc, Bool, List, [], ◌∷◌, ◌++◌, refl, ap, sym, ◌∙◌, map, take, drop, Some}
 use Rattle.std.proofs.lemmas.List.{drop-map, map-append, take-map}
 use Rattle.std.specs.List.{list_any}
@@ -7,7 +7,7 @@ use Rattle.std.specs.Prelude.{position, remove, slice_get, slice_set}
 use Rattle.mmtel_call_laws.proofs.Secret.Leaving.{found, got}
 use Rattle.std.specs.Prelude.{◌||◌}
 
--- what is told alike of an item and of its public part is told alike of two items of one public part
+-- a function that gives the same of an item and of its public part gives the same of two items with the same public part
 pub commuting : {A B : Type 0} (f : A → B) (p : A → A) (q : B → B) → ((x : A) → q (f x) ≡ f (p x)) → (x y : A) → p x ≡ p y → q (f x) ≡ q (f y)
 commuting f p q same x y e = same x ∙ (ap f e ∙ sym (same y))
 

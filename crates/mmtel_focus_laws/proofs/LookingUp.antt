@@ -1,4 +1,5 @@
--- Of the URIs of accounts what is done on a table of rooms sees the answers to its look-ups alone: under two configurations that are equal but for these it comes to the same, where the answers are the same.
+-- Of the URIs of accounts, what is done on a table of conferences depends on the results of its lookups alone: under two configurations that are equal but for these URIs the result is the same where the lookups have
+-- the same results.
 use Rattle.std.proofs.Common.{◌≡◌, ◌&&◌, not, ℕ, Bool, true, false, List, [], ◌∷◌, Option, Some, None, Result, Ok, Err, refl, ap, ◌∙◌, subst, codes, nat_lt}
 use Rattle.std.specs.Prelude.{if◌then◌else◌, position, slice_get}
 use Rattle.mmtel_answers.specs.Answers.{allowed}
@@ -104,7 +105,7 @@ module _ (site : Site) (accounts : List AccountIdentity) where
   told_by-same on line None s = refl
   told_by-same on line (Some n) s = told_to-same on line n s
 
-  -- ---- somebody is invited: this alone looks an account up
+  -- ---- a party is invited: this alone looks an account up
 
   at-peer : (now n : ℕ) (o : Option Peer) (u : Uri) (s : Step) → LooksUpAlike site far u → invited_at site now n o u s ≡ invited_at far now n o u s
   at-peer now n None u s e = told_to-same false (own_status 404) n s
@@ -126,7 +127,7 @@ module _ (site : Site) (accounts : List AccountIdentity) where
       ∙ ap (λ (z : Step). bidden far now v.number o z) (told_to-same true (own_status 100) v.number (accepted site key m place v s))
   referral-same now key m (referral.Replace r) place v s e = refl
 
-  -- ---- what a seat asks
+  -- ---- the requests of a participant
 
   bye-same : (now : ℕ) (key : TKey) (m : Said) (place : ℕ) (v : Seat) (s : Step) → on_bye site now key m place v s ≡ on_bye far now key m place v s
   bye-same now key m place v s = closed_with-same now v.number (left now false place v (refused site key m 200 place v s))
@@ -158,7 +159,7 @@ module _ (site : Site) (accounts : List AccountIdentity) where
       if-same (is_seated v) (on_hearing site now key m (says (leg_of v.party) m (busy v)) place v s) (refused site key m 481 place v s)
       (on_hearing far now key m (says (leg_of v.party) m (busy v)) place v s) (refused far key m 481 place v s) (λ is. hearing-same now key m (says (leg_of v.party) m (busy v)) place v s e) refl
 
-  -- ---- what comes of the INVITE to a seat
+  -- ---- the results of the INVITE to a participant
 
   without-same : (now : ℕ) (line : List ℕ) (place : ℕ) (v : Seat) (s : Step) → ended_without site now line place v s ≡ ended_without far now line place v s
   without-same now line place v s = told_by-same false line v.by (dismissed site now place v s)
@@ -205,7 +206,7 @@ module _ (site : Site) (accounts : List AccountIdentity) where
   due-same now (due.Cap number) place v s = cap-same now number place v s
   due-same now (due.NoAck number) place v s = ap (λ (z : Step). if is_awaited number v.awaited then z else s) (closed_with-same now v.number (dismissed site now place v s))
 
-  -- ---- what a seat hears
+  -- ---- what a participant receives
 
   abbrev SeatLooksAlike : SeatSignal → Type 0
   SeatLooksAlike (of_seat.Request key request) = RefersAlike site far request
@@ -261,7 +262,7 @@ module _ (site : Site) (accounts : List AccountIdentity) where
   taken-same now (signal.Due room seat what) live loose effects e = ap (beside loose) (in-same now room.0 seat (of_seat.Due what) live effects tt)
   taken-same now (signal.Over key) live loose effects e = refl
 
-  -- ---- a leg comes to a room, and a seat is told
+  -- ---- a leg enters a conference, and a participant is notified
 
   come-same : (now : ℕ) (leg : Released) (account : Option Account) (key : TKey) (m : Said) (s : Step) → come site now leg account key m s ≡ come far now leg account key m s
   unfolding come
@@ -300,7 +301,7 @@ module _ (site : Site) (accounts : List AccountIdentity) where
   notified-same room seat code live effects =
       stays-same (told_to site (is_provisional code) (own_status code) seat) (told_to far (is_provisional code) (own_status code) seat) (λ s. told_to-same (is_provisional code) (own_status code) seat s) (place_of room live) live effects
 
-  -- ---- any deed
+  -- ---- any operation
 
   effects-same : (deed : Deed) (table : Table) → DeedLooksAlike site far deed → effects_of site deed table ≡ effects_of far deed table
   effects-same (histories.Opens c) table e =

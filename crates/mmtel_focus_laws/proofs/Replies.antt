@@ -1,4 +1,4 @@
--- Rooms reply in the server transaction of the request that is heard, in the same step; what is no request has no reply.
+-- Conferences respond in the server transaction of the request that is received, in the same step; what is no request gets no response.
 use Rattle.std.proofs.Common.{Bool, true, false, ℕ, List, [], ◌∷◌, Option, Some, None, ◌&&◌, not, Result, Ok, Err, nat_lt, ◌≡◌}
 use Rattle.std.specs.Prelude.{codes, if◌then◌else◌, slice_get, position}
 use Rattle.mmtel_charging.specs.Meters.{Noted}
@@ -74,7 +74,7 @@ use Rattle.mmtel_call_laws.proofs.Heads.Sending.{each_append}
 use Rattle.mmtel_focus_laws.specs.Replies.{DeedIsOf, RoomsReplyInTheirOwn, SignalIsOf}
 
 module _ (own : ℕ → Bool) where
-  -- ---- what goes out
+  -- ---- the output
 
   abbrev Own : TKey → Type 0
   Own key = own key.0 ≡ true
@@ -89,7 +89,7 @@ module _ (own : ℕ → Bool) where
   if_desk true one two e f = e
   if_desk false one two e f = f
 
-  -- ---- a row at the place of its seat
+  -- ---- a transition at the place of its participant
 
   abbrev Replied : Step → Type 0
   Replied s = Sends s.effects.desk
@@ -129,7 +129,7 @@ module _ (own : ℕ → Bool) where
   told_by_in site on line None s is = is
   told_by_in site on line (Some number) s is = told_to_in site on line number s is
 
-  -- ---- a seat is left, and the room closes
+  -- ---- a participant leaves, and the conference closes
 
   filed_in : (at : ℕ) (meter : Option Noted) (desk : Desk) → Sends desk → Sends (filed_by at meter desk)
   filed_in at None desk is = is
@@ -156,7 +156,7 @@ module _ (own : ℕ → Bool) where
   closed_with_in : (site : Site) (at : ℕ) (number : ℕ) (s : Step) → Replied s → Replied (closed_with site at number s)
   closed_with_in site at number s is = if_step (is_creator number) (seats.closed site at s.room.seats s) s (closed_in site at s.room.seats s is) is
 
-  -- ---- a request is answered in its own transaction
+  -- ---- a request gets its response in its own transaction
 
   refused_in : (site : Site) (key : TKey) (m : Said) (code : ℕ) → Own key → Keeps (refused site key m code)
   refused_in site key m code h place seat s is = emit_in _ s.effects.desk h is
@@ -177,7 +177,7 @@ module _ (own : ℕ → Bool) where
       let answered_it : Step = refused site key m 200 place seat s in
       closed_with_in site at seat.number (seats.left at false place seat answered_it) (left_in_own at false place seat answered_it (refused_in site key m 200 h place seat s is))
 
-  -- ---- seats are taken
+  -- ---- a party becomes a participant
 
   invited_in : (site : Site) (at by : ℕ) (peer : Peer) (u : Uri) (s : Step) → Replied s → Replied (invited site at by peer u s)
   invited_in site at by peer u s is =
@@ -257,7 +257,7 @@ module _ (own : ℕ → Bool) where
   unfolding on_ack
   ack_row m place seat s is = if_step (acknowledges m seat.awaited) (put place (record seat { awaited = None }) s) s is is
 
-  -- ---- what is no request has no reply
+  -- ---- what is no request gets no response
 
   acknowledged_in : (site : Site) (tag : List ℕ) → Keeps (acknowledged site tag)
   acknowledged_in site tag place seat s is = emit_in _ (drew s.effects.desk) tt is
@@ -324,7 +324,7 @@ module _ (own : ℕ → Bool) where
   due_row site at (due.NoAck number) place seat s is =
       if_step (is_awaited number seat.awaited) (unacknowledged site at place seat s) s (closed_with_in site at seat.number (dismissed site at place seat s) (dismissed_in site at place seat s is)) is
 
-  -- ---- what a seat hears
+  -- ---- what a participant receives
 
   abbrev SeatIsOf : SeatSignal → Type 0
   SeatIsOf (of_seat.Request key request) = Own key
@@ -341,7 +341,7 @@ module _ (own : ℕ → Bool) where
   hears_in site at of_seat.Silent h place seat s is = silence_row site at place seat s is
   hears_in site at (of_seat.Due what) h place seat s is = due_row site at what place seat s is
 
-  -- ---- a step of the rooms
+  -- ---- a step of the conferences
 
   abbrev KeepsRooms : (row : Step → Step) → Type 0
   KeepsRooms row = (s : Step) → Replied s → Replied (row s)
@@ -371,7 +371,7 @@ module _ (own : ℕ → Bool) where
   heard_of_in : (site : Site) (at : ℕ) (branch : List ℕ) (heard : SeatSignal) (live : List Room) (effects : Effects) → SeatIsOf heard → Sends effects.desk → Sends (heard_of site at branch heard live effects).effects.desk
   heard_of_in site at branch heard live effects h had = in_rooms (table.heard_by site at (is_asked branch) heard) (position (asks branch) live) live effects (heard_by_in site at (is_asked branch) heard h) had
 
-  -- ---- INVITEs that were left
+  -- ---- abandoned INVITEs
 
   if_rest : (b : Bool) (one two : Rest) → Sends one.desk → Sends two.desk → Sends (if b then one else two).desk
   if_rest true one two e f = e
@@ -414,7 +414,7 @@ module _ (own : ℕ → Bool) where
   silenced_by_in site at None live loose effects had = had
   silenced_by_in site at (Some branch) live loose effects had = silenced_at_in site at branch (position (is_of branch) loose) live loose effects had
 
-  -- ---- signals and deeds
+  -- ---- signals and operations
 
   signal_in : (site : Site) (at : ℕ) (x : RoomSignal) (live : List Room) (loose : List Loose) (effects : Effects) → SignalIsOf own x → Sends effects.desk → Sends (taken site at x live loose effects).effects.desk
   unfolding taken

@@ -1,4 +1,5 @@
--- Of each row of the room table: where each seat came to be as it is by what was done, so does each seat after it; and each row that it files is that of such a seat.
+-- Of each transition of the step table of conferences: where the state of each participant before it follows from the operations, so does the state of each one after it; and each CDR that it files is that of such a
+-- participant.
 use Rattle.std.proofs.Common.{◌≡◌, ◌&&◌, not, Bool, true, false, ℕ, List, [], ◌∷◌, ◌++◌, Option, Some, None, Result, Ok, Err, inl, inr, ◌∙◌, refl, sym, ap, subst, nat_lt, nat_le, arith}
 use Rattle.std.proofs.lemmas.Bool.Decides.{nat_tests}
 use Rattle.std.specs.Prelude.{codes, if◌then◌else◌, slice_get, slice_set}
@@ -56,7 +57,7 @@ use Rattle.mmtel_focus_laws.proofs.Books.{stands}
 use Rattle.mmtel_focus_laws.proofs.ChargedRows.{acked_rows, cancelled_rows}
 use Rattle.mmtel_focus_laws.proofs.ChargedSteps.{filed_rows, notified_rows, same_leg_meter}
 
--- ---- lists of which each item passes
+-- ---- lists of which each item has a property
 
 pub each_joined : {A : Type 0} (P : A → Type 0) (xs ys : List A) → Each P xs → Each P ys → Each P (xs ++ ys)
 each_joined P [] ys e f = f
@@ -97,7 +98,7 @@ meter_is room at (Some account) = record { begun = record { kind = refl; began =
 is_agreed : (n : ℕ) → nat_lt n 200 ≡ false → nat_lt n 300 ≡ true → nat_le 200 n && nat_lt n 300 ≡ true
 is_agreed n e f = grind (arith, nat_tests)
 
--- ---- what was shown of seats, at a moment
+-- ---- what was proved of participants, at a moment
 
 module _ (P : Place → Type 0) (at : ℕ) where
   abbrev pub IsDueSeat : RoomNo → Seat → Type 0
@@ -112,7 +113,7 @@ module _ (P : Place → Type 0) (at : ℕ) where
   abbrev pub Holds : Step → Type 0
   Holds s = AreDue s.room × Each RowOf s.effects.desk.rows
 
-  -- messages alone
+  -- messages alone are sent
   spoke : (s : Step) (desk : Desk) → desk.rows ≡ s.effects.desk.rows → Holds s → Holds (with_desk desk s)
   spoke s desk e h = (h.0, subst (Each RowOf) (sym e) h.1)
 
@@ -120,7 +121,7 @@ module _ (P : Place → Type 0) (at : ℕ) where
   if_holds true s t h k = h
   if_holds false s t h k = k
 
-  -- ---- a row, at the place of its seat
+  -- ---- a transition, at the place of its participant
 
   abbrev pub Keeps : (row : (place : ℕ) → Seat → Step → Step) → Type 0
   Keeps row = (place : ℕ) (seat : Seat) (s : Step) → slice_get s.room.seats place ≡ Some seat → Holds s → Holds (row place seat s)
@@ -146,12 +147,12 @@ module _ (P : Place → Type 0) (at : ℕ) where
       by None e = h
       by (Some seat) e = k place seat e
 
-  -- a seat is another in its place
+  -- a participant is replaced at its place
   put_holds : (place : ℕ) (seat other : Seat) (s : Step) → slice_get s.room.seats place ≡ Some seat → place_of s.room.number other ≡ place_of s.room.number seat → Holds s → Holds (put place other s)
   put_holds place seat other s is same h =
       (each_put (IsDueSeat s.room.number) s.room.seats place seat is h.0 other (subst P (sym same) (each_there (IsDueSeat s.room.number) s.room.seats place seat is h.0)), h.1)
 
-  -- ---- a seat is left
+  -- ---- a participant leaves
 
   option_row : (room : RoomNo) (seat : Seat) (o : Option Noted) → (leg_of seat.party).meter ≡ o → IsDueSeat room seat → Each RowOf (rows_at at o)
   option_row room seat None e p = tt
@@ -211,12 +212,12 @@ module _ (P : Place → Type 0) (at : ℕ) where
   told_by_holds site on line None s h = h
   told_by_holds site on line (Some number) s h = told_to_holds site on line number s h
 
-  -- ---- a seat is taken
+  -- ---- a party becomes a participant
 
   new_holds : (s : Step) (seat : Seat) (rows : List Row) → rows ≡ s.effects.desk.rows → IsDueSeat s.room.number seat → Holds s → Each (IsDueSeat s.room.number) (s.room.seats ++ seat ∷ []) × Each RowOf rows
   new_holds s seat rows e p h = (each_joined (IsDueSeat s.room.number) s.room.seats (seat ∷ []) h.0 (p, tt), subst (Each RowOf) (sym e) h.1)
 
-  -- whoever comes is given the next seat
+  -- a party that joins is the next participant
   abbrev pub IsGivenNext : Room → Option Account → Type 0
   IsGivenNext room account = (place : Place) → IsSeatOf room.number.0 (next_number room.taken) account place → IsSeatedSince at place → P place
 
@@ -251,7 +252,7 @@ module _ (P : Place → Type 0) (at : ℕ) where
       let told : Step = refused site key m 200 place seat s in
       closed_with_holds site seat.number (left at false place seat told) (left_holds false place seat told is h)
 
-  -- the room of a step has this number, and so many seats were taken in it
+  -- the conference of a step has this number, and its last participant this one
   pub record IsOf (number : RoomNo) (taken : ℕ) (s : Step) : Type 0 where
     pub named : s.room.number ≡ number
     pub counts : s.room.taken ≡ taken
@@ -268,7 +269,7 @@ module _ (P : Place → Type 0) (at : ℕ) where
       by (Some place) = of_seat place (slice_get s.room.seats place)
 
   module _ (site : Site) (number : RoomNo) (taken : ℕ) where
-    -- whoever is invited by this URI is given the next seat
+    -- the party that is invited by this URI is the next participant
     abbrev pub IsInvitedNext : Uri → Type 0
     IsInvitedNext uri = (place : Place) → IsSeatOf number.0 (next_number taken) (account_of site.accounts uri) place → IsInvited place → P place
 
@@ -350,14 +351,14 @@ module _ (P : Place → Type 0) (at : ℕ) where
   abbrev pub IsAnsweredNow : Type 0
   IsAnsweredNow = (before after : Place) → P before → IsAnswered at before after → P after
 
-  -- a 2xx seats whoever was invited
+  -- a 2xx connects the invited party
   abbrev pub IsAgreedNow : Said → Type 0
   IsAgreedNow m = nat_le 200 (status_of m.heard.start) && nat_lt (status_of m.heard.start) 300 ≡ true → IsAnsweredNow
 
   acknowledged_holds : (site : Site) (tag : List ℕ) → Keeps (acknowledged site tag)
   acknowledged_holds site tag place seat s e h = put_holds place seat (record seat { invite = _ }) s e refl h
 
-  -- somebody who is invited is seated, and else who is there stays
+  -- an invited party is connected, and any other one is unchanged
   module _ (metered : (place : Place) → P place → IsMetered place) where
     was_invited : (room : RoomNo) (seat : Seat) (leg : Leg) → P (place_of room (record seat { party = Invited leg })) → IsInvited (place_of room (record seat { party = Invited leg }))
     was_invited room seat leg p = by (metered (place_of room (record seat { party = Invited leg })) p)
@@ -383,11 +384,11 @@ module _ (P : Place → Type 0) (at : ℕ) where
         (each_put (IsDueSeat s.room.number) s.room.seats place seat e h.0 other (seated_due answers s.room.number remote seat seat.party (each_there (IsDueSeat s.room.number) s.room.seats place seat e h.0)), h.1) in
         told_by_holds site false (own_status 200) seat.by (at_seat (acknowledged site (tag_given m)) place next) (at_seat_holds (acknowledged site (tag_given m)) (acknowledged_holds site (tag_given m)) place next held)
 
-    -- it ends without one
+    -- it ends without a 2xx
     without_holds : (site : Site) (line : List ℕ) → Keeps (ended_without site at line)
     without_holds site line place seat s e h = told_by_holds site false line seat.by (dismissed site at place seat s) (dismissed_holds site place seat s e h)
 
-    -- of a seat that is as it was, but for its INVITE
+    -- of a participant that is as before, except for its INVITE
     then_without : (site : Site) (line : List ℕ) (invite : Option Invite) (place : ℕ) (seat : Seat) (s : Step) → slice_get s.room.seats place ≡ Some seat → Holds s →
         Holds (at_seat (ended_without site at line) place (put place (record seat { invite = invite }) s))
     then_without site line invite place seat s e h =
@@ -425,7 +426,7 @@ module _ (P : Place → Type 0) (at : ℕ) where
     unfolding on_silence
     silence_holds site place seat s e h = if_holds (is_waiting seat.invite) (ended_unasked site at (own_status 408) place seat s) s (then_without site (own_status 408) None place seat s e h) h
 
-    -- ---- deadlines
+    -- ---- timers
 
     cap_holds : (site : Site) (number : ℕ) → Keeps (on_cap site at number)
     cap_holds site number place seat s e h =

@@ -1,4 +1,4 @@
--- Of a table of rooms, deed by deed: each seat came to be as it is by what was done, and each row that is filed is that of such a seat.
+-- Of a table of conferences, operation by operation: the state of each participant follows from the operations, and each CDR that is filed is that of such a participant.
 use Rattle.std.proofs.Common.{◌≡◌, Bool, true, false, ℕ, zero, suc, List, [], ◌∷◌, map, Option, Some, None, Ok, Err, inl, inr, ◌∙◌, refl, sym, ap, subst, get_or, arith}
 use Rattle.std.proofs.lemmas.Bool.Decides.{nat_tests}
 use Rattle.std.proofs.lemmas.List.Quantifiers.{position-Some}
@@ -59,12 +59,12 @@ got (y ∷ xs) (suc place) x e = got xs place x e
 same_number : (n m : ℕ) → (n == m) ≡ true → n ≡ m
 same_number n m e = grind (arith, nat_tests)
 
--- the room that is found has the number
+-- the conference that is found has the number
 found : (number : ℕ) (live : List Room) (place : ℕ) (room : Room) → place_of number live ≡ Some place → slice_get live place ≡ Some room → room.number.0 ≡ number
 found number live place room e f =
     same_number room.number.0 number (ap (is_room number) (sym (got live place room f)) ∙ (position-Some (is_room number) live place room e).1)
 
--- ---- what was shown of the seats of a table, at a moment
+-- ---- what was proved of the participants of a table, at a moment
 
 abbrev begin : Room → Effects → Step
 begin room effects = record { room = room; effects = effects }
@@ -83,7 +83,7 @@ module _ (P : Place → Type 0) (at : ℕ) where
   put_due place room s live e all h true = each_put_left (AreDue P at) live place room e all s.room
   put_due place room s live e all h false = each_put (AreDue P at) live place room e all s.room h.0
 
-  -- a row of the room that stands at this place
+  -- a transition of the conference at this place
   abbrev KeepsAt : (row : Step → Step) → List Room → Effects → (place : ℕ) → Type 0
   KeepsAt row live effects place = (room : Room) → slice_get live place ≡ Some room → Holds P at (begin room effects) → Holds P at (row (begin room effects))
 
@@ -111,7 +111,7 @@ module _ (P : Place → Type 0) (at : ℕ) where
 
   -- ---- signals
 
-  -- one that each seat may hear
+  -- a signal that any participant may receive
   heard_by_due : (site : Site) (whose : Seat → Bool) (heard : SeatSignal) → Keeps P at (hears site at heard) → (s : Step) → Holds P at s → Holds P at (table.heard_by site at whose heard s)
   heard_by_due site whose heard k s h = at_place_holds P at (hears site at heard) k (position whose s.room.seats) s h
 
@@ -123,7 +123,7 @@ module _ (P : Place → Type 0) (at : ℕ) where
   heard_in_due site room seat heard live effects k h =
       stepped_in_due (table.heard_by site at (is_seat seat) heard) (place_of room live) live effects (λ place e room f held. heard_by_due site (is_seat seat) heard k (begin room effects) held) h
 
-  -- a request, by which somebody may be invited
+  -- a request, by which a party may be invited
   requested_due : (site : Site) (room : RoomNo) (seat : ℕ) (key : TKey) (m : Said) (live : List Room) (effects : Effects) →
       ((r : Room) → r.number.0 ≡ room.0 → room_of room.0 live ≡ Some r → IsReferred P at site r.number r.taken m) → Stands live effects → Goes (heard_in site at room.0 seat (of_seat.Request key m) live effects)
   unfolding hears
@@ -170,9 +170,9 @@ module _ (P : Place → Type 0) (at : ℕ) where
     silenced_by_due None = h
     silenced_by_due (Some branch) = silenced_at_due branch (position (is_of branch) loose)
 
-  -- ---- seats are taken
+  -- ---- a party becomes a participant
 
-  -- whoever finds a seat in the room of this number
+  -- a party that enters the conference of this number
   through_due : (row : Step → Step) (number : ℕ) (live : List Room) (effects : Effects) →
       ((r : Room) → r.number.0 ≡ number → room_of number live ≡ Some r → Holds P at (begin r effects) → Holds P at (row (begin r effects))) → Stands live effects → Goes (through row (access number live) live effects)
   through_due row number live effects k h = by (place_of number live) refl
@@ -190,7 +190,7 @@ module _ (P : Place → Type 0) (at : ℕ) where
       by None e = h
       by (Some place) e = at_place place e (slice_get live place) refl
 
-  -- ---- a seat is left, and a room closed, without a signal
+  -- ---- a participant leaves, and a conference is closed, without a signal
 
   left_in_due : (o : Option ℕ) (room : Room) → AreDue P at room → AreDue P at (left_in o room)
   left_in_due None room h = h
@@ -233,12 +233,12 @@ module _ (P : Place → Type 0) (at : ℕ) where
       by None = h
       by (Some place) = stays_at_due (told_to site (is_provisional code) (own_status code) seat) place live effects (λ r e held. told_to_holds P at site (is_provisional code) (own_status code) seat (begin r effects) held) h
 
-  -- all of them, one behind another
+  -- all of them, one after another
   pub all_places : (live : List Room) → AllDue live → Each P (places live)
   all_places [] h = tt
   all_places (room ∷ live) h = each_joined P (places_in room) (places live) (each_mapped P (seat_of room.number) room.seats h.0) (all_places live h.1)
 
--- ---- whoever is seated has the meter of their account
+-- ---- a connected participant has the meter of its account
 
 due_metered : (site : Site) (deeds : List Deed) (place : Place) → IsDue site deeds place → IsMetered place
 due_metered site [] place due = absurd due
@@ -268,9 +268,9 @@ due_metered site (Leaves room seat ∷ older) place (inr (inr answers)) = absurd
 due_metered site (Closes room ∷ older) place (inr (inr answers)) = absurd answers
 due_metered site (Drops count ∷ older) place (inr (inr answers)) = absurd answers
 
--- ---- each deed
+-- ---- each operation
 
--- a moment for those that have none
+-- a moment for those without one
 abbrev moment : Deed → ℕ
 moment (Opens c) = c.at
 moment (Joins room c) = c.at
@@ -285,7 +285,7 @@ module _ (site : Site) (older : List Deed) where
   abbrev before : Table
   before = table_after site older
 
-  -- what stood before stands by one deed more
+  -- what followed from the older operations follows with one more
   still : (deed : Deed) (at : ℕ) (live : List Room) → AllDue (IsDue site older) at live → AllDue (IsDue site (deed ∷ older)) at live
   still deed at live h =
       each_more (AreDue (IsDue site older) at) (AreDue (IsDue site (deed ∷ older)) at)
@@ -294,12 +294,12 @@ module _ (site : Site) (older : List Deed) where
   abbrev Follows : (deed : Deed) → List Room → Effects → Type 0
   Follows deed live effects = Stands (IsDue site (deed ∷ older)) (moment deed) live effects
 
-  -- the next seat of the room that is found
+  -- the number of the next participant of the conference that is found
   next_is : (number : ℕ) (r : Room) (account : Option Account) (place : Place) → r.number.0 ≡ number → room_of number before.live ≡ Some r → IsSeatOf r.number.0 (next_number r.taken) account place →
       IsSeatOf number (next_seat number before.live) account place
   next_is number r account place named is of = record { of_room = of.of_room ∙ named; numbered = of.numbered ∙ ap (λ (o : Option Room). next_number (taken_by o)) (sym is); whose = of.whose }
 
-  -- an invitation that stands in the step of an answer stood before it
+  -- a participant that is invited after the step of a response was so before it
   stood_before : (x : histories.Heard) (key : TKey) (m : Said) → x.signal ≡ signal.Answer key m → (place : Place) → IsDue site (Hears x ∷ older) place → IsInvited place → IsDue site older place
   stood_before x key m e place (inl due) invited = due
   stood_before x key m e place (inr (inl gives)) invited = absurd (subst (λ (s : RoomSignal). Invites site s before place) e gives)
@@ -353,7 +353,7 @@ module _ (site : Site) (older : List Deed) where
       (λ place of sits. inr (inl (next_is room r a.account place named is of, sits))) held)
       h
 
-  -- the seats after it, and the rows that it files
+  -- the participants after it, and the CDRs that it files
   record Comes (deed : Deed) : Type 0 where
     pub seats : AllDue (IsDue site (deed ∷ older)) 0 (table_after site (deed ∷ older)).live
     pub rows : AreRowsDue site (deed ∷ older) (moment_of deed) (brought_after site older deed).desk.rows

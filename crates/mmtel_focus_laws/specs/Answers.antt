@@ -1,5 +1,5 @@
--- What is asked of alike tables of rooms has the same answers: which seat has a dialog (RFC 3261 §12.2.2), whether a room takes another seat, and whether there is room for
--- one more room.
+-- Queries on tables of conferences that are equal but for private places have the same results: which participant has a dialog (RFC 3261 §12.2.2), whether a conference is full,
+-- and whether one more can be opened.
 use Rattle.std.specs.Prelude.{◌≡◌, ℕ, Bool, List}
 use Rattle.mmtel_types.specs.declared.numbers.Peer.{Peer}
 use Rattle.mmtel_focus.specs.Names.{found}

@@ -1,5 +1,5 @@
--- The charging of conference rooms, as a book that is kept (TS 32.260 §5): whose meters run; a meter that begins when somebody is seated; and a meter that is closed by one
--- row when a seat is left.
+-- The charging of conferences, as a ledger (TS 32.260 §5): the meters that run; a meter that begins when a participant is connected; and a meter that is closed by one CDR when a
+-- participant leaves.
 use Rattle.std.specs.Prelude.{◌≡◌, ℕ, List, [], ◌∷◌, ◌++◌, Option, Some, IfSome, drop, option_to_list}
 use Rattle.std.specs.List.{flat_map}
 use Rattle.std.specs.Option.{option_map}
@@ -16,7 +16,7 @@ use Rattle.mmtel_focus.specs.Seats.{leg_of}
 use Rattle.mmtel_focus.specs.Site.{Site}
 use Rattle.mmtel_focus.specs.Table.{Table, row_left}
 
--- ---- whose meters run, in the order of rooms and of their seats
+-- ---- the meters that run, in the order of conferences and of their participants
 
 abbrev pub meters_of : Seat → List Noted
 meters_of seat = option_to_list (leg_of seat.party).meter
@@ -30,7 +30,7 @@ runs room = runs_in room.seats
 abbrev pub running : List Room → List Noted
 running live = flat_map runs live
 
--- ---- an entry of the book: between those that run on, one is closed, or one begins
+-- ---- an entry of the ledger: at most one meter is closed and at most one begins, and those before and after it run on
 
 pub record Entry : Type 0 where
   pub front : List Noted
@@ -41,7 +41,7 @@ pub record Entry : Type 0 where
 abbrev pub among : (front : List Noted) → Option Noted → (back : List Noted) → List Noted
 among front meter back = front ++ (option_to_list meter ++ back)
 
--- the row of a meter that is closed: it held nothing, and ended
+-- the CDR of a meter that is closed: it counts no holds, and its cause is the normal end
 abbrev pub row_at : (at : ℕ) → Noted → Row
 row_at at meter = row_of meter at 0 causes.Ended
 
@@ -54,32 +54,32 @@ pub record IsBegun (at : ℕ) (meter : Noted) : Type 0 where
   pub began : meter.began ≡ at
   pub answered : meter.answered ≡ Some at
 
--- by these entries, one after another, those that run become others, and these rows are filed
+-- by these entries, one after another, the meters before become those after, and these CDRs are filed
 abbrev pub Follows : (at : ℕ) → (before : List Noted) → List Entry → (after : List Noted) → (rows : List Row) → Type 0
 Follows at before [] after rows = (after ≡ before) × (rows ≡ [])
 Follows at before (e ∷ entries) after rows =
     (later : List Row) × (rows ≡ rows_at at e.closed ++ later) × (before ≡ among e.front e.closed e.back) × IfSome e.begun (IsBegun at)
     × Follows at (among e.front e.begun e.back) entries after later
 
--- all that is filed at this moment is in the book
+-- all that is filed at this moment is in the ledger
 pub record IsBooked (at : ℕ) (before after : List Noted) (rows : List Row) : Type 0 where
   pub entries : List Entry
   pub follows : Follows at before entries after rows
 
--- ---- deeds
+-- ---- operations
 
--- what a deed files stands behind what waits
+-- the CDRs that an operation files are appended to those that wait
 pub record IsCharged (at : ℕ) (before after : Table) : Type 0 where
   pub rows : List Row
   pub filed : after.rows ≡ before.rows ++ rows
   pub booked : IsBooked at (running before.live) (running after.live) rows
 
--- nobody begins, and nobody leaves
+-- no meter begins, and none ends
 pub record IsUncharged (before after : Table) : Type 0 where
   pub filed : after.rows ≡ before.rows
   pub runs_on : running after.live ≡ running before.live
 
--- a seat is left without a signal: its row is handed back
+-- a participant leaves without a signal: its CDR is handed back
 pub record IsHandedBack (before after : Table) (answer : (at : ℕ) → Option Row) : Type 0 where
   pub front : List Noted
   pub meter : Option Noted
@@ -92,7 +92,7 @@ pub record IsHandedBack (before after : Table) (answer : (at : ℕ) → Option R
 abbrev pub meters_in : List Ended → List Noted
 meters_in all = flat_map (λ ended. option_to_list ended.meter) all
 
--- a room is closed without a signal: the meters of its seats are handed back
+-- a conference is closed without a signal: the meters of its participants are handed back
 pub record AreHandedBack (before after : Table) (answer : List Ended) : Type 0 where
   pub front : List Noted
   pub back : List Noted
@@ -100,7 +100,7 @@ pub record AreHandedBack (before after : Table) (answer : List Ended) : Type 0 w
   pub was : running before.live ≡ front ++ (meters_in answer ++ back)
   pub is : running after.live ≡ front ++ back
 
--- rows that were handed over wait no more
+-- CDRs that were handed over no longer wait
 pub record IsDropped (count : ℕ) (before after : Table) : Type 0 where
   pub left : after.rows ≡ drop count before.rows
   pub runs_on : running after.live ≡ running before.live

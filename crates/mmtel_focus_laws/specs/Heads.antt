@@ -1,4 +1,4 @@
--- What is said of all that is done on a table of conference rooms: where it is given clean messages and legs, each message that goes out is clean (RFC 3261 §7, §25.1).
+-- A property of all operations on a table of conferences: where the messages and legs that they get are clean, each message that is sent is clean (RFC 3261 §7, §25.1).
 use Rattle.std.specs.Prelude.{List, [], ◌∷◌}
 use Rattle.mmtel_call_laws.specs.Heads.Clean.{IsClean}
 use Rattle.mmtel_call_laws.specs.Heads.Emits.{Each, IsCleanEmit}
@@ -10,9 +10,9 @@ use Rattle.mmtel_focus.specs.Site.{Site}
 use Rattle.mmtel_focus.specs.declared.signals.RoomSignal.{RoomSignal}
 use Rattle.mmtel_focus.specs.declared.signals.RoomSignal.TheVariants as signal
 
--- ---- what a deed is given
+-- ---- the premises of an operation
 
--- each message that is heard is of a clean one
+-- each message that is received was parsed from a clean one
 abbrev pub IsCleanSignal : RoomSignal → Type 0
 IsCleanSignal (signal.Request room seat key request) = IsOfClean request.heard
 IsCleanSignal (signal.Ack room seat ack) = IsOfClean ack.heard
@@ -21,13 +21,13 @@ IsCleanSignal (signal.Silent branch method) = Unit {0}
 IsCleanSignal (signal.Due room seat what) = Unit {0}
 IsCleanSignal (signal.Over key) = Unit {0}
 
--- the leg that comes, and its INVITE, and what tokens are drawn of
+-- the leg that joins, its INVITE, and the text of which tokens are drawn
 pub record IsCleanComing (c : Coming) : Type 0 where
   pub leg : IsCleanLeg c.leg
   pub invite : IsOfClean c.invite.heard
   pub token : IsClean c.tokens.token
 
--- the leg that comes out of a call, and what tokens are drawn of
+-- the leg that is moved out of a call, and the text of which tokens are drawn
 pub record IsCleanAdoption (a : Adoption) : Type 0 where
   pub leg : IsCleanLeg a.leg
   pub token : IsClean a.tokens.token
@@ -46,7 +46,7 @@ IsCleanDeed (Leaves room seat) = Unit {0}
 IsCleanDeed (Closes room) = Unit {0}
 IsCleanDeed (Drops count) = Unit {0}
 
--- ---- each message that goes out of it is clean, whatever was done before; and of an ACK of a 2xx no lines go out, since a room passes no ACK on
+-- ---- each message that is sent is clean, whatever was done before; and no header field is taken from an ACK of a 2xx, since a conference relays no ACK
 
 abbrev pub EmitsAreClean : Type 0
 EmitsAreClean = (site : Site) (deeds : List Deed) (deed : Deed) → Each IsCleanDeed (deed ∷ deeds) → Each (IsCleanEmit []) (brought_after site deeds deed).desk.out

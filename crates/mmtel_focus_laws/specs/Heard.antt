@@ -1,4 +1,4 @@
--- What two tables of rooms hear, side by side: the same but for private places.
+-- What two tables of conferences receive, side by side: the same but for private places.
 use Rattle.std.specs.Prelude.{ℕ, ◌≡◌, Option, Some, None, List, position, slice_get}
 use Rattle.mmtel_answers.specs.Said.{Said}
 use Rattle.mmtel_call_laws.specs.Secret.Parts.{public_released}
@@ -27,7 +27,7 @@ use Rattle.mmtel_focus.specs.declared.signals.RoomSignal.TheVariants as signal
 
 -- ---- messages
 
--- a message, and the part that it has
+-- a message, and the part that it has in its call
 pub record Message : Type 0 where
   pub said : Said
   pub role : Role
@@ -35,7 +35,7 @@ pub record Message : Type 0 where
 abbrev pub shown : Message → Said
 shown m = without_private m.role m.said
 
--- what one hears, and the other
+-- what the one receives, and the other
 pub record Pair : Type 0 where
   pub one : Message
   pub other : Message
@@ -43,7 +43,7 @@ pub record Pair : Type 0 where
 abbrev pub AreAlike : Pair → Type 0
 AreAlike p = shown p.one ≡ shown p.other
 
--- requests, each of the peer of its transaction
+-- requests, each from the peer of its transaction
 pub record AreRequests (t : Trust) (key : TKey) (p : Pair) : Type 0 where
   pub alike : AreAlike p
   pub one : IsAsked t key p.one.said
@@ -51,7 +51,7 @@ pub record AreRequests (t : Trust) (key : TKey) (p : Pair) : Type 0 where
 
 -- ---- responses
 
--- to an INVITE of a seat: of the peer of its dialog, to whom it went
+-- to an INVITE to a participant: from the peer of its dialog, to which it was sent
 abbrev pub IsOfInvite : Trust → TKey → Message → Option Invite → Type 0
 IsOfInvite t key m None = Unit {0}
 IsOfInvite t key m (Some (Waiting number i)) = IsAnswer t key i.dialogue.peer m.role m.said
@@ -61,7 +61,7 @@ pub record IsOfSeat (t : Trust) (key : TKey) (m : Message) (seat : Seat) : Type 
   pub invite : IsOfInvite t key m seat.invite
   pub leg : IsAnswer t key (dialogue_of seat).peer m.role m.said
 
--- by the branch, to an INVITE that was left, or to that of a seat
+-- by the branch, to an abandoned INVITE, or to that of a participant
 pub record IsAnswerIn (t : Trust) (key : TKey) (m : Message) (branch : List ℕ) (table : Table) : Type 0 where
   pub loose : (at : ℕ) (l : Loose) → position (is_of branch) table.loose ≡ Some at → slice_get table.loose at ≡ Some l → IsAnswer t key l.invitation.dialogue.peer m.role m.said
   pub seat : (at place : ℕ) (room : Room) (seat : Seat) → position (asks branch) table.live ≡ Some at → slice_get table.live at ≡ Some room →
@@ -100,7 +100,7 @@ other_signal (Silent branch method) = signal.Silent branch method
 other_signal (Due room seat what) = signal.Due room seat what
 other_signal (Over key) = signal.Over key
 
--- they are alike, on these tables
+-- they are equal but for private places, on these tables
 abbrev pub AreHeard : Trust → Signals → (one other : Table) → Type 0
 AreHeard t (Request room seat key said) one other = AreRequests t key said
 AreHeard t (Ack room seat said) one other = AreAlike said
@@ -175,12 +175,12 @@ other_deed (Leaves room seat) = histories.Leaves room seat
 other_deed (Closes room) = histories.Closes room
 other_deed (Drops count) = histories.Drops count
 
--- who comes is alike, and so is the INVITE
+-- the legs that join are equal but for private places, and so are the INVITEs
 pub record ComeAlike (t : Trust) (c : Comings) : Type 0 where
   pub legs : AreAlikeLegs t c.legs
   pub invites : AreRequests t c.key c.invites
 
--- they are alike, on these tables
+-- they are equal but for private places, on these tables
 abbrev pub AreDone : Trust → Deeds → (one other : Table) → Type 0
 AreDone t (Opens c) one other = ComeAlike t c
 AreDone t (Joins room c) one other = ComeAlike t c

@@ -1,4 +1,4 @@
--- What the laws cite: who is charged, what is clean, what nobody may learn.
+-- What the theorems cite: who is charged, what is clean, and what cannot be learned.
 pub mod Charging
 pub mod Seated
 pub mod Heads

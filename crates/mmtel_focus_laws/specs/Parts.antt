@@ -1,5 +1,5 @@
--- The public part of conference rooms: what of them rests on no private place. Of the dialog of a seat it leaves out what calls leave out of theirs: what is due to a
--- trusted peer, whom nobody else is told of.
+-- The public part of conferences: what of them depends on no private place. Of the dialog of a participant it leaves out what is left out of the dialogs of calls: what is due to
+-- a trusted peer, and is shown to no other.
 use Rattle.std.specs.Prelude.{◌≡◌, Bool, Option, Some, None, map}
 use Rattle.mmtel_call_laws.specs.Secret.Parts.{public_invitation, public_leg, public_loose}
 use Rattle.mmtel_call_laws.specs.Secret.Seen.{AlikeDesks, Trust}
@@ -26,18 +26,18 @@ trusts site peer = is_trusted peer site.peers.known
 abbrev pub trust_of : Site → (TKey → Bool) → Trust
 trust_of site key = record { peer = trusts site; key = key }
 
--- ---- seats
+-- ---- participants
 
 abbrev pub public_party : (Peer → Bool) → Party → Party
 public_party trusts (Invited leg) = Invited (public_leg trusts leg)
 public_party trusts (Came leg) = Came (public_leg trusts leg)
 public_party trusts (Brought leg) = Brought (public_leg trusts leg)
 
--- an INVITE of the server's without a final has no ACK and no early dialog, of which nothing is left out
+-- an INVITE of the server's without a final response has no ACK and no early dialog, so nothing of these is left out
 abbrev pub public_waiting : (Peer → Bool) → Invitation → Invitation
 public_waiting trusts i = record (public_invitation trusts i) { ack = i.ack; early = i.early }
 
--- the server's INVITE to somebody who is trusted or not
+-- the server's INVITE to a participant that is trusted or not
 abbrev pub public_invite : (Peer → Bool) → (trusted : Bool) → Option Invite → Option Invite
 public_invite trusts trusted None = None
 public_invite trusts trusted (Some (Waiting number i)) = Some (Waiting number (public_waiting trusts i))
@@ -46,7 +46,7 @@ public_invite trusts trusted (Some (Agreed branch tag ack)) = Some (Agreed branc
 abbrev pub public_seat : (Peer → Bool) → Seat → Seat
 public_seat trusts seat = record seat { party = public_party trusts seat.party; invite = public_invite trusts (trusts (dialogue_of seat).peer) seat.invite }
 
--- ---- rooms, and a table of them
+-- ---- conferences, and a table of them
 
 abbrev pub public_room : (Peer → Bool) → Room → Room
 public_room trusts room = record room { seats = map (public_seat trusts) room.seats }
@@ -54,9 +54,9 @@ public_room trusts room = record room { seats = map (public_seat trusts) room.se
 abbrev pub public_table : (Peer → Bool) → Table → Table
 public_table trusts table = record table { live = map (public_room trusts) table.live; loose = map (public_loose trusts) table.loose }
 
--- ---- what a step brings forth
+-- ---- the effects of a step
 
--- INVITEs of one public part are left, and the same is seen of what goes out
+-- the INVITEs that are abandoned have the same public part, and the same is seen of the output
 pub record AlikeEffects (t : Trust) (one other : Effects) : Type 0 where
   pub closes : one.closes ≡ other.closes
   pub loose : map (public_loose t.peer) one.loose ≡ map (public_loose t.peer) other.loose

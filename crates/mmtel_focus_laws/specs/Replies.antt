@@ -1,4 +1,4 @@
--- In which server transactions rooms reply: in that of the request that is heard, or of the INVITE by which somebody comes, at once (RFC 3261 §8.2.6, §17.2).
+-- The server transactions in which conferences respond: that of the request that is received, or of the INVITE by which a party joins, at once (RFC 3261 §8.2.6, §17.2).
 use Rattle.std.specs.Prelude.{◌≡◌, true, ℕ, Bool}
 use Rattle.mmtel_call_laws.specs.Heads.Emits.{Each}
 use Rattle.mmtel_call_laws.specs.Replies.{IsRepliedIn}
@@ -8,7 +8,7 @@ use Rattle.mmtel_focus.specs.Table.{Table}
 use Rattle.mmtel_focus.specs.declared.signals.RoomSignal.{RoomSignal}
 use Rattle.mmtel_focus.specs.declared.signals.RoomSignal.TheVariants as signal
 
--- a request that is heard is of these transactions
+-- a request that is received is of these transactions
 abbrev pub SignalIsOf : (own : ℕ → Bool) → RoomSignal → Type 0
 SignalIsOf own (signal.Request room seat key request) = own key.0 ≡ true
 SignalIsOf own (signal.Ack room seat ack) = Unit {0}
@@ -27,6 +27,6 @@ DeedIsOf own (Leaves room seat) = Unit {0}
 DeedIsOf own (Closes room) = Unit {0}
 DeedIsOf own (Drops count) = Unit {0}
 
--- so each reply of the deed is in them, however the rooms stand; rooms keep no request to answer it later
+-- so each response of the operation is in them, in any state of the conferences; they keep no request to respond to it later
 abbrev pub RoomsReplyInTheirOwn : Type 0
 RoomsReplyInTheirOwn = (own : ℕ → Bool) (site : Site) (deed : Deed) (table : Table) → DeedIsOf own deed → Each (IsRepliedIn own) (effects_of site deed table).desk.out

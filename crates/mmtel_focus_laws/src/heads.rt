@@ -1,9 +1,9 @@
-//! What conference rooms send out. These are laws, and no code.
+//! What conferences send. These are theorems, without code.
 ghost use Rattle.mmtel_focus_laws.specs.Heads.{EmitsAreClean, EmitsHaveTheirLines};
 
-/// Whatever is done on a table of rooms, each message that goes out is clean, and its text has its start line, its lines and its body, and nothing else.
-/// So nobody puts a line into a message of another; and of an ACK of a 2xx no lines go out, since a room passes no ACK on.
-/// It is so where the lines and phrases that are heard are clean, as those are of each message that was read, the dialogs of the legs that come, and the text of tokens.
+/// Whatever is done on a table of conferences, each message that is sent is clean, and its text has its start line, its header fields and its body, and nothing else. So nobody
+/// injects a header field into a message to another; and none comes from the ACK of a 2xx, since a conference relays no ACK. This holds where the header fields and reason
+/// phrases that are received are clean, as those of each parsed message are, and so are the dialogs of the legs that enter, and the text of tokens.
 pub fn rooms_send_clean_messages()
     ensures clean { EmitsAreClean }
     ensures lines { EmitsHaveTheirLines }

@@ -1,5 +1,5 @@
-//! Laws of conference rooms: who is charged for a seat, that each message has its own lines and nobody else's, and what nobody may learn from a room. The crate has
-//! definitions and laws, and no code.
+//! Theorems about conferences: who is charged for a participant, that each message has its own header fields and nobody else's, and what cannot be learned from a conference. The
+//! crate has definitions and theorems, and no code.
 #![tactic(auto)]
 
 mod charging;

@@ -1,8 +1,8 @@
-//! In which server transactions conference rooms reply. These are laws, and no code.
+//! The server transactions in which conferences respond. These are theorems, without code.
 ghost use Rattle.mmtel_focus_laws.specs.Replies.{RoomsReplyInTheirOwn};
 
-/// Each reply of a room is in the server transaction of the request that is heard, or of the INVITE by which somebody comes, and goes out in the same deed (RFC 3261 §8.2.6,
-/// §17.2). What is no request has no reply.
+/// Each response of a conference is in the server transaction of the request that is received, or of the INVITE by which a party joins, and is sent in the same operation (RFC
+/// 3261 §8.2.6, §17.2). What is no request gets no response.
 pub fn rooms_reply_in_their_own()
     ensures law { RoomsReplyInTheirOwn }
 {}

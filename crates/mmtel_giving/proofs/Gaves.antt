@@ -1,4 +1,4 @@
--- What was given, and what more was given, is what is given of both.
+-- What was passed, and what was passed in addition, is what is passed of both.
 use Rattle.std.proofs.Common.{◌≡◌, Bool, true, false, inl, inr, ◌<◌, ◌+◌, ◌-◌, ℕ, List, [], ◌∷◌, ◌++◌, length, take, drop, map, refl, sym, ap, ◌∙◌, subst, Option, Some, None, Result, Ok, Err, append_assoc, append-nil, arith, get_or, add-one, drop-cons}
 use Rattle.std.proofs.lemmas.List.{map-append, take-append-drop}
 use Rattle.std.proofs.lemmas.Option.{none-some}
@@ -17,14 +17,14 @@ use Rattle.mmtel_types.specs.declared.addrs.Addr.{Addr}
 use Rattle.mmtel_types.specs.declared.numbers.Peer.{Peer}
 use Rattle.mmtel_giving.specs.Giving.{Gave, GaveAll, GaveMore, LostOnlyWhereRose, RoseBy, lost_more, lost_told, replies_of, sends_of, sent_at, sent_of, text_of}
 
--- ---- one offer
+-- ---- one output
 
 pub gave_none : (known : List KnownPeer) (given : Option Given) → Gave known [] given given
 gave_none known None = refl
 gave_none known (Some given) =
     record { sent = []; sends = sym (append-nil given.offers); sends_same = refl; replied = []; replies = sym (append-nil given.replies); replies_same = refl }
 
--- to nobody
+-- to no peer
 pub sent_nowhere : (known : List KnownPeer) (peer : Peer) (at : ℕ) (text : List ℕ) → addr_of peer known ≡ None → (given : Option Given)
     → Gave known (offer.To peer at text ∷ []) given given
 sent_nowhere known peer at text none None = refl
@@ -58,7 +58,7 @@ replied known at text (Some given) after (Err fault.Failed) told not =
     subst (λ (o : Option Given). Gave known (offer.Web at text ∷ []) (Some given) o) (sym told) (replied_one known at text true given)
 replied known at text (Some given) after (Err fault.NoMemory) told not = absurd (not refl)
 
--- ---- one behind others
+-- ---- one after others
 
 sent_more : (o : Option Addr) (text : List ℕ) (xs ys : List (Addr × List ℕ)) → sent_at o text (xs ++ ys) ≡ sent_at o text xs ++ ys
 sent_more None text xs ys = refl
@@ -92,13 +92,13 @@ gave_more known xs ys (Some a) None c one other = absurd one
 gave_more known xs ys (Some a) (Some b) None one other = absurd other
 gave_more known xs ys (Some a) (Some b) (Some c) one other = gave_both known xs ys a b c one other
 
--- one more of a list of offers
+-- one more of a list of outputs
 pub take_next : (i : ℕ) (es : List Offer) (e : Offer) → i < length es → e ≡ get_or es i e → take (i + 1) es ≡ take i es ++ e ∷ []
 take_next i es e less is =
     let here : drop i es ≡ get_or es i e ∷ drop (i + 1) es = rw (add-one, drop-cons es i e) refl in
     take-add i 1 es ∙ ap (λ (l : List Offer). take i es ++ take 1 l) (here ∙ ap (λ (x : Offer). x ∷ drop (i + 1) es) (sym is))
 
--- and where memory ran out they are a front of them
+-- and where memory ran out they are a prefix of them
 pub gave_front : (known : List KnownPeer) (i : ℕ) (es : List Offer) (a b : Option Given) (result : Result (Unit {0}) NoMemory) → IsErr result → Gave known (take i es) a b
     → GaveAll known es a b result
 gave_front known i es a b (Ok x) is gave = absurd cc

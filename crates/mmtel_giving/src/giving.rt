@@ -1,4 +1,4 @@
-//! Giving a link what a server offers.
+//! Passing a server's outputs to a link.
 ghost use Rattle.std.specs.Prelude.{◌≡◌, ◌∷◌, [], IsErrOf, OnErr, OnOk};
 ghost use Rattle.mmtel_giving.specs.Giving.{Gave, GaveAll, IsBoundStill, LostOnlyWhereRose, RoseBy, lost_more};
 ghost use Rattle.mmtel_link.specs.declared.links.SendFault.TheVariants as fault;
@@ -9,7 +9,7 @@ use mmtel_scan::NoMemory;
 use mmtel_trust::PeerTable;
 use std::alloc::Global;
 
-/// What is lost was given all the same; where memory ran out nothing was.
+/// What is lost was passed nevertheless; where memory ran out nothing was.
 fn even_lost(given: Result<(), SendFault>) -> Result<(), NoMemory>
     ensures ok { OnOk result (IsErrOf given fault.NoMemory → ⊥) }
     ensures err { OnErr result (IsErrOf given fault.NoMemory) }
@@ -20,7 +20,7 @@ fn even_lost(given: Result<(), SendFault>) -> Result<(), NoMemory>
     }
 }
 
-/// Gives an offer to a link: a datagram at the address of its peer, or a reply on the web connection that came last.
+/// Passes an output to a link: a datagram with the address of its peer, or a reply on the web connection that was received last.
 fn give<L: Link>(
     alloc: Global,
     peers: &PeerTable,
@@ -44,11 +44,11 @@ fn give<L: Link>(
     }
 }
 
-/// Gives offers to a link, in their order: each datagram at the address of its peer, and each reply on the web connection that came last. What the link loses is lost.
+/// Passes outputs to a link, in their order: each datagram with the address of its peer, and each reply on the web connection that was received last. What the link loses is lost.
 ///
 /// # Errors
 ///
-/// Want of memory alone, in the link; a front of them was given then.
+/// Out of memory only, in the link; a prefix of them was passed then.
 pub fn give_each<L: Link>(
     alloc: Global,
     peers: &PeerTable,

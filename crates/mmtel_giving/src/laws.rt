@@ -1,7 +1,7 @@
-//! Laws of what is given: each is the contract of a function that does nothing.
+//! Theorems about what is passed: each is the contract of a function that does nothing.
 ghost use Rattle.mmtel_giving.specs.Laws.{NothingIsGiven, PartsAreGiven};
 
-/// What a link is given of one list of offers and then of another is what it is given of both.
+/// What is passed to a link for one list of outputs and then for another is what is passed for both.
 pub fn parts_are_given()
     ensures none { NothingIsGiven }
     ensures both { PartsAreGiven }

@@ -1,4 +1,4 @@
-//! Giving a link what a server offers.
+//! Passing a server's outputs to a link.
 #![tactic(auto)]
 
 mod giving;

@@ -50,7 +50,7 @@ number_law n low high =
     let writes = decimal_writes n (omega arith) in
     rw (len, number_again 699 (decimal n) n writes high, not_under n 100 low) refl
 
--- ---- the cause's place
+-- ---- the place of the cause
 
 free_both : (b : ℕ) (s t : List ℕ) → IsFree b s → IsFree b t → IsFree b (s ++ t)
 free_both b s t x y = rw (list_all-append, x, y) refl
@@ -104,7 +104,7 @@ headers_new : (f : List ℕ) (o : Option (List ℕ × List ℕ)) → headers_fro
 headers_new f None = refl
 headers_new f (Some x) = refl
 
--- what stands between the last '@' and the '?' is this, and nothing else changed
+-- what is between the last '@' and the '?' is this, and nothing else changed
 record Rebuilt (f u : List ℕ) : Type 0 where
   user : user_part (with_front f u) ≡ user_part u
   front : front_part (with_front f u) ≡ f
@@ -221,7 +221,7 @@ params_with a d each =
     let one : parts 59 (param d) ≡ param d ∷ [] = free_parts 59 (param d) (free_both 59 (codes "cause=") d refl (class_free Digit 59 semicolon d each)) in
     ap (λ (l : List (List ℕ)). drop 1 l) (parts_more 59 a (param d)) ∙ drop_one (parts 59 a) (parts 59 (param d)) (parts_filled 59 a) ∙ ap (λ (l : List (List ℕ)). drop 1 (parts 59 a) ++ l) one
 
--- the parameters but the causes, and then the cause
+-- the parameters except the causes, and then the cause
 params_by : (n : ℕ) (u : List ℕ) → n < 65536 → uri_params (with_cause n u) ≡ filter (λ p. not (is_cause p)) (uri_params u) ++ param (decimal n) ∷ []
 unfolding with_cause
 params_by n u lt =

@@ -1,4 +1,4 @@
--- Where the first element stands that passes a test; and one element changed.
+-- The place of the first element that passes a test; and one element changed.
 use Rattle.std.proofs.Common.{◌≡◌, Bool, true, false, not, ℕ, ◌<◌, List, [], ◌∷◌, length, get_or, Some, None, refl, arith, nat_lt}
 use Rattle.std.specs.Prelude.{map, position}
 use Rattle.std.specs.List.{prefix_len}
@@ -22,6 +22,6 @@ prefix_len-map : {A : Type 0} (p : A → Bool) (f : A → A) → ((x : A) → p 
 prefix_len-map p f same [] = refl
 prefix_len-map p f same (x ∷ xs) = rw (same x, prefix_len-map p f same xs) refl
 
--- a test sees nothing of what is changed
+-- a test does not depend on what is changed
 pub position-map : {A : Type 0} (p : A → Bool) (f : A → A) → ((x : A) → p (f x) ≡ p x) → (xs : List A) → position p (map f xs) ≡ position p xs
 position-map p f same xs = rw (prefix_len-map p f same xs, length-map xs f) refl

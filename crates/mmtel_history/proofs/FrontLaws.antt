@@ -1,4 +1,4 @@
--- A text joined of its parts again, without some of them.
+-- A text joined from its parts again, without some of them.
 use Rattle.std.proofs.Common.{◌≡◌, ◌==◌, Bool, true, false, not, ℕ, List, [], ◌∷◌, ◌++◌, drop, refl, sym, ap, ◌∙◌, inl, inr}
 use Rattle.std.specs.Prelude.{filter}
 use Rattle.std.specs.List.{list_all, list_any, flat_map, join_with_byte, onto_first}
@@ -14,7 +14,7 @@ use Rattle.mmtel_history.specs.EntryUri.{is_cause, but_causes, plain}
 abbrev pub free : ℕ → List ℕ → Bool
 free b s = list_all (λ y. not (y == b)) s
 
--- a test of each byte is one of each byte of each part
+-- a test of each byte is a test of each byte of each part
 parts_onto : (p : ℕ → Bool) (x : ℕ) (ps : List (List ℕ)) → p x ≡ true → list_all (λ q. list_all p q) ps ≡ true → list_all (λ q. list_all p q) (onto_first x ps) ≡ true
 parts_onto p x [] here more = rw here refl
 parts_onto p x (q ∷ ps) here more =
@@ -30,7 +30,7 @@ parts_all p b (x ∷ s) all =
       | inr n ↦ rw n (parts_onto p x (parts b s) both.0 (parts_all p b s both.1))
     ]
 
--- no part has the byte at which the text was cut
+-- no part contains the byte at which the text was split
 pub parts_free : (b : ℕ) (s : List ℕ) → list_all (free b) (parts b s) ≡ true
 parts_free b [] = refl
 parts_free b (x ∷ s) =
@@ -108,7 +108,7 @@ but_all p (h ∷ ps) all =
     let both = and_true (p h) (list_all p ps) all in
     rw (both.0, filter_all p (λ q. not (is_cause q)) ps both.1) refl
 
--- no byte is new but a ';'
+-- no new byte occurs except a ';'
 pub plain_all : (p : ℕ → Bool) (s : List ℕ) → p 59 ≡ true → list_all p s ≡ true → list_all p (plain s) ≡ true
 plain_all p s at all = joined_all p 59 (but_causes (parts 59 s)) at (but_all (λ q. list_all p q) (parts 59 s) (parts_all p 59 s all))
 

@@ -1,4 +1,4 @@
--- Dotted numbers: they are tokens, and a number more makes dotted numbers again; and the first index of parameters.
+-- Numbers separated by dots: they are tokens, and a number more makes such numbers again; and the first index of parameters.
 use Rattle.std.proofs.Common.{◌≡◌, ◌==◌, Bool, true, false, ◌&&◌, ℕ, ◌+◌, ◌<◌, List, [], ◌∷◌, ◌++◌, length, take, drop, get_or, Option, Some, None, refl, sym, ap, ◌∙◌, arith, inl, inr, append_assoc, take-suc, drop-cons, add-one, take_all, append-nil}
 use Rattle.std.specs.Prelude.{codes}
 use Rattle.std.specs.Option.{unwrap_or}

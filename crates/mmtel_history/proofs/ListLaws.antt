@@ -1,4 +1,4 @@
--- What marks, diversions and masking keep.
+-- What marks, diversions and masking preserve.
 use Rattle.std.proofs.Common.{◌≡◌, Bool, true, false, cond, ◌||◌, ℕ, zero, suc, ◌+◌, ◌-◌, ◌≤◌, List, [], ◌∷◌, ◌++◌, length, Option, Some, None, refl, sym, ap, ◌∙◌, inl, inr, arith}
 use Rattle.std.specs.Prelude.{map, is_some, slice_get}
 use Rattle.std.specs.Option.{option_map, option_map_or}
@@ -83,7 +83,7 @@ first_counts : (from : List ℕ) (d : Diversion) → diversions_in (appended [] 
 unfolding appended
 first_counts from d = target_counts (started from []) d.target d.cause d.hide_last
 
--- what the list tells is never fewer than what is counted
+-- the diversions that the list shows are never fewer than those that are counted
 pub after_most : (h : List Entry) (from : List ℕ) (ds : List Diversion) → diversions_in h + length ds ≤ diversions_in (after h from ds)
 after_most [] from [] = omega arith
 after_most [] from (d ∷ ds) =
@@ -118,7 +118,7 @@ masked_keeps f same all (e ∷ h) =
       | inr n ↦ rw (n, masked_keeps f same all h) refl
     ]
 
--- the entry with nobody's URI
+-- the entry with the anonymous URI
 abbrev nobody : Entry → Entry
 nobody e = record e { uri = masked_uri e.cause; hidden = false }
 
@@ -145,7 +145,7 @@ nobody_masked all e =
       | inr n ↦ rw n refl
     ]
 
--- a mark's entry, masked, says nothing but what was seen of it masked
+-- a marked entry, masked, depends only on the masked form of the entry
 marks_alike : (all : Bool) (h : List Entry) (n : ℕ) → masked_list all (marked_at n h) ≡ masked_list all (marked_at n (masked_list all h))
 marks_alike all [] n = refl
 marks_alike all (e ∷ h) zero =
@@ -158,7 +158,7 @@ hides_alike : (all hide : Bool) (h : List Entry) (n : ℕ) → masked_list all (
 hides_alike all true h n = marks_alike all h n
 hides_alike all false h n = sym (masked_once all h)
 
--- lists that are masked alike are masked alike after a mark
+-- lists with equal masked forms have equal masked forms after a mark
 pub hides_same : (all hide : Bool) (n : ℕ) (h g : List Entry) → masked_list all h ≡ masked_list all g → masked_list all (hidden_if hide n h) ≡ masked_list all (hidden_if hide n g)
 hides_same all hide n h g same = hides_alike all hide h n ∙ ap (λ (l : List Entry). masked_list all (hidden_if hide n l)) same ∙ sym (hides_alike all hide g n)
 

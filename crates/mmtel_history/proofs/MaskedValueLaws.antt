@@ -26,7 +26,7 @@ pub masked_entry_of : (v : List ℕ) → entry_of (masked_value_text v) ≡ opti
 unfolding masked_value_text
 masked_entry_of v = masked_by v (entry_of v) refl
 
--- masked once is masked
+-- masking a second time changes nothing
 once_by : (v : List ℕ) (o : Option Entry) → masked_from (masked_from v o) (option_map (masked_entry true) o) ≡ masked_from v o
 once_by v None = refl
 once_by v (Some e) = refl
@@ -57,7 +57,7 @@ pub masked_value_shown : (v : List ℕ) → is_marked_value (masked_value_text v
 unfolding is_marked_value
 masked_value_shown v = ap is_hidden (masked_entry_of v) ∙ shown_by (entry_of v)
 
--- ---- values as they may be seen
+-- ---- values as they may be shown
 
 all_or_hidden : (o : Option Entry) → is_hidden o ≡ true → option_map (masked_entry true) o ≡ option_map (masked_entry false) o
 all_or_hidden None e = refl

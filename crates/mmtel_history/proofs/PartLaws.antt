@@ -1,4 +1,4 @@
--- A text in parts at escaped semicolons: the first part and the parts of what follows it.
+-- A text split at escaped semicolons: the first part and the parts of what follows it.
 use Rattle.std.proofs.Common.{◌≡◌, true, false, ℕ, zero, suc, ◌+◌, ◌≤◌, ◌<◌, List, [], ◌∷◌, ◌++◌, length, take, drop, get_or, refl, sym, ap, subst, ◌∙◌, arith, inl, inr, nat_lt, min, append_assoc, add-one, drop-cons}
 use Rattle.std.specs.List.{onto_first}
 use Rattle.std.proofs.lemmas.Bool.{cases_Bool, ltb-true}

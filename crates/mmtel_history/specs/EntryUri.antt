@@ -38,11 +38,11 @@ causes_in uri = count_by is_cause (uri_params uri)
 
 -- ---- the mark
 
--- a semicolon escaped, whose letter may be of either case
+-- an escaped semicolon, whose letter may be of either case
 abbrev pub begins_escape : List ℕ → Bool
 begins_escape s = str_eq_ignore_ascii_case (take 3 s) (codes "%3B")
 
--- the parts of a text between escaped semicolons; so many bytes of one are still to be passed
+-- the parts of a text between escaped semicolons; the count says how many bytes of one are still to be skipped
 abbrev pub escaped_from : ℕ → List ℕ → List (List ℕ)
 escaped_from n [] = [] ∷ []
 escaped_from zero (x ∷ s) = if begins_escape (x ∷ s) then [] ∷ escaped_from 2 s else onto_first x (escaped_from zero s)
@@ -58,7 +58,7 @@ is_history word = str_eq_ignore_ascii_case word (codes "history")
 unfoldable pub hides : List ℕ → Bool
 hides part = is_named (codes "Privacy") part && list_any is_history (escaped_parts (behind 61 part))
 
--- the URI's header part asks that the entry be hidden
+-- the header part of the URI requests that the entry be hidden
 unfoldable pub is_marked : List ℕ → Bool
 is_marked uri = list_any hides (header_parts uri)
 
@@ -71,7 +71,7 @@ abbrev pub mark_text : Bool → List ℕ
 mark_text true = codes "&Privacy=history"
 mark_text false = codes "?Privacy=history"
 
--- the URI with its mark, which is put once
+-- the URI with its mark, which is added once
 unfoldable pub marked_uri : List ℕ → List ℕ
 marked_uri uri = if is_marked uri then uri else uri ++ mark_text (has_headers uri)
 
@@ -79,7 +79,7 @@ abbrev pub headers_from : Option (List ℕ × List ℕ) → List ℕ
 headers_from None = []
 headers_from (Some x) = 63 ∷ x.1
 
--- the URI with this in the place of what stands between its last '@' and its '?'
+-- the URI with this in place of what is between its last '@' and its '?'
 abbrev pub with_front : List ℕ → List ℕ → List ℕ
 with_front front uri = user_part uri ++ (front ++ headers_from (parted 63 (host_part uri)))
 
@@ -92,7 +92,7 @@ but_causes (host ∷ params) = host ∷ filter (λ p. not (is_cause p)) params
 abbrev pub plain : List ℕ → List ℕ
 plain front = join_with_byte 59 (but_causes (parts 59 front))
 
--- the URI without the causes among its parameters: each of that name goes
+-- the URI without the causes among its parameters: each of that name is removed
 unfoldable pub without_cause : List ℕ → List ℕ
 without_cause uri = with_front (plain (front_part uri)) uri
 
@@ -101,6 +101,6 @@ abbrev pub cause_text : Option ℕ → List ℕ
 cause_text None = []
 cause_text (Some cause) = codes ";cause=" ++ decimal cause
 
--- the URI with this cause in the place of its own, behind its other parameters
+-- the URI with this cause in place of its own, after its other parameters
 unfoldable pub with_cause : ℕ → List ℕ → List ℕ
 with_cause cause uri = with_front (plain (front_part uri) ++ cause_text (Some cause)) uri

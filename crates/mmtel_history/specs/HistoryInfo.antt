@@ -1,5 +1,5 @@
 -- The list of History-Info entries: how a value is read and written; what a diversion, a mark and masking do to the list (RFC 7044 §5, §9 and §10.1; RFC 3323 §4.2); and
--- what a 181 tells of it and counts against the bound on diversions (TS 24.604 §4.5.2.6).
+-- what a 181 shows of it and what counts against the bound on diversions (TS 24.604 §4.5.2.6).
 use Rattle.std.specs.Prelude.{◌≡◌, ◌≤◌, ℕ, zero, suc, Bool, true, false, ◌||◌, ◌+◌, ◌-◌, if◌then◌else◌, nat_lt, List, [], ◌∷◌, ◌++◌, length, take, map, position, slice_get}
 use Rattle.std.specs.Prelude.{Option, Some, None, is_some, is_none, option_to_list, Result, Ok, Err, codes, count_by}
 use Rattle.std.specs.List.{flat_map}
@@ -29,7 +29,7 @@ is_index p = str_eq_ignore_ascii_case p.name (codes "index")
 abbrev pub index_of : List Param → List ℕ
 index_of ps = unwrap_or (param_value (codes "index") ps) []
 
--- the parameters but the first index
+-- the parameters except the first index
 abbrev pub but_index : List Param → List Param
 but_index [] = []
 but_index (p ∷ ps) = if is_index p then ps else p ∷ but_index ps
@@ -90,7 +90,7 @@ marked_at n [] = []
 marked_at zero (e ∷ es) = hidden_entry e ∷ es
 marked_at (suc n) (e ∷ es) = e ∷ marked_at n es
 
--- a list that is not empty, or its first entry
+-- a list that is not empty, or one with the first URI as its first entry
 abbrev pub started : List ℕ → List Entry → List Entry
 started from [] = entry_with from (codes "1") [] ∷ []
 started from (e ∷ es) = e ∷ es
@@ -114,7 +114,7 @@ with_target h target cause hide_last = hidden_if hide_last (length h - 1) h ++ t
 unfoldable pub appended : List Entry → List ℕ → List ℕ → ℕ → Bool → List Entry
 appended h from target cause hide_last = with_target (started from h) target cause hide_last
 
--- the list as the 181 about its last diversion tells it: the diverting entry, which is the last but one, and the target's, the last, are hidden too where so wished; in a
+-- the list as the 181 about its last diversion shows it: the diverting entry, which is the last but one, and the target's, the last, are also hidden where requested; in a
 -- list of one entry both are that one (TS 24.604 §4.5.2.6)
 abbrev pub told_to_caller : Bool → Bool → List Entry → List Entry
 told_to_caller hide_diverting hide_target h = hidden_if hide_target (length h - 1) (hidden_if hide_diverting (length h - 2) h)
@@ -125,13 +125,13 @@ told_to_caller hide_diverting hide_target h = hidden_if hide_target (length h - 
 abbrev pub diversions_in : List Entry → ℕ
 diversions_in h = count_by (λ e. is_some e.cause) h
 
--- the diversions of a call so far, as they count against the bound: those that the received list tells, and those that were made since
+-- the diversions of a call so far, as they count against the bound: those that the received list shows, and those that were made since
 abbrev pub diversions_so_far : List Entry → ℕ → ℕ
 diversions_so_far received made = diversions_in received + made
 
 -- ---- masks
 
--- nobody's URI: it stands for a URI that is not shown (RFC 3323 §4.1.1.3)
+-- the anonymous URI, which replaces a URI that is not shown (RFC 3323 §4.1.1.3)
 abbrev pub anonymous : List ℕ
 anonymous = codes "sip:anonymous@anonymous.invalid"
 
@@ -146,9 +146,9 @@ masked_entry all e = if all || e.hidden then record e { uri = masked_uri e.cause
 abbrev pub masked_list : Bool → List Entry → List Entry
 masked_list all h = map (masked_entry all) h
 
--- ---- words of the laws
+-- ---- words of the theorems
 
--- bytes that may stand between the brackets of a name-addr
+-- bytes that may occur between the brackets of a name-addr
 abbrev pub IsUriText : List ℕ → Type 0
 IsUriText uri = IsOneOrMore UriByte uri
 
@@ -164,7 +164,7 @@ abbrev pub AreReadable : List Entry → Type 0
 AreReadable [] = Unit {0}
 AreReadable (e ∷ es) = IsReadable e × AreReadable es
 
--- a URI to which a call may be diverted by a cause: it can stand in an entry, and the cause has three digits
+-- a URI to which a call may be diverted by a cause: it can be written in an entry, and the cause has three digits
 pub record IsTarget (target : List ℕ) (cause : ℕ) : Type 0 where
   pub uri : IsUriText target
   pub low : 100 ≤ cause
@@ -174,15 +174,15 @@ pub record IsTarget (target : List ℕ) (cause : ℕ) : Type 0 where
 abbrev pub written : Entry → Entry
 written e = record e { uri = shown_uri e }
 
--- an entry but for its mark
+-- an entry apart from its mark
 abbrev pub unmarked : Entry → Entry
 unmarked e = record e { hidden = false }
 
--- an entry that is hidden, where it was not already, if this says so
+-- an entry that is also hidden if the flag says so
 abbrev pub also_hidden : Bool → Entry → Entry
 also_hidden hide e = record e { hidden = hide || e.hidden }
 
--- an entry but for its URI and its mark, where it is hidden or all are
+-- an entry apart from its URI and its mark, where it is hidden or all are
 abbrev pub seen_entry : Bool → Entry → Entry
 seen_entry all e = if all || e.hidden then record e { uri = []; hidden = true } else e
 

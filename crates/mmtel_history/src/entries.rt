@@ -12,7 +12,7 @@ use mmtel_message::is_place;
 use mmtel_scan::{NoMemory, Text};
 use std::alloc::Global;
 
-/// Nobody's URI: it stands for a URI that is not shown (RFC 3323 §4.1.1.3).
+/// The anonymous URI, which replaces a URI that is not shown (RFC 3323 §4.1.1.3).
 pub const ANONYMOUS: &[u8] = b"sip:anonymous@anonymous.invalid";
 
 /// An entry of History-Info (RFC 7044 §5): a target of the call.
@@ -20,7 +20,7 @@ pub const ANONYMOUS: &[u8] = b"sip:anonymous@anonymous.invalid";
 pub struct Entry {
     /// The target's URI, as it was received or given.
     pub uri: Text,
-    /// Where the entry stands in the tree of targets: dotted numbers.
+    /// The place of the entry in the tree of targets: numbers separated by dots.
     pub index: Text,
     /// The cause of the diversion that led to the target (RFC 4458), where one did.
     pub cause: Option<u16>,
@@ -35,7 +35,7 @@ impl Entry {
     ///
     /// # Errors
     ///
-    /// Want of memory alone.
+    /// Out of memory only.
     pub fn copied(&self, alloc: Global) -> Result<Entry, NoMemory>
         ensures same { IfOk result (λ e. e ≡ self.now) }
     {
@@ -59,7 +59,7 @@ fn is_index(param: &Param) -> bool
     param.name.bytes().eq_ignore_ascii_case(b"index")
 }
 
-/// Where the first index stands.
+/// The place of the first index.
 fn index_place(params: &[Param]) -> Option<usize>
     ensures others { MatchOption result (but_index params.now ≡ params.now) (λ n. but_index params.now ≡ take n params.now ++ drop (n + 1) params.now) }
     ensures within { IfSome result (λ n. n < length params.now) }
@@ -72,7 +72,7 @@ fn index_place(params: &[Param]) -> Option<usize>
     None
 }
 
-/// The text of the parameters but the first index.
+/// The text of the parameters except the first index.
 fn other_params(alloc: Global, params: &[Param]) -> Result<Text, NoMemory>
     ensures { IfOk result (λ t. t ≡ params_text (but_index params.now)) }
 {
@@ -89,7 +89,7 @@ fn other_params(alloc: Global, params: &[Param]) -> Result<Text, NoMemory>
     Ok(out)
 }
 
-/// The entry of a URI, which says its cause and its mark.
+/// The entry of a URI, which determines its cause and its mark.
 fn entry_with(uri: Text, index: Text, rest: Text) -> Entry
     ensures { result ≡ entry_with uri index rest }
 {
@@ -113,7 +113,7 @@ pub fn first_entry(alloc: Global, uri: &[u8]) -> Result<Entry, NoMemory>
     Ok(entry_with(uri, index, Text::new()))
 }
 
-/// The entry of a name-addr whose first index has dotted numbers.
+/// The entry of a name-addr whose first index is numbers separated by dots.
 fn entry_in(alloc: Global, name_addr: NameAddr) -> Result<Entry, LexFault>
     ensures { Gives (λ x. x) result (entry_in name_addr) }
 {
@@ -161,7 +161,7 @@ fn value_of(alloc: Global, entry: &Entry) -> Result<Text, NoMemory>
 ///
 /// # Errors
 ///
-/// Want of memory alone.
+/// Out of memory only.
 pub fn write_entry(alloc: Global, entry: &Entry) -> Result<Text, NoMemory>
     ensures text { IfOk result (λ t. t ≡ entry_text entry.now) }
     // It is read again as the same entry, with its URI as it is written.
@@ -192,7 +192,7 @@ pub fn target_entry(
     })
 }
 
-/// Nobody's URI, with the cause.
+/// The anonymous URI, with the cause.
 fn masked_uri(alloc: Global, cause: Option<u16>) -> Result<Text, NoMemory>
     ensures { IfOk result (λ t. t ≡ masked_uri cause) }
 {
@@ -202,7 +202,7 @@ fn masked_uri(alloc: Global, cause: Option<u16>) -> Result<Text, NoMemory>
     }
 }
 
-/// A copy of the entry, with nobody's URI where it is hidden or all are.
+/// A copy of the entry, with the anonymous URI where it is hidden or all are.
 pub fn masked_entry(alloc: Global, entry: &Entry, all: bool) -> Result<Entry, NoMemory>
     ensures { IfOk result (λ e. e ≡ masked_entry all entry.now) }
 {

@@ -37,7 +37,7 @@ const MOST_VALUES: usize = 32;
 ///
 /// # Errors
 ///
-/// The place of the first value that is no entry, or 32 where there are more; and want of memory.
+/// The place of the first value that is no entry, or 32 where there are more; and out of memory.
 pub fn read_values(alloc: Global, values: &List<Text>) -> Result<History, HistoryFault>
     ensures exact { IsReading result (reading values.now) }
     ensures few { IfOk result (λ h. length h ≤ 32) }
@@ -58,7 +58,7 @@ pub fn read_values(alloc: Global, values: &List<Text>) -> Result<History, Histor
     Ok(History { entries })
 }
 
-/// Hides the entry at this place, where it is to be hidden.
+/// Hides the entry at this place, if requested.
 fn hide_if(entries: &mut Vec<Entry>, hide: bool, place: usize)
     requires { place < length entries.old.items }
     ensures { entries.new.items ≡ hidden_if hide place entries.old.items }
@@ -96,7 +96,7 @@ fn add_target(
     Ok(())
 }
 
-/// Adds the first target and the one that it is diverted to.
+/// Adds the first target and the one to which it is diverted.
 #[tactic(auto, unfolding(crate::specs::HistoryInfo::appended))]
 fn add_first(
     entries: &mut Vec<Entry>,
@@ -121,7 +121,7 @@ fn add_first(
     }
 }
 
-/// Adds what one more diversion tells.
+/// Adds what one more diversion contributes.
 #[tactic(auto, unfolding(crate::specs::HistoryInfo::appended))]
 fn extend(
     entries: &mut Vec<Entry>,
@@ -150,7 +150,7 @@ fn count_causes(entries: &[Entry]) -> u16
     entries.iter().filter(|entry| entry.cause.is_some()).count() as u16
 }
 
-/// Hides the entries that a 181 is not to tell: the last but one, and the last.
+/// Hides the entries that a 181 is not to show: the last but one, and the last.
 fn hide_told(entries: &mut Vec<Entry>, hide_diverting: bool, hide_target: bool)
     ensures { entries.new.items ≡ told_to_caller hide_diverting hide_target entries.old.items }
 {
@@ -185,7 +185,7 @@ fn masked_entries(alloc: Global, entries: &[Entry], all: bool) -> Result<Vec<Ent
 }
 
 impl History {
-    /// The list of no entries. It takes no memory.
+    /// An empty list. It allocates nothing.
     pub fn new(alloc: Global) -> History
         ensures { result ≡ [] }
     {
@@ -198,7 +198,7 @@ impl History {
     ///
     /// # Errors
     ///
-    /// Want of memory alone.
+    /// Out of memory only.
     pub fn copied(&self, alloc: Global) -> Result<History, NoMemory>
         ensures same { IfOk result (λ h. h ≡ self.now) }
     {
@@ -219,30 +219,30 @@ impl History {
         requires { place < length self.old }
         ensures marked { self.new ≡ marked_at place self.old }
         ensures len { length self.new ≡ length self.old }
-        // That entry is hidden, and no other is hidden or shown by it.
+        // That entry is hidden, and no other entry is hidden or unhidden by it.
         ensures alone { map (λ e. e.hidden) self.new ≡ slice_set (map (λ e. e.hidden) self.old) place true }
         // Nothing else that is read of the entries changes.
         ensures keeps { map unmarked self.new ≡ map unmarked self.old }
         // A second mark changes nothing.
         ensures once { marked_at place self.new ≡ self.new }
-        // No diversion more is counted.
+        // No further diversion is counted.
         ensures counts { diversions_in self.new ≡ diversions_in self.old }
         ensures readable { AreReadable self.old → AreReadable self.new }
-        // Lists that are masked alike are masked alike after a mark.
+        // Lists with equal masked forms have equal masked forms after a mark.
         ensures masks_alike { (all : Bool) (other : List Entry) → masked_list all other ≡ masked_list all self.old →
             masked_list all self.new ≡ masked_list all (marked_at place other) }
     {
         self.entries[place].hidden = true;
     }
 
-    /// Adds what a diversion to the target, by this cause, tells: an empty list first gets `from`, with index 1; then the last entry is hidden if `hide_last` says so, and
+    /// Adds what a diversion to the target, by this cause, contributes: an empty list first gets `from`, with index 1; then the last entry is hidden if `hide_last` says so, and
     /// the target with its cause is added, below the last entry's index (RFC 7044 §9.2 and §10.3).
     ///
-    /// A cause that the target has of its own is taken out.
+    /// A cause that the target already has is removed.
     ///
     /// # Errors
     ///
-    /// Want of memory alone; the list is then as before.
+    /// Out of memory only; the list is then as before.
     pub fn append(
         &mut self,
         alloc: Global,
@@ -259,7 +259,7 @@ impl History {
         ensures counts { (is_empty self.old ≡ true → cause_of from.now ≡ None) → OnOk result (diversions_in self.new ≡ diversions_in self.old + 1) }
         // What can be read again stays so.
         ensures readable { AreReadable self.old → IsUriText from.now → IsTarget target.now cause → OnOk result (AreReadable self.new) }
-        // Lists that are masked alike are masked alike after one more diversion; so masking before it or after it is one.
+        // Lists with equal masked forms have equal masked forms after one more diversion; so masking before it or after it is the same.
         ensures masks_alike { (all : Bool) (other : List Entry) → masked_list all other ≡ masked_list all self.old →
             OnOk result (masked_list all self.new ≡ masked_list all (appended other from.now target.now cause hide_last)) }
     {
@@ -274,12 +274,12 @@ impl History {
         )
     }
 
-    /// The list as the 181 about its last diversion tells it to the caller: a list of its own, in which the entry of the user who diverted, the last but one, is hidden too
+    /// The list as the 181 about its last diversion shows it to the caller, as a separate list: the entry of the user who diverted, the last but one, is also hidden
     /// if `hide_diverting` says so, and the target's, the last, if `hide_target` does (TS 24.604 §4.5.2.6). Such marks are of that one 181, and this list has none of them.
     ///
     /// # Errors
     ///
-    /// Want of memory alone.
+    /// Out of memory only.
     pub fn told_to_caller(
         &self,
         alloc: Global,
@@ -293,7 +293,7 @@ impl History {
         ensures keeps { IfOk result (λ h. map unmarked h ≡ map unmarked self.now) }
         ensures counts { IfOk result (λ h. diversions_in h ≡ diversions_in self.now) }
         ensures readable { AreReadable self.now → IfOk result (λ h. AreReadable h) }
-        // Lists that are masked alike tell alike what is masked.
+        // Lists with equal masked forms are shown with equal masked forms.
         ensures masks_alike { (all : Bool) (other : List Entry) → masked_list all other ≡ masked_list all self.now →
             IfOk result (λ h. masked_list all h ≡ masked_list all (told_to_caller hide_diverting hide_target other)) }
     {
@@ -302,7 +302,7 @@ impl History {
         Ok(History { entries })
     }
 
-    /// How many entries tell a diversion: those with a cause.
+    /// How many entries show a diversion: those with a cause.
     pub fn diversions(&self) -> u16
         ensures counted { result ≡ diversions_in self.now }
         ensures most { result ≤ length self.now }
@@ -317,17 +317,17 @@ impl History {
     ///
     /// # Errors
     ///
-    /// Want of memory alone.
+    /// Out of memory only.
     pub fn masked(&self, alloc: Global, all: bool) -> Result<History, NoMemory>
         ensures masked { IfOk result (λ h. h ≡ masked_list all self.now) }
         ensures len { IfOk result (λ h. length h ≡ length self.now) }
-        // It does not depend on the URI of a hidden entry beyond its cause: any list that differs only there gives the same.
+        // It does not depend on the URI of a hidden entry except its cause: any list that differs only there gives the same.
         ensures alike { (other : List Entry) → map (seen_entry all) other ≡ map (seen_entry all) self.now → IfOk result (λ h. h ≡ masked_list all other) }
         // Each cause is kept, and each index.
         ensures causes { IfOk result (λ h. map (λ e. e.cause) h ≡ map (λ e. e.cause) self.now) }
         ensures indices { IfOk result (λ h. map (λ e. e.index) h ≡ map (λ e. e.index) self.now) }
         ensures counts { IfOk result (λ h. diversions_in h ≡ diversions_in self.now) }
-        // Masked once is masked.
+        // Masking a second time changes nothing.
         ensures once { IfOk result (λ h. masked_list all h ≡ h) }
         ensures readable { AreReadable self.now → IfOk result (λ h. AreReadable h) }
     {

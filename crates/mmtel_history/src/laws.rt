@@ -1,4 +1,4 @@
-//! Laws of History-Info: each is the contract of a function that does nothing.
+//! Theorems about History-Info, each as the contract of a function that does nothing.
 ghost use Rattle.std.specs.Prelude.{◌≡◌, ◌≤◌, ◌+◌, ℕ, List, Bool, true, false, None, Ok, Err, length, codes, is_some, filter, map, not};
 ghost use Rattle.std.specs.Option.{option_map};
 ghost use Rattle.mmtel_message.specs.Entries.{is_entry, are_entries};
@@ -25,7 +25,7 @@ pub fn values_are_readable()
     histories_are_readable();
 }
 
-/// What a URI is without its causes: the parameters that are none, and all else as it was. One that has no cause stays, and a second time nothing goes.
+/// What a URI is without its causes: the parameters that are no causes, and all else as it was. One that has no cause stays, and a second removal changes nothing.
 pub fn causes_are_taken_out()
     ensures params { (u : List ℕ) → uri_params (without_cause u) ≡ filter (λ p. not (is_cause p)) (uri_params u) }
     ensures user { (u : List ℕ) → user_part (without_cause u) ≡ user_part u }
@@ -42,15 +42,15 @@ pub fn values_are_masked()
     // Index and cause stay.
     ensures index { (v : List ℕ) → option_map (λ e. e.index) (entry_of (masked_value_text v)) ≡ option_map (λ e. e.index) (entry_of v) }
     ensures cause { (v : List ℕ) → option_map (λ e. e.cause) (entry_of (masked_value_text v)) ≡ option_map (λ e. e.cause) (entry_of v) }
-    // It asks no more to be hidden.
+    // It no longer requests to be hidden.
     ensures shown { (v : List ℕ) → is_marked_value (masked_value_text v) ≡ false }
-    // The list of the values as they may be seen is the masked list of the values, and where these cannot be read, those cannot, at the same place.
+    // The list of the values as they may be shown is the masked list of the values, and where these cannot be read, those cannot, at the same place.
     ensures entries { (all : Bool) (vs : List (List ℕ)) → entries_of (map (seen_value all) vs) ≡ masked_list all (entries_of vs) }
     ensures read { (all : Bool) (vs : List (List ℕ)) (h : List Entry) → reading vs ≡ Ok h → reading (map (seen_value all) vs) ≡ Ok (masked_list all h) }
     ensures refused { (all : Bool) (vs : List (List ℕ)) (at : ℕ) → reading vs ≡ Err at → reading (map (seen_value all) vs) ≡ Err at }
 {}
 
-/// What is masked is masked once, and a diversion, a mark or what a 181 tells sees nothing of a list that masking takes away: masking before it or after it is one. Causes
+/// Masking a second time changes nothing, and a diversion, a mark or what a 181 shows does not depend on what masking removes: masking before it or after it is the same. Causes
 /// and indices stay, and with them the count of diversions.
 pub fn masks_are_once()
     ensures once { (all : Bool) (h : List Entry) → masked_list all (masked_list all h) ≡ masked_list all h }
@@ -64,7 +64,7 @@ pub fn masks_are_once()
     ensures counts { (all : Bool) (h : List Entry) → diversions_in (masked_list all h) ≡ diversions_in h }
 {}
 
-/// The count against the bound rises by one with each diversion that is made, and by nothing else; the list of the call tells as many diversions, where a first URI has no
+/// The count against the bound rises by one with each diversion that is made, and by nothing else; the list of the call shows as many diversions, where a first URI has no
 /// cause of its own, and never fewer.
 pub fn diversions_are_counted()
     ensures one_more { (h : List Entry) (made : ℕ) → diversions_so_far h (made + 1) ≡ diversions_so_far h made + 1 }
@@ -77,8 +77,8 @@ pub fn diversions_are_counted()
     ensures never_fewer { (h : List Entry) (from : List ℕ) (ds : List Diversion) → diversions_so_far h (length ds) ≤ diversions_in (after h from ds) }
 {}
 
-/// What is written of a list is read again: the same entries, each with its URI as it is written. A masked list is read again as it is, and what is read again is masked as
-/// the list is.
+/// What is written of a list is read again: the same entries, each with its URI as it is written. A masked list is read again unchanged, and what is read again has the same
+/// masked form as the list.
 pub fn written_lists_are_read()
     ensures entries { (h : List Entry) → AreReadable h → entries_of (map entry_text h) ≡ map written h }
     ensures read { (h : List Entry) → AreReadable h → length h ≤ 32 → reading (map entry_text h) ≡ Ok (map written h) }

@@ -1,4 +1,4 @@
-//! A text cut at an escaped semicolon.
+//! Splitting a text at an escaped semicolon.
 ghost use Rattle.std.specs.Prelude.{◌≡◌, ◌∷◌, [], ◌<◌, ◌≤◌, length, IfSome, MatchOption, take, drop};
 ghost use Rattle.mmtel_history.specs.EntryUri.{begins_escape, escaped_parts};
 

@@ -1,4 +1,4 @@
-//! What an entry's URI says: its cause, and whether it asks to be hidden.
+//! What an entry's URI says: its cause, and whether it requests to be hidden.
 ghost use Rattle.std.specs.Prelude.{◌≡◌, ◌∷◌, [], ◌++◌, ◌≤◌, ◌<◌, not, length, take, drop, filter, IfOk, IfSome, OnOk, Some, false};
 ghost use Rattle.std.specs.List.{list_any, flat_map};
 ghost use Rattle.mmtel_lex.specs.UriPlaces.{parts, front_part};
@@ -84,7 +84,7 @@ fn any_hides(headers: &[u8]) -> bool
     hides(rest)
 }
 
-/// Whether the URI's header part asks that the entry be hidden (RFC 7044 §10.1).
+/// Whether the header part of the URI requests that the entry be hidden (RFC 7044 §10.1).
 #[tactic(auto, unfolding(crate::specs::EntryUri::is_marked))]
 pub fn is_marked(uri: &[u8]) -> bool
     ensures { result ≡ is_marked uri.now }
@@ -121,7 +121,7 @@ fn add_unless_cause(alloc: Global, out: &mut Text, param: &[u8]) -> Result<(), N
     out.push(alloc, param)
 }
 
-/// Adds the parameters that are no causes, each behind its `;`.
+/// Adds the parameters that are no causes, each after its `;`.
 fn add_other_params(alloc: Global, out: &mut Text, params: &[u8]) -> Result<(), NoMemory>
     ensures { OnOk result (out.new ≡ out.old ++ flat_map (λ p. 59 ∷ p) (filter (λ p. not (is_cause p)) (parts 59 params.now))) }
 {
@@ -160,7 +160,7 @@ fn add_cause(alloc: Global, out: &mut Text, cause: Option<u16>) -> Result<(), No
     }
 }
 
-/// The URI with this cause, or with none, in the place of its own.
+/// The URI with this cause, or with none, in place of its own.
 fn caused(alloc: Global, uri: &[u8], cause: Option<u16>) -> Result<Text, NoMemory>
     ensures { IfOk result (λ t. t ≡ with_front (plain (front_part uri.now) ++ cause_text cause) uri.now) }
 {
@@ -181,12 +181,12 @@ fn caused(alloc: Global, uri: &[u8], cause: Option<u16>) -> Result<Text, NoMemor
     Ok(out)
 }
 
-/// The URI without the causes of a diversion that led to it: each parameter `cause` goes, its name in any case of letters (RFC 4458 §2, RFC 3261 §19.1.1).
+/// The URI without the causes of a diversion that led to it: each parameter `cause` is removed, its name in any case of letters (RFC 4458 §2, RFC 3261 §19.1.1).
 /// All else stays as it is.
 ///
 /// # Errors
 ///
-/// Want of memory alone.
+/// Out of memory only.
 pub fn without_cause(alloc: Global, uri: &[u8]) -> Result<Text, NoMemory>
     ensures text { IfOk result (λ t. t ≡ without_cause uri.now) }
     ensures none { IfOk result (λ t. has_cause t ≡ false) }
@@ -196,11 +196,11 @@ pub fn without_cause(alloc: Global, uri: &[u8]) -> Result<Text, NoMemory>
     caused(alloc, uri, None)
 }
 
-/// The URI with `;cause=` and the cause behind its parameters, before its header part (RFC 4458 §2). A cause that it has of its own is taken out first.
+/// The URI with `;cause=` and the cause after its parameters, before its header part (RFC 4458 §2). A cause that it already has is removed first.
 ///
 /// # Errors
 ///
-/// Want of memory alone.
+/// Out of memory only.
 pub fn with_cause(alloc: Global, uri: &[u8], cause: u16) -> Result<Text, NoMemory>
     ensures text { IfOk result (λ t. t ≡ with_cause cause uri.now) }
     // The cause is read again, where it has three digits.

@@ -1,4 +1,4 @@
--- The total function reads what the grammar spells.
+-- The total function accepts what the grammar generates.
 use Rattle.std.proofs.Common.{◌≡◌, ◌<◌, ◌≤◌, ◌+◌, ◌==◌, ◌&&◌, Bool, true, false, ℕ, zero, suc, List, [], ◌∷◌, ◌++◌, length, length-append, Option, Some, None, refl, sym, ap, subst, ◌∙◌, nat_lt, nat_le, arith, inl, inr, codes, append_assoc, cond}
 use Rattle.std.proofs.lemmas.Bool.{cases_Bool, eqb-true, and_parts, ltb-true, leb-true, lt-ltb, le-leb, eq-eqb, or_parts}
 use Rattle.std.proofs.lemmas.List.Elements.{All-nil, All-cons, All-head, All-tail}
@@ -12,7 +12,7 @@ use Rattle.httparse.proofs.PieceLemmas.{space_ends_token, colon_ends_token, prin
 use Rattle.httparse.proofs.GrammarLemmas.{request_pieces, request_from_pieces}
 use Rattle.mmtel_http.specs.Heads.{Reader, read_then, after, line_feed_at, newline_at, blanks_at, run_at, word_at, target_at, minor_at, version_at, text_at, field_at, or_else, lines_at, section_at, Parts, parts_at, head_from, head_of_parts, head_of}
 
--- the reader gives the piece where there is one
+-- the reader returns the element where there is one
 pub record Reads {A : Type 0} (G : Piece A) (read : Reader A) : Type 0 where
   pub sound : (s : List ℕ) (x : A × List ℕ) → read s ≡ Some x → G x.0 s x.1
   pub complete : (a : A) (s r : List ℕ) → G a s r → read s ≡ Some (a, r)
@@ -24,7 +24,7 @@ bind_some (Some x) f y e = (x, refl, e)
 same_some : {A : Type 0} (a b : A) → Some a ≡ Some b → a ≡ b
 same_some a b e = cc
 
--- a test that was passed on the way to an answer
+-- a test that was passed on the way to a result
 passed : {A : Type 0} (b : Bool) (o : Option A) (y : A) → cond b o None ≡ Some y → (b ≡ true) × (o ≡ Some y)
 passed true o y e = (refl, e)
 passed false o y e = absurd cc
@@ -198,7 +198,7 @@ blank_line : (end : LineEnd) (s t : List ℕ) (x : List LineEnd × List ℕ) →
 blank_line crlf s t x e f = rw (e, f) refl
 blank_line lf s t x e f = rw (e, f) refl
 
--- with a CR in front where one came just before
+-- with a CR before it where one came directly before
 abbrev behind : Bool → List ℕ → List ℕ
 behind true s = 13 ∷ s
 behind false s = s

@@ -1,4 +1,4 @@
--- Lines one after another: what is parted at the first LF is the first line, and the lines of what follows it.
+-- Lines one after another: what is split at the first LF is the first line, and the lines of what follows it.
 use Rattle.std.proofs.Common.{◌≡◌, ◌⊎◌, Bool, true, false, ℕ, suc, ◌+◌, ◌==◌, List, [], ◌∷◌, length, take, drop, Option, Some, None, cond, refl, sym, ap, ◌∙◌, nat_lt, arith, inl, inr, subst, Bor, MatchOption}
 use Rattle.std.proofs.lemmas.Bool.{cases_Bool}
 use Rattle.std.specs.Prelude.{position}
@@ -37,7 +37,7 @@ one_more b s line after e first = record {
   count = let c = first.count in omega (arith, c);
 }
 
--- the place of the first LF parts the bytes there
+-- the position of the first LF splits the bytes there
 at_place : (s : List ℕ) (n : ℕ) → position is_feed s ≡ Some n → IsFirstLine s (take n s) (drop (n + 1) s)
 at_place [] n e = absurd cc
 at_place (b ∷ s) n e = by (cases_Bool (b == 10)) (λ m f. at_place s m f)
@@ -97,7 +97,7 @@ pub told : (s : List ℕ) (o : Option (Bor (List ℕ) × Bor (List ℕ))) → op
 told s None e = no_line s (sym e)
 told s (Some x) e = first_line s x.0.now x.1.now (sym e)
 
--- ---- line after line: what was counted, and what the lines that are left come to, is the whole
+-- ---- line after line: what was counted and the count of the remaining lines give the whole
 
 abbrev pub Counted : List ℕ → ℕ → Bool → List ℕ → Type 0
 Counted bytes size seen rest = option_map (λ n. size + n) (head_size seen (lines_of rest)) ≡ head_end bytes
@@ -109,7 +109,7 @@ begins bytes = by (head_end bytes)
     by None = refl
     by (Some n) = ap (λ (m : ℕ). Some m) (omega arith)
 
--- there is always something behind the last LF, if only nothing
+-- there is always something after the last LF, if only no bytes
 not_none : (s : List ℕ) → (next : List ℕ) × (more : List (List ℕ)) × (lines_of s ≡ next ∷ more)
 not_none [] = ([], [], refl)
 not_none (b ∷ s) = by (b == 10) (not_none s)
@@ -119,7 +119,7 @@ not_none (b ∷ s) = by (b == 10) (not_none s)
     by true x = ([], lines_of s, refl)
     by false x = (b ∷ x.0, x.1, rw x.2 refl)
 
--- what the first line and the others come to
+-- the result for the first line and the others
 first_size : (seen : Bool) (rest line after : List ℕ) → IsFirstLine rest line after
     → head_size seen (lines_of rest) ≡ option_map_or (λ s. option_map (λ n. length line + 1 + n) (head_size s (lines_of after))) (seen_after seen line) (Some (length line + 1))
 first_size seen rest line after first =

@@ -1,4 +1,4 @@
--- The places of the routes.
+-- The resources of the routes.
 use Rattle.std.proofs.Common.{◌≡◌, ◌⊎◌, ℕ, ◌==◌, ◌&&◌, List, [], ◌∷◌, Option, Some, None, Bool, true, false, cond, refl, codes, inl, inr, IsUtf8, length, nat_lt, not, ◌∙◌}
 use Rattle.std.proofs.lemmas.Bool.{cases_Bool, eqb-true}
 use Rattle.std.specs.Prelude.{if◌then◌else◌}

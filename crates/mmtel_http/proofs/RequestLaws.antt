@@ -1,4 +1,4 @@
--- What a head is, by the total function; and the window in which a head ends.
+-- The head by the total function; and the window within which a head ends.
 use Rattle.std.proofs.Common.{◌≡◌, ◌<◌, ◌≤◌, ◌∙◌, ◌==◌, ◌&&◌, false, ℕ, List, [], length, take, drop, Option, Result, Some, None, Ok, Err, refl, sym, ap, subst, arith, append-nil}
 use Rattle.std.proofs.lemmas.Bool.{eq-eqb, le-ltb, lt-ltb, ne_eqb}
 use Rattle.std.proofs.lemmas.List.{drop_all, length-map, length-take, length-take-le}
@@ -16,7 +16,7 @@ use Rattle.mmtel_http.specs.Requests.{Request, bad, unfinished, by_head, window,
 use Rattle.mmtel_http.specs.Seen.{IsHeadAt}
 use Rattle.mmtel_http.proofs.HeadLaws.{head_sound, head_complete}
 
--- a head of the grammar that the parser found, where it ends with the bytes and there is room for so many fields
+-- a head of the grammar that the parser found, where it ends with the bytes and has no more fields than there is space for
 pub head_found : (head : List ℕ) (spans : List HeaderSpan) (parts : RequestSpans) → length spans ≡ 64 → parts.len ≡ length head → IsRequestOf head spans parts
     → IsHeadAt head spans parts
 head_found head spans parts room whole (h, at) = (h, head_complete head h reads few, at)
@@ -36,7 +36,7 @@ head_found head spans parts room whole (h, at) = (h, head_complete head h reads 
           length-take parts.headers spans,
         )
 
--- what the parser answers of a head
+-- the result of the parser for a head
 found_of : (head : List ℕ) (h : RequestHead) (spans : List HeaderSpan) (answer : Result (Status RequestSpans) Error) → ReadsRequest head h []
     → IsCompleteAnd answer (λ parts. IsRequestAt head spans parts h) → IsCompleteAnd answer (λ parts. parts.len ≡ length head)
 found_of head h spans (Ok (Complete parts)) reads at = at.len ∙ ap length (sym (append-nil (print_request h)) ∙ sym reads.1)

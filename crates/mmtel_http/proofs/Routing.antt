@@ -13,14 +13,14 @@ use Rattle.mmtel_http.specs.Places.{has_slash, numbered_route, route_of, segment
 use Rattle.mmtel_http.specs.declared.routes.Route.{Route}
 use Rattle.mmtel_http.specs.declared.routes.Route.TheVariants as route
 
--- what a path names: the charging rows, the record or the mailbox that this segment names, or nothing
+-- the resource of a path: the charging rows, the record or the mailbox that this segment names, or none
 data Named : Type 0 where
   charges : Named
   sheet : List ℕ → Named
   mailbox : List ℕ → Named
   nothing : Named
 
--- the text behind a front, byte after byte
+-- the text after a prefix, byte by byte
 abbrev after : List ℕ → List ℕ → Option (List ℕ)
 after [] text = Some text
 after (p ∷ ps) [] = None
@@ -47,7 +47,7 @@ slash-same : (path : List ℕ) → seek_words.has_slash path ≡ has_slash path
 slash-same [] = refl
 slash-same (b ∷ path) = rw (slash-same path)
 
--- what follows a word is small where the text is
+-- what follows a word is short where the text is
 after-small : (w path rest : List ℕ) → after w path ≡ Some rest → ((i : ℕ) → get_or path i 0 < 256) → (i : ℕ) → get_or rest i 0 < 256
 after-small [] path rest e small = let same : path ≡ rest = cc in rw (← same) small
 after-small (x ∷ w) [] rest e small = cc
@@ -100,7 +100,7 @@ module _ {K : Type 0} where
   rest-none : (b : ℕ) (path : List ℕ) → seek_words.or_else (seek ((param_step {K = K} [] (b ∷ path)).0 - 1) (param_step {K = K} [] (b ∷ path)).1 path) None ≡ None
   rest-none b path = rw (param-none (b ∷ path)) (ap (λ o. seek_words.or_else o None) (seek-none _ path))
 
-  -- one row that goes on with a byte
+  -- one row that continues with a byte
   seek-byte : (x : ℕ) (t : List ℕ) (k : K) (b : ℕ) (path : List ℕ) → x < 256
       → seek 0 ((x ∷ t, k) ∷ []) (b ∷ path) ≡ cond (x == b) (seek 0 ((t, k) ∷ []) path) None
   unfolding seek
@@ -109,7 +109,7 @@ module _ {K : Type 0} where
       let q : (x == 257) ≡ false = grind (arith, nat_tests) in
       rw (p, q, rest-none b path) (or-none _ ∙ pick-rows (x == b) ((t, k) ∷ []) path)
 
-  -- of three rows one goes on at most
+  -- of three rows at most one continues
   apart-rows : (c d e : Bool) (s t u : List ℕ) (k l m : K) (path : List ℕ) → (c ≡ true → d ≡ false) → (c ≡ true → e ≡ false) → (d ≡ true → e ≡ false)
       → seek 0 (cond c ((s, k) ∷ cond d ((t, l) ∷ cond e ((u, m) ∷ []) []) (cond e ((u, m) ∷ []) [])) (cond d ((t, l) ∷ cond e ((u, m) ∷ []) []) (cond e ((u, m) ∷ []) []))) path
       ≡ cond c (seek 0 ((s, k) ∷ []) path) (cond d (seek 0 ((t, l) ∷ []) path) (cond e (seek 0 ((u, m) ∷ []) path) None))
@@ -124,7 +124,7 @@ module _ {K : Type 0} where
   same-rows true s t u k l m path = refl
   same-rows false s t u k l m path = seek-none 0 path
 
-  -- three rows that go on with the same byte
+  -- three rows that continue with the same byte
   seek-same : (x : ℕ) (s t u : List ℕ) (k l m : K) (b : ℕ) (path : List ℕ) → x < 256
       → seek 0 ((x ∷ s, k) ∷ (x ∷ t, l) ∷ (x ∷ u, m) ∷ []) (b ∷ path) ≡ cond (x == b) (seek 0 ((s, k) ∷ (t, l) ∷ (u, m) ∷ []) path) None
   unfolding seek
@@ -133,7 +133,7 @@ module _ {K : Type 0} where
       let q : (x == 257) ≡ false = grind (arith, nat_tests) in
       rw (p, q, rest-none b path) (or-none _ ∙ same-rows (x == b) s t u k l m path)
 
-  -- three rows that go on with three bytes
+  -- three rows that continue with three bytes
   seek-apart : (x y z : ℕ) (s t u : List ℕ) (k l m : K) (b : ℕ) (path : List ℕ) → x < 256 → y < 256 → z < 256
       → (x == y) ≡ false → (x == z) ≡ false → (y == z) ≡ false
       → seek 0 ((x ∷ s, k) ∷ (y ∷ t, l) ∷ (z ∷ u, m) ∷ []) (b ∷ path)
@@ -149,7 +149,7 @@ module _ {K : Type 0} where
       rw (p, q, p', q', p'', q'', rest-none b path)
       (or-none _ ∙ apart-rows (x == b) (y == b) (z == b) s t u k l m path (λ e. grind (arith, nat_tests, e, xy)) (λ e. grind (arith, nat_tests, e, xz)) (λ e. grind (arith, nat_tests, e, yz)))
 
-  -- what a row that goes on with these bytes finds
+  -- what a row that continues with these bytes finds
   abbrev after_or : Option (List ℕ) → (List ℕ → Option K) → Option K
   after_or None f = None
   after_or (Some rest) f = f rest
@@ -243,7 +243,7 @@ module _ {K : Type 0} where
         | false ↦ refl
       ])
 
--- ---- in the words of the definition
+-- ---- in the terms of the definition
 
 flip : (x y : ℕ) → (x == y) ≡ (y == x)
 flip x y = by (cases_Bool (y == x))
@@ -259,7 +259,7 @@ one_shorter a b = by (cases_Bool (nat_lt a b))
     by (inl e) = grind (arith, nat_tests, e)
     by (inr e) = grind (arith, nat_tests, e)
 
--- a byte of the front is tested before the others
+-- a byte of the prefix is tested before the others
 first_byte : (short same more : Bool) (o : Option (List ℕ)) → cond short None (cond (same && more) o None) ≡ cond same (cond short None (cond more o None)) None
 first_byte true true more o = refl
 first_byte true false more o = refl

@@ -29,7 +29,7 @@ joined_first b (l ∷ []) [] = refl
 joined_first b (l ∷ []) (m ∷ ms) = refl
 joined_first b (l ∷ k ∷ ls) ms = refl
 
--- the bytes behind a line's end begin a line
+-- the bytes after a line's end begin a line
 joined_end : (ls ms : List (List ℕ)) → (first : List ℕ) (others : List (List ℕ)) → ls ≡ first ∷ others → joined ([] ∷ ls) ms ≡ [] ∷ joined ls ms
 joined_end ls ms first others is = rw is refl
 
@@ -59,7 +59,7 @@ joined_some l [] [] = (l, [], refl)
 joined_some l [] (m ∷ ms) = (l ++ m, ms, refl)
 joined_some l (k ∷ ls) ms = (l, joined (k ∷ ls) ms, refl)
 
--- the size of a head by what its first line shows
+-- the size of a head by its first line
 abbrev size_by : Option Bool → List ℕ → List (List ℕ) → Option ℕ
 size_by seen line lines = option_map_or (λ s. option_map (λ n. length line + 1 + n) (head_size s lines)) seen (Some (length line + 1))
 
@@ -133,7 +133,7 @@ size_within (line ∷ next ∷ more) seen n e = size_by_within (seen_after seen 
 pub end_within : (s : List ℕ) (n : ℕ) → head_end s ≡ Some n → n ≤ length s
 end_within s n e = let less = size_within (lines_of s) false n e in let all = total_lines s in omega (arith, less, all)
 
--- ---- what is asked
+-- ---- the request
 
 abbrev fields_of : RequestHead → List (List ℕ × List ℕ)
 fields_of h = map name_and_value h.fields
@@ -187,7 +187,7 @@ take_past (suc n) (x ∷ xs) ys less =
     let same : n - length xs ≡ suc n - length (x ∷ xs) = omega arith in
     ap (λ (l : List ℕ). x ∷ l) (take_past n xs ys (omega (arith, less)) ∙ ap (λ (k : ℕ). xs ++ take k ys) same)
 
--- what stands in the window of more bytes begins with what stands in that of fewer
+-- the window of more bytes begins with the window of fewer
 window_more : (front more : List ℕ) → (rest : List ℕ) × (take window (front ++ more) ≡ take window front ++ rest)
 window_more front more = elim (cases_Bool (nat_lt (length front) window)) [
   | inl y ↦

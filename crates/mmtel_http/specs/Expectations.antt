@@ -1,4 +1,4 @@
--- Whether a client waits with its body until it is told to go on (RFC 9110 §10.1.1).
+-- Whether a client waits for 100 (Continue) before it sends its body (RFC 9110 §10.1.1).
 use Rattle.std.specs.Prelude.{ℕ, ◌==◌, ◌&&◌, Bool, false, List, length, take, map, Some, None, codes}
 use Rattle.std.specs.declared.option.Option.{Option}
 use Rattle.std.specs.List.{list_any}
@@ -8,7 +8,7 @@ use Rattle.httparse.specs.Spans.{name_and_value}
 use Rattle.mmtel_http.specs.Heads.{head_of}
 use Rattle.mmtel_http.specs.Requests.{head_end, window}
 
--- a field that says so, without case
+-- a field that says so, case-insensitive
 abbrev pub is_expectation : List ℕ × List ℕ → Bool
 is_expectation field = str_eq_ignore_ascii_case field.0 (codes "expect") && str_eq_ignore_ascii_case field.1 (codes "100-continue")
 
@@ -22,6 +22,6 @@ abbrev pub expects_at : List ℕ → Option ℕ → Bool
 expects_at bytes None = false
 expects_at bytes (Some n) = n == length bytes && expects (head_of bytes)
 
--- the bytes are such a head, and nothing of the body has come
+-- the bytes are such a head, and nothing of the body has been received
 unfoldable pub waits_to_go_on : List ℕ → Bool
 waits_to_go_on bytes = expects_at bytes (head_end (take window bytes))

@@ -1,5 +1,5 @@
--- What a request target names, and which methods the server knows there (RFC 9110 §7.1 and §9.3): the charging rows, or the service record or the mailbox of an account by its
--- number.
+-- The resource of a request target, and the methods that the server knows there (RFC 9110 §7.1 and §9.3): the charging rows, or the service record or the mailbox of an account by
+-- its number.
 use Rattle.std.specs.Prelude.{ℕ, ◌==◌, ◌&&◌, ◌-◌, ◌^◌, Bool, true, false, not, List, [], ◌∷◌, length, Some, None, if◌then◌else◌, nat_lt, codes}
 use Rattle.std.specs.declared.option.Option.{Option}
 use Rattle.std.specs.List.{list_all}
@@ -17,7 +17,7 @@ use Rattle.mmtel_http.specs.declared.places.Method.TheVariants as method
 use Rattle.mmtel_http.specs.declared.routes.Route.{Route}
 use Rattle.mmtel_http.specs.declared.routes.Route.TheVariants as route
 
--- a number in decimal, without zeros in front
+-- a number in decimal, without leading zeros
 abbrev pub is_decimal : List ℕ → Bool
 is_decimal s = not (leads_zero s) && (nat_lt 0 (length s) && list_all (in_class Digit) s)
 
@@ -28,28 +28,28 @@ account number = record { 0 = number }
 abbrev pub account_of : List ℕ → Option Account
 account_of digits = option_map account (number_of (2 ^ 32 - 1) digits)
 
--- a place by what stands behind `/simservs/`: the record of the account of this number
+-- a resource by what follows `/simservs/`: the record of the account of this number
 abbrev pub numbered : Option (List ℕ) → Place
 numbered None = place.Elsewhere
 numbered (Some digits) = if is_decimal digits then place.Sheet (account_of digits) else place.Elsewhere
 
--- a place by what stands behind `/mailbox/`: the mailbox of the account of this number
+-- a resource by what follows `/mailbox/`: the mailbox of the account of this number
 abbrev pub numbered_mailbox : Option (List ℕ) → Place
 numbered_mailbox None = place.Elsewhere
 numbered_mailbox (Some digits) = if is_decimal digits then place.Mailbox (account_of digits) else place.Elsewhere
 
--- by what stands behind `/simservs/`, or else behind `/mailbox/`
+-- by what follows `/simservs/`, or else what follows `/mailbox/`
 abbrev pub sheet_or_mailbox : (sheet mailbox : Option (List ℕ)) → Place
 sheet_or_mailbox None mailbox = numbered_mailbox mailbox
 sheet_or_mailbox (Some digits) mailbox = numbered (Some digits)
 
--- the place of a path, byte for byte
+-- the resource of a path, byte for byte
 abbrev pub path_place : List ℕ → Place
 path_place path =
     if bytes_eq path (codes "/charges") then place.Charges
     else sheet_or_mailbox (after_text (codes "/simservs/") path) (after_text (codes "/mailbox/") path)
 
--- the place of a target: one that is not UTF-8, which no head has, names nothing
+-- the resource of a target: one that is not UTF-8, which no head has, names none
 abbrev pub place_of : List ℕ → Place
 place_of target = if is_utf8 target then path_place target else place.Elsewhere
 
@@ -61,19 +61,19 @@ method_of name =
     else if bytes_eq name (codes "DELETE") then method.Delete
     else method.Other
 
--- ---- used between the functions of this crate alone
+-- ---- used between the functions of this crate only
 
 abbrev pub has_slash : List ℕ → Bool
 has_slash [] = false
 has_slash (b ∷ s) = if b == 47 then true else has_slash s
 
--- a route whose path is begun, where one segment stands behind its begin
+-- a route whose path begins so, where one segment follows
 abbrev pub segment_route : Route → Option (List ℕ) → Option Route
 segment_route which None = None
 segment_route which (Some []) = None
 segment_route which (Some (b ∷ s)) = if has_slash (b ∷ s) then None else Some which
 
--- that of a record, behind `/simservs/`, or else that of a mailbox, behind `/mailbox/`
+-- that of a record, after `/simservs/`, or else that of a mailbox, after `/mailbox/`
 abbrev pub numbered_route : (sheet mailbox : Option (List ℕ)) → Option Route
 numbered_route None mailbox = segment_route route.Mailbox mailbox
 numbered_route (Some digits) mailbox = segment_route route.Sheet (Some digits)

@@ -1,4 +1,4 @@
--- What the bytes of a connection ask, as an HTTP/1.1 request (RFC 9112): nothing yet, nothing that is understood, too much, or something.
+-- What the bytes of a connection contain as an HTTP/1.1 request (RFC 9112): an unfinished one, a malformed one, one that is too large, or a whole one.
 use Rattle.std.specs.Prelude.{◌≡◌, ℕ, ◌+◌, ◌==◌, ◌&&◌, Bool, true, false, List, [], ◌∷◌, length, take, drop, map, Some, None, if◌then◌else◌, nat_lt, nat_le, codes}
 use Rattle.std.specs.declared.option.Option.{Option}
 use Rattle.std.specs.List.{list_all}
@@ -13,8 +13,8 @@ use Rattle.mmtel_http.specs.Heads.{head_of}
 use Rattle.mmtel_http.specs.declared.wholes.Whole.{Whole}
 use Rattle.mmtel_http.specs.declared.wholes.Whole.TheVariants.{More, Done, Bad, Large}
 
--- what is asked: the method, the target, the one value of the field of the asserted identity (3GPP TS 24.109 §6) and of Content-Type where there is exactly one, the body,
--- and of how many bytes it is
+-- a request: the method, the target, the one value of the field of the asserted identity (3GPP TS 24.109 §6) and of Content-Type where there is exactly one, the body, and its
+-- length in bytes
 pub record Asking : Type 0 where
   pub method : List ℕ
   pub target : List ℕ
@@ -31,7 +31,7 @@ pub data Request : Type 0 where
 
 -- ---- the end of a head
 
--- the bytes parted at each LF: lines without it, and last what no LF ends
+-- the bytes split at each LF: lines without it, and last what no LF ends
 abbrev pub with_first : ℕ → List (List ℕ) → List (List ℕ)
 with_first b [] = (b ∷ []) ∷ []
 with_first b (line ∷ lines) = (b ∷ line) ∷ lines
@@ -46,11 +46,11 @@ is_empty_line [] = true
 is_empty_line (b ∷ []) = b == 13
 is_empty_line (b ∷ c ∷ s) = false
 
--- whether a line that is not empty has come once this line has; nothing where the head ends with it
+-- whether a line that is not empty has come once this line has; None where the head ends with it
 abbrev pub seen_after : Bool → List ℕ → Option Bool
 seen_after seen line = if is_empty_line line then (if seen then None else Some false) else Some true
 
--- how many bytes the lines have, with their LFs, through the first empty one behind one that is not empty; the flag says that such a one came before
+-- how many bytes the lines have, with their LFs, through the first empty one after one that is not empty; the flag says that such a one came before
 abbrev pub head_size : Bool → List (List ℕ) → Option ℕ
 head_size seen [] = None
 head_size seen (rest ∷ []) = None
@@ -61,14 +61,14 @@ head_size seen (line ∷ next ∷ more) =
 abbrev pub head_end : List ℕ → Option ℕ
 head_end bytes = head_size false (lines_of bytes)
 
--- used between the functions of this crate alone: the first line of the bytes, and what follows it
+-- used between the functions of this crate only: the first line of the bytes, and what follows it
 pub record IsFirstLine (s line after : List ℕ) : Type 0 where
   pub lines : lines_of s ≡ line ∷ lines_of after
   pub count : length s ≡ length line + 1 + length after
 
 -- ---- fields
 
--- the values of the fields of a name, without case, in order
+-- the values of the fields of a name, case-insensitive, in order
 abbrev pub values_named : List ℕ → List (List ℕ × List ℕ) → List (List ℕ)
 values_named name [] = []
 values_named name (f ∷ rest) =
@@ -81,11 +81,11 @@ sole [] = None
 sole (v ∷ []) = Some v
 sole (v ∷ w ∷ rest) = None
 
--- digits alone, one or more
+-- digits only, one or more
 abbrev pub is_number : List ℕ → Bool
 is_number v = nat_lt 0 (length v) && list_all (in_class Digit) v
 
--- the greatest body
+-- the maximum length of a body
 abbrev pub greatest : ℕ
 greatest = 65536
 
@@ -128,7 +128,7 @@ abbrev pub by_head : Option RequestHead → ℕ → List ℕ → Request
 by_head None len rest = bad
 by_head (Some h) len rest = by_fields h.method h.target (map name_and_value h.fields) len rest
 
--- the bytes in which a head has to end
+-- the bytes within which a head has to end
 abbrev pub window : ℕ
 window = 8192
 
@@ -136,7 +136,7 @@ abbrev pub by_end : List ℕ → Option ℕ → Request
 by_end bytes None = if nat_lt window (length bytes) then bad else unfinished
 by_end bytes (Some n) = by_head (head_of (take n bytes)) n (drop n bytes)
 
--- what the bytes ask
+-- the request that the bytes contain
 unfoldable pub request_of : List ℕ → Request
 request_of bytes = by_end bytes (head_end (take window bytes))
 

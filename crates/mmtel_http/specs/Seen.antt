@@ -1,4 +1,4 @@
--- What the program holds of a request, as the definitions have it.
+-- A request of the program as a value of the definitions.
 use Rattle.std.specs.Prelude.{◌≡◌, List, ℕ, [], ◌∷◌, Some}
 use Rattle.std.specs.Option.{option_copied}
 use Rattle.httparse.specs.Grammar.{RequestHead}
@@ -29,7 +29,7 @@ seen request.Bad = spec.bad
 seen request.Large = spec.large
 seen (request.Asked a) = spec.asked (asking a)
 
--- what a search has found of all values, where the rest is still to be looked at
+-- what a search has found of all values, where the rest is still to be searched
 abbrev pub Reads : List (List ℕ) → List (List ℕ) → Found → Type 0
 Reads all rest Absent = all ≡ rest
 Reads all rest (One v) = all ≡ v.now ∷ rest
@@ -38,6 +38,6 @@ Reads all rest Many = (v : List ℕ) × (w : List ℕ) × (more : List (List ℕ
 abbrev pub IsFound : List (List ℕ) → Found → Type 0
 IsFound all found = Reads all [] found
 
--- the bytes are a head, and its pieces are there
+-- the bytes are a head, and its parts are at these spans
 abbrev pub IsHeadAt : List ℕ → List HeaderSpan → RequestSpans → Type 0
 IsHeadAt head spans parts = (h : RequestHead) × (head_of head ≡ Some h) × IsRequestAt head spans parts h

@@ -1,10 +1,10 @@
--- A request stands once it is whole: what follows it on its connection is not looked at.
+-- A request does not change once it is whole: what follows it on its connection has no effect.
 use Rattle.std.specs.Prelude.{◌≡◌, ◌<◌, ◌+◌, ℕ, List, ◌++◌, length}
 use Rattle.mmtel_http.specs.Requests.{greatest, request_of, unfinished, window}
 
 abbrev pub WholeRequestsStand : Type 0
 WholeRequestsStand = (front more : List ℕ) → (request_of front ≡ unfinished → ⊥) → request_of (front ++ more) ≡ request_of front
 
--- one that is not yet whole has fewer bytes than the greatest head and the greatest body have
+-- one that is not yet whole has fewer bytes than the largest head and the largest body together
 abbrev pub UnfinishedIsShort : Type 0
 UnfinishedIsShort = (bytes : List ℕ) → request_of bytes ≡ unfinished → length bytes < window + greatest + 1

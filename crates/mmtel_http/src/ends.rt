@@ -11,7 +11,7 @@ fn first_line(bytes: &[u8]) -> Option<(&[u8], &[u8])>
     part(b'\n', bytes)
 }
 
-/// Whether nothing, or a CR alone, stands before the LF of a line.
+/// Whether the line has nothing, or a CR alone, before its LF.
 fn is_empty_line(line: &[u8]) -> bool
     ensures { result ≡ is_empty_line line.now }
 {
@@ -35,7 +35,7 @@ fn seen_after(seen: bool, line: &[u8]) -> Option<bool>
     }
 }
 
-/// The length of the head that the bytes begin with, where they hold its end.
+/// The length of the head at the beginning of the bytes, where they have its end.
 #[tactic(auto, using(crate::proofs::LineLaws::begins, crate::proofs::LineLaws::ends, crate::proofs::LineLaws::goes_on, crate::proofs::LineLaws::never))]
 pub fn head_end(bytes: &[u8]) -> Option<usize>
     ensures value { result ≡ head_end bytes.now }

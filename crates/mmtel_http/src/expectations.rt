@@ -1,4 +1,4 @@
-//! Whether a client waits with its body.
+//! Whether a client waits for 100 (Continue) before it sends its body.
 ghost use Rattle.std.specs.Prelude.{◌≡◌, length, map, All};
 ghost use Rattle.std.specs.List.{list_any};
 ghost use Rattle.httparse.specs.Spans.{header_bytes, IsHeaderWithin};
@@ -8,7 +8,7 @@ ghost use Rattle.mmtel_http.specs.Heads.{head_of};
 use crate::heads::{end, spans_of};
 use httparse::spans::{EMPTY_HEADER_SPAN, HeaderSpan};
 
-/// Whether a field says that the client waits until it is told to go on.
+/// Whether a field says that the client waits for 100 (Continue).
 fn is_expectation(head: &[u8], span: HeaderSpan) -> bool
     requires { IsHeaderWithin (length head.now) span }
     ensures { result ≡ is_expectation (header_bytes head.now span) }
@@ -41,9 +41,9 @@ fn expects(head: &[u8]) -> bool
     }
 }
 
-/// Whether the bytes of a connection are a head alone whose client waits with its body until it is told to go on (RFC 9110 §10.1.1). It takes no memory.
+/// Whether the bytes of a connection are a head alone whose client waits for 100 (Continue) before it sends its body (RFC 9110 §10.1.1). It allocates nothing.
 ///
-/// Whether a body is to come is not asked here: `whole` says whether more bytes are needed.
+/// Whether a body is to follow is not checked here: `whole` says whether more bytes are needed.
 pub fn waits_to_go_on(bytes: &[u8]) -> bool
     ensures exact { result ≡ waits_to_go_on bytes.now }
 {

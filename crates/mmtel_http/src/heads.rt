@@ -1,4 +1,4 @@
-//! The head that the bytes of a connection begin with: where it ends, and where its pieces are.
+//! The head at the beginning of the bytes of a connection: where it ends, and where its parts are.
 ghost use Rattle.std.specs.Prelude.{◌≡◌, ◌≤◌, length, take, None, IfSome, MatchOption};
 ghost use Rattle.httparse.specs.Spans.{IsRequestWithin};
 ghost use Rattle.mmtel_http.specs.Heads.{head_of};
@@ -10,7 +10,7 @@ use httparse::Status;
 use httparse::spans::{HeaderSpan, RequestSpans, parse_request};
 use mmtel_types::limits::WEB_HEAD_BYTES;
 
-/// The bytes in which a head has to end.
+/// The bytes within which a head has to end.
 fn window(bytes: &[u8]) -> &[u8]
     ensures front { result.now ≡ take window bytes.now }
     ensures within { length result.now ≤ length bytes.now }
@@ -30,7 +30,7 @@ pub fn end(bytes: &[u8]) -> Option<usize>
     head_end(window(bytes))
 }
 
-/// Where the pieces of a head are, those of its fields in `spans`; None where the bytes are no head.
+/// Where the parts of a head are, those of its fields in `spans`; None where the bytes are no head.
 pub fn spans_of(head: &[u8], spans: &mut [HeaderSpan; 64]) -> Option<RequestSpans>
     ensures within { IfSome result (IsRequestWithin head.now spans.new) }
     ensures exact { MatchOption result (head_of head.now ≡ None) (IsHeadAt head.now spans.new) }

@@ -1,4 +1,4 @@
-//! HTTP requests and replies (RFC 9112): whether bytes are a whole request, and what it asks, of which place and by which method; the text of a reply.
+//! HTTP requests and replies (RFC 9112): whether bytes are a whole request, and its resource and method; the text of a reply.
 #![tactic(auto)]
 
 mod ends;

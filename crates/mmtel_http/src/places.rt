@@ -1,4 +1,4 @@
-//! What a request names.
+//! The resource and the method of a request.
 ghost use Rattle.std.specs.Prelude.{◌≡◌, IfOk, codes};
 ghost use Rattle.mmtel_scan.specs.Scanning.{after_text};
 ghost use Rattle.mmtel_http.specs.Places.{account_of, is_decimal, numbered, numbered_mailbox, path_place, place_of, method_of, route_of};
@@ -9,7 +9,7 @@ use mmtel_scan::{Class, NoMemory, is_all, leads_zero, number_up_to, skip_text};
 use mmtel_types::Account;
 use std::alloc::Global;
 
-/// What a request target names.
+/// The resource that a request target names.
 #[derive(Clone, Copy, Debug, PartialEq, Eq)]
 pub enum Place {
     /// The charging rows.
@@ -18,11 +18,11 @@ pub enum Place {
     Sheet(Option<Account>),
     /// The mailbox of this account; None where no account can have the number.
     Mailbox(Option<Account>),
-    /// Nothing.
+    /// None.
     Elsewhere,
 }
 
-/// What is to be done there (RFC 9110 §9.3).
+/// The operation on it (RFC 9110 §9.3).
 #[derive(Clone, Copy, Debug, PartialEq, Eq)]
 pub enum Method {
     /// Read it.
@@ -31,7 +31,7 @@ pub enum Method {
     Put,
     /// Empty it.
     Delete,
-    /// Something else.
+    /// Another method.
     Other,
 }
 
@@ -49,7 +49,7 @@ fn account_of(digits: &[u8]) -> Option<Account>
     Some(Account(number as u32))
 }
 
-/// The record whose number stands behind the path of records.
+/// The record whose number follows the path of records.
 fn numbered(target: &[u8]) -> Place
     ensures { result ≡ numbered (after_text (codes "/simservs/") target.now) }
 {
@@ -59,7 +59,7 @@ fn numbered(target: &[u8]) -> Place
     }
 }
 
-/// The mailbox whose number stands behind the path of mailboxes.
+/// The mailbox whose number follows the path of mailboxes.
 fn numbered_mailbox(target: &[u8]) -> Place
     ensures { result ≡ numbered_mailbox (after_text (codes "/mailbox/") target.now) }
 {
@@ -69,7 +69,7 @@ fn numbered_mailbox(target: &[u8]) -> Place
     }
 }
 
-/// The place of a path that has this route.
+/// The resource of a path that has this route.
 #[tactic(auto, using(crate::proofs::PathLaws::nothing_there, crate::proofs::PathLaws::charges_there, crate::proofs::PathLaws::sheet_there, crate::proofs::PathLaws::mailbox_there))]
 fn place_by(route: Option<Route>, path: &[u8]) -> Place
     requires { route ≡ route_of path.now }
@@ -83,7 +83,7 @@ fn place_by(route: Option<Route>, path: &[u8]) -> Place
     }
 }
 
-/// The place of a path.
+/// The resource of a path.
 fn path_place(alloc: Global, path: &str) -> Result<Place, NoMemory>
     ensures { IfOk result (λ place. place ≡ path_place path.now) }
 {
@@ -91,11 +91,11 @@ fn path_place(alloc: Global, path: &str) -> Result<Place, NoMemory>
     Ok(place_by(route, path.as_bytes()))
 }
 
-/// What a target names, byte for byte.
+/// The resource that a target names, byte for byte.
 ///
 /// # Errors
 ///
-/// Want of memory alone.
+/// Out of memory only.
 #[tactic(auto, using(crate::proofs::PathLaws::of_text, crate::proofs::PathLaws::of_no_text))]
 pub fn place_of(alloc: Global, target: &[u8]) -> Result<Place, NoMemory>
     ensures exact { IfOk result (λ place. place ≡ place_of target.now) }
@@ -125,7 +125,7 @@ fn known(method: &http::Method) -> Method
 ///
 /// # Errors
 ///
-/// Want of memory alone.
+/// Out of memory only.
 #[tactic(auto, using(crate::proofs::MethodLaws::no_token))]
 pub fn method_of(alloc: Global, name: &[u8]) -> Result<Method, NoMemory>
     ensures exact { IfOk result (λ method. method ≡ method_of name.now) }

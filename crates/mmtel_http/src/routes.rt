@@ -18,7 +18,7 @@ pub enum Route {
     Mailbox,
 }
 
-/// The route that a router gives for a path.
+/// The route that a router returns for a path.
 fn matched(router: &Router<Route>, path: &str) -> Option<Route>
     ensures { MatchOption (first router.now path.now) (result ≡ None) (λ route. result ≡ Some route.value) }
 {
@@ -43,7 +43,7 @@ fn routed(alloc: Global, path: &str) -> Result<Option<Route>, InsertError>
 ///
 /// # Errors
 ///
-/// Want of memory alone: the routes do not conflict.
+/// Out of memory only: the routes do not conflict.
 pub fn route_of(alloc: Global, path: &str) -> Result<Option<Route>, NoMemory>
     ensures { IfOk result (λ route. route ≡ route_of path.now) }
 {

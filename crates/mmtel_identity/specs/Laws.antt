@@ -1,11 +1,11 @@
--- What the definitions of restriction come to, in the subject's words.
+-- The theorems about restriction, in the terms of the standards.
 use Rattle.std.specs.Prelude.{◌≡◌, ◌↔◌, ◌⊎◌, true, false, Option, Some, None}
 use Rattle.mmtel_types.specs.declared.privacy.PrivacySet.{PrivacySet}
 use Rattle.mmtel_sheet_values.specs.declared.values.Restriction.{Restriction}
 use Rattle.mmtel_sheet_values.specs.declared.values.Sheet.{Sheet}
 use Rattle.mmtel_identity.specs.Restriction.{is_restricted, is_caller_restricted, is_callee_restricted}
 
--- one of the three words that hide stands in Privacy
+-- one of the three words that restrict is in Privacy
 abbrev pub HasHidingWord : PrivacySet → Type 0
 HasHidingWord words = (words.id ≡ true) ⊎ (words.user ≡ true) ⊎ (words.header ≡ true)
 
@@ -13,15 +13,15 @@ HasHidingWord words = (words.id ≡ true) ⊎ (words.user ≡ true) ⊎ (words.h
 abbrev pub HasNoHidingWord : PrivacySet → Type 0
 HasNoHidingWord words = (words.id ≡ false) × (words.user ≡ false) × (words.header ≡ false)
 
--- the service is there in its permanent mode
+-- the service is active in its permanent mode
 abbrev pub IsPermanent : Restriction → Type 0
 IsPermanent service = (service.active ≡ true) × (service.permanent ≡ true)
 
--- the service is there in its temporary mode, and restricts where the user asks nothing
+-- the service is active in its temporary mode, and restricts where the user requests nothing
 abbrev pub IsTemporary : Restriction → Type 0
 IsTemporary service = (service.active ≡ true) × (service.permanent ≡ false) × (service.by_default ≡ true)
 
--- a hiding word restricts, whatever the record says
+-- a restricting word restricts, whatever the record says
 abbrev pub WordsRestrict : Type 0
 WordsRestrict = (words : PrivacySet) (sheet : Option Sheet) → HasHidingWord words → (is_caller_restricted words sheet ≡ true) × (is_callee_restricted words sheet ≡ true)
 
@@ -30,7 +30,7 @@ pub record PermanentRestricts : Type 0 where
   pub caller : (words : PrivacySet) (sheet : Sheet) → IsPermanent sheet.oir → is_caller_restricted words (Some sheet) ≡ true
   pub callee : (words : PrivacySet) (sheet : Sheet) → IsPermanent sheet.tir → is_callee_restricted words (Some sheet) ≡ true
 
--- where no word and no active service asks for it, nothing is restricted
+-- where neither a word nor an active service requires it, nothing is restricted
 pub record UnaskedIsFree : Type 0 where
   pub unserved : (words : PrivacySet) → HasNoHidingWord words → (is_caller_restricted words None ≡ false) × (is_callee_restricted words None ≡ false)
   pub caller : (words : PrivacySet) (sheet : Sheet) → HasNoHidingWord words → sheet.oir.active ≡ false → is_caller_restricted words (Some sheet) ≡ false

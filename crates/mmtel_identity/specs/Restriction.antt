@@ -7,11 +7,11 @@ use Rattle.mmtel_types.specs.declared.sides.Side.TheVariants.{Caller, Callee}
 use Rattle.mmtel_sheet_values.specs.declared.values.Restriction.{Restriction}
 use Rattle.mmtel_sheet_values.specs.declared.values.Sheet.{Sheet}
 
--- a word asks that the identity is hidden
+-- a word requests that the identity is hidden
 abbrev pub hides_itself : PrivacySet → Bool
 hides_itself words = words.id || words.user || words.header
 
--- the service restricts: always in its permanent mode, and in its temporary mode where it restricts by default and the word `none` does not take that away
+-- the service restricts: always in its permanent mode, and in its temporary mode where it restricts by default and Privacy does not have the word `none`
 abbrev pub service_restricts : PrivacySet → Restriction → Bool
 service_restricts words service = service.active && (service.permanent || (service.by_default && not words.none))
 
@@ -29,7 +29,7 @@ abbrev pub is_callee_restricted : PrivacySet → Option Sheet → Bool
 is_callee_restricted words None = hides_itself words
 is_callee_restricted words (Some sheet) = is_restricted words sheet.tir
 
--- the party of the sheet, which is on this side of the call, is shown the identity of the other side
+-- the identity of the other side is presented to the party of the sheet, which is on this side of the call
 abbrev pub is_presented : Option Sheet → Side → Bool
 is_presented None side = true
 is_presented (Some sheet) Callee = sheet.oip

@@ -1,23 +1,23 @@
-//! What the restriction of an identity comes to. These are laws, and no code.
+//! The theorems about restriction, without code.
 ghost use Rattle.mmtel_identity.specs.Laws.{WordsRestrict, PermanentRestricts, UnaskedIsFree, HasThreeGrounds};
 
-/// The words `id`, `user` and `header` of Privacy restrict the identity that they come with, whatever the record says.
+/// The words `id`, `user` and `header` of Privacy restrict the identity with which they come, whatever the record says.
 pub fn privacy_words_restrict()
     ensures law { WordsRestrict }
 {}
 
-/// A restriction service that is active and permanent restricts, whatever words Privacy has, `none` too.
+/// A restriction service that is active and permanent restricts, whatever words Privacy has, including `none`.
 pub fn permanent_mode_restricts()
     ensures law { PermanentRestricts }
 {}
 
-/// An identity for which neither the words of Privacy nor an active service ask anything is not restricted.
+/// An identity for which neither the words of Privacy nor an active service require a restriction is not restricted.
 pub fn nothing_asked_is_not_restricted()
     ensures law { UnaskedIsFree }
 {}
 
-/// An identity is restricted on one of three grounds, and on no other: by a word of Privacy, by the permanent mode, or by the temporary mode where that restricts by
-/// default and `none` does not stand against it.
+/// An identity is restricted on one of three grounds, and on no other: by a word of Privacy, by the permanent mode, or by the temporary mode where that restricts by default and
+/// Privacy does not have `none`.
 pub fn restriction_has_three_grounds()
     ensures law { HasThreeGrounds }
 {}

@@ -1,5 +1,5 @@
-//! Whose identity is restricted, and who is shown whose: the presentation and restriction of identities (TS 24.607, TS 24.608), and the trust domain over plain values (RFC
-//! 3325).
+//! Whose identity is restricted, and to whom which identity is presented: the presentation and restriction of identities (TS 24.607, TS 24.608), and the trust domain over plain
+//! values (RFC 3325).
 #![tactic(auto)]
 
 mod laws;

@@ -6,7 +6,7 @@ ghost use Rattle.mmtel_identity.specs.Restriction.{hides_itself, is_restricted, 
 use mmtel_sheet_values::{Restriction, Sheet};
 use mmtel_types::{PrivacySet, Side};
 
-/// Whether the words of Privacy ask that the identity is kept from whoever is not trusted.
+/// Whether the words of Privacy request that the identity is withheld from parties that are not trusted.
 fn hides_itself(p: &PrivacySet) -> bool
     ensures { result ≡ hides_itself p.now }
 {
@@ -48,8 +48,8 @@ pub fn callee_restricted(p: &PrivacySet, s: Option<&Sheet>) -> bool
     }
 }
 
-/// Whether the party on this side, whose sheet it is, is shown the identity of the other side: the called party by the presentation of the originating identity (TS 24.607
-/// §4.5.2), the caller by that of the terminating identity (TS 24.608 §4.5.2). It is where there is no sheet.
+/// Whether the identity of the other side is presented to the party on this side, whose sheet is given: to the called party by the presentation of the originating identity (TS
+/// 24.607 §4.5.2), to the caller by that of the terminating identity (TS 24.608 §4.5.2). Without a sheet it is presented.
 pub fn present_to(s: Option<&Sheet>, side: Side) -> bool
     ensures exact { result ≡ is_presented (option_copied s.entry) side }
 {

@@ -1,4 +1,4 @@
-//! Whom the server trusts and believes, and whose identity is shown to whom (RFC 3324, RFC 3325, RFC 3323).
+//! Which peers are trusted, and which identities are passed on to which peers (RFC 3324, RFC 3325, RFC 3323).
 ghost use Rattle.std.specs.Prelude.{◌≡◌};
 ghost use Rattle.mmtel_identity.specs.TrustDomain.{if_trusted, is_in_trust_domain, shows_identity, unless_restricted};
 
@@ -11,7 +11,7 @@ pub fn is_in_trust_domain(known: Peer, trusted: bool, peer: Peer) -> bool
     known.0 == peer.0 && trusted
 }
 
-/// What a peer says of somebody, which is believed of a trusted one alone (RFC 3324 §2.3, RFC 5502 §7.2).
+/// What a peer asserts of a user, which is accepted from a trusted peer alone (RFC 3324 §2.3, RFC 5502 §7.2).
 pub fn if_trusted<T: Drop>(trusted: bool, said: Option<T>) -> Option<T>
     ensures exact { result ≡ if_trusted trusted said }
 {
@@ -21,7 +21,7 @@ pub fn if_trusted<T: Drop>(trusted: bool, said: Option<T>) -> Option<T>
     said
 }
 
-/// Whether the asserted identities of a message are passed on (RFC 3325 §5 and §7): those of a trusted peer, where the identity of the sender is presented to the other side,
+/// Whether the asserted identities of a message are passed on (RFC 3325 §5 and §7): those from a trusted peer, where the identity of the sender is presented to the other side,
 /// and, where the sender is restricted, to trusted peers alone.
 pub fn shows_identity(from_trusted: bool, present: bool, to_trusted: bool, restricted: bool) -> bool
     ensures exact { result ≡ shows_identity from_trusted present to_trusted restricted }
@@ -29,7 +29,7 @@ pub fn shows_identity(from_trusted: bool, present: bool, to_trusted: bool, restr
     from_trusted && present && (to_trusted || !restricted)
 }
 
-/// What names somebody, unless that one is restricted (RFC 3323 §4.1).
+/// What identifies a user, unless that user is restricted (RFC 3323 §4.1).
 pub fn unless_restricted<T: Drop>(restricted: bool, name: Option<T>) -> Option<T>
     ensures exact { result ≡ unless_restricted restricted name }
 {

@@ -1,4 +1,4 @@
--- A text that is put is one account's, and so is the record that it says.
+-- A text that is put is one account's, and so is its sheet.
 use Rattle.std.proofs.Common.{◌≡◌, ◌≢◌, ◌==◌, ◌++◌, ◌∙◌, true, false, ℕ, ◌+◌, List, [], ◌∷◌, ◌<◌, take, get_or, length, add-one, Option, Some, None, refl, sym, ap, subst, inl, inr}
 use Rattle.std.specs.Prelude.{cond, unwrap_or}
 use Rattle.std.specs.Option.{option_map}
@@ -33,7 +33,7 @@ module _ (its : PutsItsOwn) (others : PutsNoOther) where
   text_of_number : (a b : Account) (text : List ℕ) (s : Texts) → a.0 ≡ b.0 → text_at (put a text s) b ≡ Some text
   text_of_number a b text s same = let P : ℕ → Type 0 = λ n. text_at (put a text s) (record { 0 = n }) ≡ Some text in subst P same (its a text s)
 
-  -- tables that agree go on agreeing
+  -- tables that agree still agree after a put
   pub agree_on : (a : Account) (text : List ℕ) (s : Texts) (v : InForce) (sheet : Sheet)
       → ((b : ℕ) → a.0 ≢ b → sheet_in (with_sheet v a.0 sheet) b ≡ sheet_in v b) → sheet_in (with_sheet v a.0 sheet) a.0 ≡ Some sheet
       → sheet ≡ kept_sheet text → ((b : Account) → sheet_in v b.0 ≡ option_map kept_sheet (text_at s b)) → (b : Account) → sheet_in (with_sheet v a.0 sheet) b.0 ≡ option_map kept_sheet (text_at (put a text s) b)
@@ -54,7 +54,7 @@ each_last (y ∷ xs) t x = each_last xs (put y.0 y.1 t) x
 
 -- ---- registrations
 
--- one more registration is the account's from then on
+-- a registration that is added is the account's from then on
 pub ends_on : (view : InForce) (a : Account) (until : ℕ) (rs : Registrations) → ((b : Account) → end_in view b.0 ≡ end_at rs b)
     → (b : Account) → end_in (with_end view a.0 (Some until)) b.0 ≡ end_at ((a, until) ∷ rs) b
 ends_on view a until rs same b =
@@ -77,7 +77,7 @@ loads_one xs i x t less is e =
     let next : take (i + 1) xs ≡ take i xs ++ x ∷ [] = rw add-one (take-suc xs i x less ∙ ap (λ (y : Account × List ℕ). take i xs ++ y ∷ []) (sym is)) in
     ap (put x.0 x.1) e ∙ (sym (each_last (take i xs) [] x) ∙ ap (λ (l : Texts). put_each l []) (sym next))
 
--- where nothing was ever said
+-- where no record was uploaded and no registration has an end
 pub no_sheet : (account : Account) → sheet_in nothing_in_force account.0 ≡ None
 no_sheet account = get-empty nat_cmp account.0
 

@@ -9,16 +9,16 @@ use Rattle.mmtel_types.specs.declared.numbers.Account.{Account}
 abbrev pub Texts : Type 0
 Texts = List (Account × List ℕ)
 
--- these put over the texts, in their order: of an account's the last one counts
+-- these put over the texts, in their order: the last one of an account counts
 abbrev pub put_each : Texts → Texts → Texts
 put_each [] texts = texts
 put_each (text ∷ others) texts = put_each others (put text.0 text.1 texts)
 
--- the record that is in force for an account: of a text that is no record, and without one, that of an account which never said anything
+-- the record that is in force for an account: of a text that is no record, and without one, that of an account without a record
 abbrev pub record_of : Texts → Account → Sheet
 record_of texts account = kept_sheet (unwrap_or (text_at texts account) [])
 
--- what was kept, if anything, is put over what was there
+-- what was stored, if anything, is put over what was there
 abbrev pub put_kept : Option (Account × List ℕ) → Texts → Texts
 put_kept None texts = texts
 put_kept (Some upload) texts = put upload.0 upload.1 texts

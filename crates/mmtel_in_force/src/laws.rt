@@ -1,4 +1,4 @@
-//! Laws of the texts and records in force: each is the contract of a function that does nothing.
+//! Theorems about the texts and records in force: each is the contract of a function that does nothing.
 ghost use Rattle.std.specs.Prelude.{◌≡◌, ◌++◌, ◌≢◌, ℕ, List, [], Some};
 ghost use Rattle.mmtel_in_force.specs.Texts.{Registrations, Texts, end_at, put_each, record_of};
 ghost use Rattle.mmtel_sheet_grammar.specs.Texts.{kept_sheet};
@@ -7,7 +7,7 @@ ghost use Rattle.mmtel_types.specs.declared.numbers.Account.{Account};
 
 use mmtel_sheet_texts::laws::puts_change_one_account;
 
-/// A law, and no code: what is put is in force for its account from then on, and for no other account anything changes.
+/// A theorem, without code: what is put is in force for its account from then on, and for no other account anything changes.
 pub fn puts_are_in_force()
     ensures its { (a : Account) (text : List ℕ) (texts : Texts) → record_of (put a text texts) a ≡ kept_sheet text }
     ensures others { (a b : Account) (text : List ℕ) (texts : Texts) → a.0 ≢ b.0 → record_of (put a text texts) b ≡ record_of texts b }

@@ -1,4 +1,4 @@
-//! The records that are in force, each with its text and as what it says, and the registrations.
+//! The records that are in force, each with its text and its sheet, and the registrations.
 #![tactic(auto)]
 
 pub mod laws;

@@ -19,9 +19,9 @@ use mmtel_uploads::laws::the_empty_text_is_the_empty_sheet;
 use std::alloc::Global;
 use std::marker::Model;
 
-/// The records that are in force, each with its text and as what it says, and until when each account is registered.
+/// The records that are in force, each with its text and its sheet, and until when each account is registered.
 ///
-/// Contracts see both tables. That each account's record is that of its text is so always.
+/// In contracts it is seen as both tables. It is an invariant that each account's sheet is that of its text.
 #[derive(Drop)]
 pub struct Records {
     texts: SheetTexts,
@@ -48,7 +48,7 @@ impl Model for Records {
 }
 
 impl Records {
-    /// No text, and no registration that has an end. It takes no memory.
+    /// No text, and no registration that has an end. It allocates nothing.
     pub fn new(alloc: Global) -> Records
         ensures nothing { result ≡ nothing_held }
     {
@@ -58,11 +58,11 @@ impl Records {
         }
     }
 
-    /// Puts a text in the place of the account's, and what it says in force.
+    /// Puts a text in place of the account's previous one, and its sheet in force.
     ///
     /// # Errors
     ///
-    /// Want of memory alone; nothing that is said has then changed.
+    /// Out of memory only; no record and no registration has then changed.
     pub fn put(&mut self, alloc: Global, account: Account, text: Text) -> Result<(), NoMemory>
         ensures texts { OnOk result (self.new.texts.texts ≡ put account text self.old.texts.texts) }
         ensures registered { (registrations : Registrations) → IsRegisteredBy self.old registrations → IsRegisteredBy self.new registrations }
@@ -74,11 +74,11 @@ impl Records {
         Ok(())
     }
 
-    /// Makes room for a text and a record of the account, so that a `replace` takes no memory; the record, to be put there. Nothing that is said changes.
+    /// Reserves space for a text and a record of the account, so that a `replace` allocates nothing; returns the record, to be put there. No record and no registration changes.
     ///
     /// # Errors
     ///
-    /// Want of memory alone.
+    /// Out of memory only.
     pub fn make_room(
         &mut self,
         alloc: Global,
@@ -95,7 +95,7 @@ impl Records {
         Ok(shared)
     }
 
-    /// Puts a text in the place of the account's, and what it says in force. It takes no memory: `make_room` made room.
+    /// Puts a text in place of the account's previous one, and its sheet in force. It allocates nothing: `make_room` reserved the space.
     pub fn replace(&mut self, account: Account, text: Text, sheet: SharedSheet)
         requires room { IsTrue (may_put self.old account) }
         requires its { sheet ≡ kept_sheet text }
@@ -108,14 +108,14 @@ impl Records {
         self.texts.replace(account, text);
     }
 
-    /// The texts by account, as they are handed out.
+    /// The texts by account, as they are returned to web requests.
     pub fn texts(&self) -> &SheetTexts
         ensures all { result.now ≡ self.now.texts }
     {
         &self.texts
     }
 
-    /// The record of the account; None where it has none, which means that of an account which never said anything. It takes no memory.
+    /// The record of the account; None where it has none, which means that of an account without a record. It allocates nothing.
     pub fn sheet(&self, account: Account) -> Option<&Sheet>
         ensures exact { unwrap_or (option_copied result) empty_sheet ≡ record_of self.now.texts.texts account }
     {
@@ -123,7 +123,7 @@ impl Records {
         self.view.sheet(account)
     }
 
-    /// The records and the registrations, as calls are told them: each account that has a text has the record that the text is, and no other has one. It takes no memory.
+    /// The records and the registrations, as calls read them: each account that has a text has the sheet of that text, and no other has one. It allocates nothing.
     pub fn view(&self) -> &SheetView
         ensures all { result.now ≡ self.now.view }
         ensures agrees { Agrees self.now }
@@ -135,7 +135,7 @@ impl Records {
     ///
     /// # Errors
     ///
-    /// Want of memory alone; nothing that is said has then changed.
+    /// Out of memory only; no record and no registration has then changed.
     pub fn register(&mut self, account: Account, until: Moment) -> Result<(), NoMemory>
         ensures texts { self.new.texts ≡ self.old.texts }
         ensures registered { OnOk result ((registrations : Registrations) → IsRegisteredBy self.old registrations → IsRegisteredBy self.new ((account, until) ∷ registrations)) }
@@ -144,7 +144,7 @@ impl Records {
         self.view.set_registered(account, Some(until))
     }
 
-    /// Whether an account is registered at a moment: it never was registered, or until a later one. It takes no memory.
+    /// Whether an account is registered at a moment: it never was registered, or until a later one. It allocates nothing.
     pub fn is_registered(&self, account: Account, now: Moment) -> bool
         ensures exact { (registrations : Registrations) → IsRegisteredBy self.now registrations → result ≡ is_registered (end_at registrations account) now }
     {
@@ -155,7 +155,7 @@ impl Records {
     ///
     /// # Errors
     ///
-    /// Want of memory alone.
+    /// Out of memory only.
     pub fn load(alloc: Global, loaded: &[(Account, Text)]) -> Result<Records, NoMemory>
         ensures texts { IfOk result (λ records. records.texts.texts ≡ put_each loaded.now []) }
         ensures registered { IfOk result (λ records. IsRegisteredBy records []) }

@@ -1,4 +1,4 @@
--- What the code decides of a request, as the answer and the course that it is; and who has a dialog.
+-- What the code decides of a request, as the response and the disposition of the definitions; and the owner of a dialog.
 use Rattle.mmtel_run.specs.Answers.{Answer}
 use Rattle.mmtel_run.specs.Refusals.{Course, Refuse, Enter, EnterRoom, Open, OpenRoom, JoinRoom, Register, Subscribe, EnterBox}
 use Rattle.mmtel_run.specs.Rooms.{Holder, InBox, InCall, InRoom}

@@ -1,4 +1,4 @@
--- The name of a dialog that the code read, as the name that it is.
+-- The name of a dialog that the code read, as that of the definitions.
 use Rattle.mmtel_run.specs.Calls.{DialogName}
 use Rattle.mmtel_intake.specs.declared.dialogs.DialogName as declared
 

@@ -1,4 +1,4 @@
--- What the code read of a Request-URI, as what reading gives.
+-- What the code read of a Request-URI, as the result of reading in the definitions.
 use Rattle.std.specs.Prelude.{Ok, Err}
 use Rattle.std.specs.declared.result.Result.{Result}
 use Rattle.mmtel_lex.specs.Reading.{Refusal, foreign, malformed}

@@ -1,4 +1,4 @@
--- What the code read of a datagram, as the digest that it is.
+-- What the code read of a datagram, as the parsed event of the definitions.
 use Rattle.mmtel_run.specs.Events.{Digest, Nothing, Refused, Heard}
 use Rattle.mmtel_intake.specs.declared.digests.Told.{Told}
 use Rattle.mmtel_intake.specs.declared.digests.Told.TheVariants as told

@@ -1,4 +1,4 @@
-//! What may be done with a request that opens a transaction, and what is answered to it.
+//! The dispositions of a request that opens a transaction, and the server's own responses to it.
 ghost use Rattle.std.specs.Prelude.{◌≡◌, IfOk};
 ghost use Rattle.mmtel_run.specs.Answers.{allowing, further_methods, plainly, too_small};
 ghost use Rattle.mmtel_intake.specs.Courses.{answer_in};
@@ -10,16 +10,16 @@ use mmtel_scan::{List, NoMemory};
 use mmtel_types::{Account, CallNo, RoomNo, Side, SubNo};
 use std::alloc::Global;
 
-/// An answer of the server's own: its status, and the lines that it has of its own.
+/// A response of the server's own: its status, and the header fields that it has of its own.
 #[derive(Drop)]
 pub struct Answer {
     /// The status.
     pub code: u16,
-    /// The lines that are named for it: Allow (RFC 3261 §20.5), Unsupported (§20.40), Min-SE (RFC 4028 §5), Allow-Events or Expires (RFC 6665 §8.2.2, §4.2.1.1).
+    /// The header fields that are particular to it: Allow (RFC 3261 §20.5), Unsupported (§20.40), Min-SE (RFC 4028 §5), Allow-Events or Expires (RFC 6665 §8.2.2, §4.2.1.1).
     pub named: List<Line>,
 }
 
-/// Who has a dialog (RFC 3261 §12).
+/// The owner of a dialog (RFC 3261 §12).
 #[derive(Clone, Copy)]
 pub enum Holder {
     /// A side of a call.
@@ -29,11 +29,11 @@ pub enum Holder {
         /// The side.
         side: Side,
     },
-    /// A seat of a conference room.
+    /// A participant of a conference.
     InRoom {
-        /// The room.
+        /// The conference.
         room: RoomNo,
-        /// The number of the seat.
+        /// The number of the participant.
         seat: u64,
     },
     /// A subscription to a mailbox.
@@ -43,29 +43,29 @@ pub enum Holder {
 /// What is done with a request that opens a transaction.
 #[derive(Drop)]
 pub enum Course {
-    /// It is answered.
+    /// It gets this response.
     Refuse(Answer),
-    /// It is heard in the dialog of this side of a call.
+    /// It is received in the dialog of this side of a call.
     Enter {
         /// The call.
         call: CallNo,
         /// The side.
         side: Side,
     },
-    /// It is heard in the dialog of this seat of a room.
+    /// It is received in the dialog of this participant of a conference.
     EnterRoom {
-        /// The room.
+        /// The conference.
         room: RoomNo,
-        /// The number of the seat.
+        /// The number of the participant.
         seat: u64,
     },
     /// It opens a call.
     Open,
-    /// It opens a room (RFC 4579 §5.4): it offers audio.
+    /// It opens a conference (RFC 4579 §5.4): it offers audio.
     OpenRoom,
-    /// It asks for a seat in this room (RFC 4579 §5.1): it offers audio.
+    /// It asks to join this conference (RFC 4579 §5.1): it offers audio.
     JoinRoom {
-        /// The room, whether it is live or not.
+        /// The conference, whether it is live or not.
         room: RoomNo,
     },
     /// It registers an account for so many seconds.
@@ -77,11 +77,11 @@ pub enum Course {
     },
     /// It subscribes to a mailbox (RFC 6665 §4.2.1).
     Subscribe,
-    /// It is heard in the dialog of this subscription.
+    /// It is received in the dialog of this subscription.
     EnterBox(SubNo),
 }
 
-/// An answer that has no lines of its own.
+/// A response that has no header fields of its own.
 pub fn plainly(code: u16) -> Answer
     ensures answer { answer_in result ≡ plainly code }
 {
@@ -91,7 +91,7 @@ pub fn plainly(code: u16) -> Answer
     }
 }
 
-/// The methods that a server of this configuration knows beside those that it always knows.
+/// The methods that a server of this configuration knows in addition to those that it always knows.
 pub fn further_methods(directory: &Directory) -> FurtherMethods
     ensures methods { result ≡ further_methods directory.now }
 {
@@ -101,7 +101,7 @@ pub fn further_methods(directory: &Directory) -> FurtherMethods
     }
 }
 
-/// An answer with the methods that the server knows (RFC 3261 §20.5).
+/// A response with the methods that the server knows, in Allow (RFC 3261 §20.5).
 pub fn allowing(alloc: Global, directory: &Directory, code: u16) -> Result<Answer, NoMemory>
     ensures { IfOk result (λ answer. answer_in answer ≡ allowing directory.now code) }
 {
@@ -109,7 +109,7 @@ pub fn allowing(alloc: Global, directory: &Directory, code: u16) -> Result<Answe
     Ok(Answer { code, named })
 }
 
-/// The answer to a request that asks for too short a session, with the least interval that is taken (RFC 4028 §6).
+/// The response 422 to a request that asks for too short a session, with the minimum interval in Min-SE (RFC 4028 §6).
 #[tactic(auto, unfolding(mmtel_message::specs::Message::line))]
 pub fn too_small(alloc: Global) -> Result<Answer, NoMemory>
     ensures { IfOk result (λ answer. answer_in answer ≡ too_small) }
@@ -119,7 +119,7 @@ pub fn too_small(alloc: Global) -> Result<Answer, NoMemory>
     Ok(Answer { code: 422, named })
 }
 
-/// The answer to a request that requires what the server does not support, with a line for each option (RFC 3261 §20.40).
+/// The response 420 to a request that requires what the server does not support, with a header field for each option (RFC 3261 §20.40).
 pub fn without_extension(lines: List<Line>) -> Answer
     ensures { answer_in result ≡ record { code = 420; named = lines } }
 {

@@ -1,4 +1,4 @@
-//! An INVITE that opens a call, with what is read of its parties; and whose account somebody is who comes to a room.
+//! An INVITE that opens a call, with what is read of its parties; and the account of a party that joins a conference.
 ghost use Rattle.std.specs.Prelude.{◌≡◌, IfOk};
 ghost use Rattle.mmtel_run.specs.Calls.{arrived, caller_of};
 ghost use Rattle.mmtel_trust.specs.Digest.{caller_account};
@@ -13,7 +13,7 @@ use mmtel_trust::{Accounts, Identities, asserted};
 use mmtel_types::Account;
 use std::alloc::Global;
 
-/// Who the caller is, where the sender is believed (RFC 3325 §9.1).
+/// The identities of the caller, where the sender is trusted (RFC 3325 §9.1).
 fn caller_of(alloc: Global, invite: &Hearing) -> Result<Identities2, NoMemory>
     ensures { IfOk result (λ caller. caller ≡ caller_of invite.now.heard) }
 {
@@ -21,12 +21,12 @@ fn caller_of(alloc: Global, invite: &Hearing) -> Result<Identities2, NoMemory>
     Ok(Identities2 { sip, tel })
 }
 
-/// The signal of an INVITE that opens a call, in this server transaction: whom the server serves, what was said of the registration of its target, and who the caller is
+/// The signal of an INVITE that opens a call, in this server transaction: the served users, the registration of its target, and the identities of the caller
 /// (RFC 5502 §6).
 ///
 /// # Errors
 ///
-/// Want of memory alone.
+/// Out of memory only.
 pub fn arrived(
     alloc: Global,
     accounts: &Accounts,
@@ -46,11 +46,11 @@ pub fn arrived(
     })
 }
 
-/// The account of whoever sent an INVITE (RFC 3325 §9.1, RFC 5502 §6).
+/// The account of the sender of an INVITE (RFC 3325 §9.1, RFC 5502 §6).
 ///
 /// # Errors
 ///
-/// Want of memory alone.
+/// Out of memory only.
 pub fn caller_account(
     alloc: Global,
     accounts: &Accounts,

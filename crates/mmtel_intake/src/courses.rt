@@ -31,25 +31,25 @@ use mmtel_session::{SessionFault, check};
 use mmtel_types::{Addr, RoomNo};
 use std::alloc::Global;
 
-/// What is known of a request beside the message: of transactions, of calls and of rooms.
+/// What is known of a request in addition to the message: from transactions, calls and conferences.
 #[derive(Clone, Copy)]
 pub struct Standing {
     /// Another live transaction has its From tag, Call-ID and CSeq (RFC 3261 §8.2.2.2).
     pub merged: bool,
     /// As many calls live as may.
     pub full: bool,
-    /// Who has the dialog that it names (§12.2.2).
+    /// The owner of the dialog that it names (§12.2.2).
     pub named: Option<Holder>,
 }
 
-/// Whether the digits are the number of a conference room, without leading zeros.
+/// Whether the digits are the number of a conference, without leading zeros.
 fn is_room_number(digits: &[u8]) -> bool
     ensures { result ≡ is_room_number (Some digits.now) }
 {
     !leads_zero(digits) && !digits.is_empty() && is_all(Class::Digit, digits)
 }
 
-/// Whether a user is the name of a conference room.
+/// Whether a user part is the name of a conference.
 fn is_room_user(user: &[u8]) -> bool
     ensures { result ≡ is_room_user (Some user.now) }
 {
@@ -59,7 +59,7 @@ fn is_room_user(user: &[u8]) -> bool
     }
 }
 
-/// Whether a URI is that of a conference room of the server.
+/// Whether a URI is that of a conference of the server.
 fn is_room(alloc: Global, sip: Addr, target: &Uri) -> Result<bool, NoMemory>
     ensures { IfOk result (λ b. b ≡ is_room sip target.now) }
 {
@@ -73,7 +73,7 @@ fn is_room(alloc: Global, sip: Addr, target: &Uri) -> Result<bool, NoMemory>
     }
 }
 
-/// Whether a URI is the one at which rooms are made.
+/// Whether a URI is the conference factory URI.
 fn is_factory(factory: &Option<Uri>, target: &Uri) -> bool
     ensures { result ≡ is_factory factory.now target.now }
 {
@@ -83,7 +83,7 @@ fn is_factory(factory: &Option<Uri>, target: &Uri) -> bool
     }
 }
 
-/// The number of the room that a URI names; 0, which no room has, where that is too great.
+/// The number of the conference that a URI names; 0, which no conference has, where that is too great.
 fn room_number(alloc: Global, sip: Addr, target: &Uri) -> Result<RoomNo, NoMemory>
     ensures { IfOk result (λ room. room ≡ room_number sip target.now) }
 {
@@ -102,7 +102,7 @@ fn with_audio(alloc: Global, request: &Hearing, course: Course) -> Result<Course
     }
 }
 
-/// What is done with an INVITE to nobody of a conference: it opens a call, unless as many live as may.
+/// What is done with an INVITE that is to no conference: it opens a call, unless as many live as may.
 fn opening(full: bool) -> Course
     ensures { course_in result ≡ opening full }
 {
@@ -113,7 +113,7 @@ fn opening(full: bool) -> Course
     }
 }
 
-/// What is done with an INVITE to this URI: it asks for a room, for a seat, or opens a call.
+/// What is done with an INVITE to this URI: it asks for a conference, asks to join one, or opens a call.
 fn invited_to(
     alloc: Global,
     directory: &Directory,
@@ -133,7 +133,7 @@ fn invited_to(
     Ok(opening(full))
 }
 
-/// What is done with an INVITE that is not refused; one whose Request-URI cannot be read is to nobody of a conference.
+/// What is done with an INVITE that is not refused; one whose Request-URI cannot be read is to no conference.
 fn invited(
     alloc: Global,
     directory: &Directory,
@@ -178,7 +178,7 @@ fn by_method(
     }
 }
 
-/// What is done with a request in a dialog: whoever has it hears it.
+/// What is done with a request in a dialog: the owner of the dialog receives it.
 fn in_dialog(holder: Holder) -> Course
     ensures { course_in result ≡ in_dialog (holder_in holder) }
 {
@@ -189,7 +189,7 @@ fn in_dialog(holder: Holder) -> Course
     }
 }
 
-/// Whether a dialog is of no subscription.
+/// Whether a dialog is not that of a subscription.
 fn is_elsewhere(holder: Holder) -> bool
     ensures { result ≡ is_elsewhere (holder_in holder) }
 {
@@ -200,7 +200,7 @@ fn is_elsewhere(holder: Holder) -> bool
     }
 }
 
-/// What is done with a request in a dialog: whoever has it hears it, but for a SUBSCRIBE in that of a call or of a seat (RFC 6665 §4.2.1.2).
+/// What is done with a request in a dialog: the owner of the dialog receives it, but for a SUBSCRIBE in that of a call or of a participant (RFC 6665 §4.2.1.2).
 fn entering(holder: Holder, request: &Hearing) -> Course
     ensures { course_in result ≡ entering (holder_in holder) (public_part request.now.heard) }
 {
@@ -228,7 +228,7 @@ fn course_in_dialog(
     }
 }
 
-/// What is done with a request that is refused for nothing but the session that it may ask for (RFC 4028 §6).
+/// What is done with a request that can only be refused for the session that it may ask for (RFC 4028 §6).
 fn course_in_session(
     alloc: Global,
     directory: &Directory,
@@ -305,7 +305,7 @@ fn decided(
 ///
 /// # Errors
 ///
-/// Want of memory alone.
+/// Out of memory only.
 pub fn course(
     alloc: Global,
     directory: &Directory,
@@ -313,7 +313,7 @@ pub fn course(
     request: &Hearing,
 ) -> Result<Course, NoMemory>
     ensures course { IfOk result (λ c. course_in c ≡ course directory.now standing.now.merged standing.now.full (option_map holder_in standing.now.named) request.now.heard) }
-    // Whoever opens a room or comes to one offers audio.
+    // An INVITE that opens a conference or asks to join one offers audio.
     ensures audio { IfOk result (λ c. is_for_room (course_in c) ≡ true → offers_audio request.now.heard.body ≡ true) }
 {
     rooms_are_for_audio();

@@ -17,11 +17,11 @@ pub struct DialogName {
     pub call_id: Text,
     /// The server's tag.
     pub local: Text,
-    /// The tag of the other side.
+    /// The remote tag.
     pub remote: Text,
 }
 
-/// These bytes, where there are any.
+/// A copy of these bytes, where there are any.
 fn copied(alloc: Global, value: Option<&[u8]>) -> Result<Option<Text>, NoMemory>
     ensures { IfOk result (λ text. text ≡ option_copied value.entry) }
 {
@@ -59,7 +59,7 @@ fn name_by(call_id: Option<Text>, local: Option<Text>, remote: Option<Text>) -> 
 ///
 /// # Errors
 ///
-/// Want of memory alone.
+/// Out of memory only.
 pub fn dialog_name(alloc: Global, message: &Hearing) -> Result<Option<DialogName>, NoMemory>
     ensures name { IfOk result (λ name. option_map name_in name ≡ dialog_name message.now.heard) }
 {

@@ -1,4 +1,4 @@
-//! What is read of a datagram.
+//! Parsing of a datagram.
 ghost use Rattle.std.specs.Prelude.{◌≡◌, IfOk};
 ghost use Rattle.mmtel_message.specs.Reads.{reads};
 ghost use Rattle.mmtel_run.specs.Events.{digest_datagram, digest_from, digest_read, moment_of, refused_by};
@@ -13,16 +13,16 @@ use mmtel_trust::PeerTable;
 use mmtel_types::{Addr, Moment, Peer};
 use std::alloc::Global;
 
-/// What was read of a datagram.
+/// The result of parsing a datagram.
 #[derive(Drop)]
 pub enum Told {
-    /// Nothing: it is dropped.
+    /// Nothing: the datagram is dropped.
     Nothing,
     /// Bytes of a peer that are refused as they are read.
     Refused {
-        /// From whom they came.
+        /// The peer that sent them.
         peer: Peer,
-        /// Where that peer is reached.
+        /// The address from which that peer sent them.
         source: Addr,
         /// The reply that is due, not yet completed for the peer.
         reply: Msg,
@@ -42,7 +42,7 @@ pub fn moment(event: &Event) -> Moment
     }
 }
 
-/// Bytes that are refused: with a reply, where one is due.
+/// The result for bytes that are refused: the reply, where one is due.
 fn refused(peer: Peer, source: Addr, reply: Option<Msg>) -> Told
     ensures { digest_in result ≡ refused_by peer source reply }
 {
@@ -56,7 +56,7 @@ fn refused(peer: Peer, source: Addr, reply: Option<Msg>) -> Told
     }
 }
 
-/// What a peer said from there.
+/// The result for what a peer sent from this address.
 fn told_by(
     alloc: Global,
     peers: &PeerTable,
@@ -81,7 +81,7 @@ fn told_by(
     }
 }
 
-/// What came from there, where this peer is reached, or nobody whom the server knows.
+/// The result for what was sent from this address, by this peer if it is one of those configured.
 fn told_from(
     alloc: Global,
     peers: &PeerTable,
@@ -102,7 +102,7 @@ fn told_from(
 ///
 /// # Errors
 ///
-/// Want of memory alone.
+/// Out of memory only.
 #[tactic(auto, unfolding(mmtel_run::specs::Events::digest_datagram))]
 pub fn digest(
     alloc: Global,

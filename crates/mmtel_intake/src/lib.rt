@@ -1,4 +1,4 @@
-//! What is read of a datagram, decided of a request, and answered to it: the work of a server below its steps.
+//! Parsing of datagrams, the decisions on requests, and the responses to them: the part of the server's work below its steps.
 #![tactic(auto)]
 
 mod answers;

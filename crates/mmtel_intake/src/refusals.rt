@@ -16,7 +16,7 @@ use mmtel_message::{Line, Start, add_bytes, is_method, line_texts};
 use mmtel_scan::{List, NoMemory, number_up_to};
 use std::alloc::Global;
 
-/// What a Request-URI is.
+/// The kinds of Request-URI.
 #[derive(Drop)]
 pub enum Target {
     /// A sip or tel URI.
@@ -27,7 +27,7 @@ pub enum Target {
     Foreign,
 }
 
-/// What the Request-URI of a request is; it is read once.
+/// What kind the Request-URI of a request is; it is read once.
 pub fn read_target(alloc: Global, start: &Start) -> Result<Target, NoMemory>
     ensures { IfOk result (λ target. target_in target ≡ uri_of (request_uri start.now)) }
 {
@@ -72,7 +72,7 @@ pub fn is_known_method(directory: &Directory, start: &Start) -> bool
         || directory.names.mwi && is_method(b"SUBSCRIBE", start)
 }
 
-/// Whether the request may ask for a session with a timer, where sessions have timers (RFC 4028 §3, §7.1).
+/// Whether the request may ask for a session timer, where session timers are switched on (RFC 4028 §3, §7.1).
 pub fn is_timed(directory: &Directory, start: &Start) -> bool
     ensures { result ≡ is_timed directory.now start.now }
 {
@@ -101,7 +101,7 @@ fn is_unsupported(directory: &Directory, option: &[u8]) -> bool
         || directory.timer && option == b"timer".as_slice())
 }
 
-/// A line for each option that a request requires and the server does not support, in received order (RFC 3261 §8.2.2.3, §20.40).
+/// An Unsupported header field for each option that a request requires and the server does not support, in received order (RFC 3261 §8.2.2.3, §20.40).
 #[tactic(auto, unfolding(mmtel_message::specs::Message::line))]
 pub fn unsupported_lines(
     alloc: Global,

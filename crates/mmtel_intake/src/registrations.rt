@@ -1,4 +1,4 @@
-//! What is done with a REGISTER, by which the core tells of a registration (RFC 3261 §10.3; 3GPP TS 24.229 §5.4.1.7, §5.7.1.1).
+//! What is done with a REGISTER, by which the core reports a registration (RFC 3261 §10.3; 3GPP TS 24.229 §5.4.1.7, §5.7.1.1).
 ghost use Rattle.std.specs.Prelude.{◌≡◌, IfOk};
 ghost use Rattle.std.specs.Option.{option_copied};
 ghost use Rattle.mmtel_trust.specs.MaskedMessages.{public_part};
@@ -15,7 +15,7 @@ use mmtel_trust::{Accounts, uri_in};
 use mmtel_types::Account;
 use std::alloc::Global;
 
-/// The seconds of a registration whose request names none.
+/// The seconds of a registration whose request gives none.
 const HOUR: u64 = 3600;
 
 /// The greatest number of seconds that Expires can name (RFC 3261 §20.19).
@@ -64,7 +64,7 @@ fn to_account(
     }
 }
 
-/// The number of seconds that Expires of a request names (RFC 3261 §20.19); None without one, and where it is no number.
+/// The number of seconds that Expires of a request gives (RFC 3261 §20.19); None without one, and where it is no number.
 pub fn expires(request: &Hearing) -> Option<u64>
     ensures { result ≡ request.now.heard.expires }
 {
@@ -97,7 +97,7 @@ fn registration_of(account: Option<Account>, request: &Hearing) -> Course
     }
 }
 
-/// What is done with a REGISTER that is not refused before: a trusted peer registers the account that To names.
+/// What is done with a REGISTER that no earlier rule refuses: a trusted peer registers the account that To names.
 pub fn registration(
     alloc: Global,
     directory: &Directory,

@@ -27,7 +27,7 @@ fn has_no_tag(value: Option<&[u8]>) -> bool
     }
 }
 
-/// Whether To has no tag, so that a response draws one (RFC 3261 §8.2.6.2). It takes no memory.
+/// Whether To has no tag, so that a tag is drawn for the response (RFC 3261 §8.2.6.2). It allocates nothing.
 pub fn is_untagged(message: &Msg) -> bool
     ensures untagged { result ≡ is_none (to_tag_in message.now.lines) }
 {
@@ -38,7 +38,7 @@ pub fn is_untagged(message: &Msg) -> bool
 ///
 /// # Errors
 ///
-/// Want of memory alone.
+/// Out of memory only.
 pub fn response_to(
     alloc: Global,
     sip: Addr,
@@ -57,7 +57,7 @@ pub fn response_to(
     own_answer(alloc, sip, request, tag, own)
 }
 
-/// The phrase of a response; no bytes of a request.
+/// The reason phrase of a response; no bytes for a request.
 fn phrase_in(start: &Start) -> &[u8]
     ensures { result.now ≡ phrase_in start.now }
 {
@@ -68,11 +68,11 @@ fn phrase_in(start: &Start) -> &[u8]
 }
 
 /// The reply to bytes that were refused as they were read, completed for the peer that they came from:
-/// its first Via says from where, and To has this tag where it has none (RFC 3261 §8.2.6.2, §18.2.1).
+/// its first Via gets the address from which they came, and To gets this tag where it has none (RFC 3261 §8.2.6.2, §18.2.1).
 ///
 /// # Errors
 ///
-/// Want of memory alone.
+/// Out of memory only.
 pub fn completed_reply(
     alloc: Global,
     tag: &[u8],

@@ -1,4 +1,4 @@
-//! What is asked with a SUBSCRIBE, and what is answered to it (RFC 6665 §4.2.1; 3GPP TS 24.606).
+//! What a SUBSCRIBE asks for, and the response to it (RFC 6665 §4.2.1; 3GPP TS 24.606).
 ghost use Rattle.std.specs.Prelude.{◌≡◌, IfOk};
 ghost use Rattle.mmtel_mwi.specs.Subscribing.{granted, refusal};
 ghost use Rattle.mmtel_run.specs.Subscriptions.{asking_of, granting, mailbox_named, other_answer, refusing_answer, sender_of};
@@ -17,7 +17,7 @@ use mmtel_trust::asserted;
 use mmtel_types::Account;
 use std::alloc::Global;
 
-/// The account of whoever the sender of a request is asserted to be.
+/// The account of the asserted identity of the sender of a request.
 fn sender_of(
     alloc: Global,
     directory: &Directory,
@@ -35,7 +35,7 @@ fn sender_of(
 ///
 /// # Errors
 ///
-/// Want of memory alone.
+/// Out of memory only.
 pub fn mailbox_named(
     alloc: Global,
     directory: &Directory,
@@ -69,7 +69,7 @@ fn has_one_contact(alloc: Global, request: &Hearing) -> Result<bool, NoMemory>
 ///
 /// # Errors
 ///
-/// Want of memory alone.
+/// Out of memory only.
 pub fn subscribe_refusal(
     alloc: Global,
     directory: &Directory,
@@ -92,18 +92,18 @@ pub fn subscribe_refusal(
     Ok(refusal(&asks))
 }
 
-/// For how many seconds a SUBSCRIBE that is accepted makes a subscription stand.
+/// For how many seconds a SUBSCRIBE that is accepted makes a subscription active.
 pub fn granted_seconds(request: &Hearing) -> u64
     ensures seconds { result ≡ granted request.now.heard.expires }
 {
     granted(expires(request))
 }
 
-/// The answer to a SUBSCRIBE that is refused with this status: with 489 it says which event is known (RFC 6665 §8.2.2).
+/// The response to a SUBSCRIBE that is refused with this status: with 489 it lists the known event (RFC 6665 §8.2.2).
 ///
 /// # Errors
 ///
-/// Want of memory alone.
+/// Out of memory only.
 #[tactic(auto, unfolding(mmtel_message::specs::Message::line))]
 pub fn refusing_answer(alloc: Global, code: u16) -> Result<Answer, NoMemory>
     ensures answer { IfOk result (λ answer. answer_in answer ≡ refusing_answer code) }
@@ -116,11 +116,11 @@ pub fn refusing_answer(alloc: Global, code: u16) -> Result<Answer, NoMemory>
     Ok(Answer { code: 489, named })
 }
 
-/// The answer to a SUBSCRIBE that is accepted for so many seconds (RFC 6665 §4.2.1.1).
+/// The response to a SUBSCRIBE that is accepted for so many seconds (RFC 6665 §4.2.1.1).
 ///
 /// # Errors
 ///
-/// Want of memory alone.
+/// Out of memory only.
 #[tactic(auto, unfolding(mmtel_message::specs::Message::line))]
 pub fn granting(alloc: Global, seconds: u64) -> Result<Answer, NoMemory>
     ensures answer { IfOk result (λ answer. answer_in answer ≡ granting seconds) }
@@ -130,11 +130,11 @@ pub fn granting(alloc: Global, seconds: u64) -> Result<Answer, NoMemory>
     Ok(Answer { code: 200, named })
 }
 
-/// The answer to another request in the dialog of a subscription: 200 to OPTIONS, with what is allowed, 403 to REFER, and else 481.
+/// The response to another request in the dialog of a subscription: 200 to OPTIONS, with the allowed methods, 403 to REFER, and else 481.
 ///
 /// # Errors
 ///
-/// Want of memory alone.
+/// Out of memory only.
 pub fn other_answer(
     alloc: Global,
     directory: &Directory,

@@ -1,4 +1,4 @@
--- What the calls on the end of a journal are, as calls of a history.
+-- The calls on the end of a journal, as calls of a history.
 use Rattle.std.proofs.Common.{ℕ, true, false, List, [], ◌∷◌, ◌++◌, sym, subst}
 use Rattle.std.specs.Prelude.{Result, Ok, Err, OnOk, OnErr, Some, None, Option, option_to_list}
 use Rattle.std.proofs.lemmas.List.{append-nil}
@@ -60,7 +60,7 @@ module _ {D T E : Type 0} (honest : D → Type 0) (may_leave : D → List ℕ �
     any_moment = none_moment honest may_leave clock left_since old new moment;
   }
 
--- a call that was refused before it met the disk
+-- a call that was refused before it reached the disk
 module _ {D : Type 0} (honest : D → Type 0) (may_leave : D → List ℕ → Type 0) (clock : D → ℕ) (left_since : D → ℕ → List ℕ → Type 0)
     (only_now : (d : D) (c : List ℕ) → honest d → left_since d (clock d) c → may_leave d c) (log : Log D) where
   pub untouched : (payload : Option (List ℕ)) → IsCall honest may_leave clock left_since log (record { payload = payload; ok = false }) log

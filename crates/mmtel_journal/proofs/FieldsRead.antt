@@ -23,7 +23,7 @@ use Rattle.mmtel_journal.specs.Fields.{call_at, pair_at, head_at, tail_at, row_f
 use Rattle.mmtel_journal.proofs.Read.{IsBytes, IsBytes-take, guard_some}
 use Rattle.mmtel_journal.proofs.Readers.{Reads, then_is, some_same, rest_bytes, pair_reads, made_reads, turned_reads, other_reads, text_reads, spelled_all}
 
--- a test that lets a value through
+-- a test that a value passes
 let_through : {A : Type 0} (b : Bool) (x y : A) → cond b (Some x) None ≡ Some y → (b ≡ true) × (x ≡ y)
 let_through true x y e = (refl, cc)
 let_through false x y e = absurd cc
@@ -138,7 +138,7 @@ cause_reads =
     (λ n. told_cause n.0 n.1) cause_of
     cause_made cause_given (pair_reads (λ n. n < 256) (λ n. n < 2 ^ 16) (λ n. n ∷ []) (to_be_bytes w16) byte_at (sized_at w16 2) byte_reads reads_16)
 
--- the flag and the moment of an answer
+-- the flag and the moment of the answer time
 abbrev flags : Option ℕ → ℕ × ℕ
 flags None = (0, 0)
 flags (Some moment) = (1, moment)
@@ -290,7 +290,7 @@ row_reads =
     other_reads IsRow IsRow (λ row. parts_spelled (parts_of row)) row_of row_at (λ row is. is) (λ row is. is) row_spelled
     (turned_reads IsParts IsRow parts_spelled (pair_at head_at (pair_at answered_at tail_at)) row_from parts_of row_made row_given parts_reads)
 
--- a text behind its length
+-- a text after its length
 abbrev pub long_spelled : List ℕ → List ℕ
 long_spelled text = to_be_bytes w64 (length text) ++ text
 

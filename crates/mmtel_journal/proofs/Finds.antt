@@ -13,7 +13,7 @@ pub adds_push : (ps : List (List ℕ)) (p : List ℕ) (a b c : Held) → AddsAll
 adds_push [] p a b c same adds = (c, subst (λ h. Adds p h c) same adds, refl)
 adds_push (q ∷ ps) p a b c all adds = (all.0, all.1, adds_push ps p all.0 b c all.2 adds)
 
--- what a payload of the format makes of what is held
+-- the contents after a payload of the format
 adds_some : (payload : List ℕ) (held : Held) → IsPayload payload → (after : Held) × Adds payload held after
 adds_some payload held (inl one) = (with_sheets one.0 held, inl (one.0, one.1, refl))
 adds_some payload held (inr one) = (with_rows one.0 held, inr (one.0, one.1, refl))

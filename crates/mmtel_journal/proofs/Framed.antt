@@ -1,4 +1,4 @@
--- A payload behind its length is read where it stands, and no other.
+-- A payload after its length is read where it is, and no other.
 use Rattle.std.proofs.Common.{◌≡◌, ℕ, ◌<◌, ◌^◌, List, ◌++◌, length, Option, Some, None, sym, ap, subst, ◌∙◌}
 use Rattle.std.specs.Prelude.{IfSome, IfNone}
 use Rattle.std.specs.Int.{w64, to_be_bytes}

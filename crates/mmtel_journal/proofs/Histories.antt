@@ -1,4 +1,4 @@
--- What stands after any list of calls.
+-- The state after any list of calls.
 use Rattle.std.proofs.Common.{ℕ, List, [], ◌∷◌, sym, subst}
 use Rattle.mmtel_journal.specs.Disks.{Leaves, LeavesOnly}
 use Rattle.mmtel_journal.specs.Journal.{IsJournalOrMore}

@@ -1,4 +1,4 @@
--- What a keeper over a journal holds, and what a stop leaves of it, after any list of calls.
+-- The contents of a keeper over a journal, and what a stop leaves of it, after any list of calls.
 use Rattle.std.proofs.Common.{◌⊎◌, inl, inr, ℕ, Bool, true, false, List, [], ◌∷◌, ◌++◌, Option, Some, None, sym, subst}
 use Rattle.std.specs.Prelude.{option_to_list}
 use Rattle.std.proofs.lemmas.List.{append-nil}
@@ -23,7 +23,7 @@ adds_step ps None true h after all changes =
     subst (λ (l : List (List ℕ)). AddsAll l nothing_held after) (sym (append-nil ps)) (subst (λ x. AddsAll ps nothing_held x) (sym changes) all)
 adds_step ps None false h after all changes = subst (λ x. AddsAll ps nothing_held x) (sym changes) all
 
--- no account has two sheets in what payloads come to
+-- no account has two sheets in the contents that payloads give
 adds_once : (payload : List ℕ) (before after : Held) → Adds payload before after → EachOnce before.sheets → EachOnce after.sheets
 adds_once payload before after (inl one) once = subst (λ (h : Held). EachOnce h.sheets) (sym one.2) (once_puts one.0 before.sheets once)
 adds_once payload before after (inr one) once = subst (λ (h : Held). EachOnce h.sheets) (sym one.2) once

@@ -1,4 +1,4 @@
--- What each method of a keeper over a journal is, as a call of the list: from the call on its journal, and what became of what is held.
+-- Each method of a keeper over a journal, as a call of the list: from the call on its journal, and the contents afterwards.
 use Rattle.std.proofs.Common.{◌≡◌, inl, inr, ℕ, ◌<◌, ◌^◌, true, false, List, [], ◌∷◌, ◌++◌, length, Option, Some, None, refl, sym, ◌∙◌, subst, arith}
 use Rattle.std.specs.Prelude.{All, Result, OnErr}
 use Rattle.std.proofs.lemmas.List.Elements.{All-nil, All-cons}
@@ -81,7 +81,7 @@ module _ {D : Type 0} (honest : D → Type 0) (may_leave : D → List ℕ → Ty
         refused_none (subst (λ (l : Log D). IsCall honest may_leave clock left_since old.log (record { payload = None; ok = false }) l) (sym same)
         (untouched honest may_leave clock left_since only_now old.log None)) sheets rows
 
-    -- a call that was refused before it met the disk
+    -- a call that was refused before it reached the disk
     pub untouched_kept : {T E : Type 0} → new.log ≡ old.log → new.sheets.texts ≡ old.sheets.texts → new.rows.items ≡ old.rows.items → (r : Result T E)
         → OnErr r (IsKept honest may_leave clock left_since old (record { payload = None; ok = false }) new)
     untouched_kept log sheets rows r = on_err _ r (still_none log sheets rows)

@@ -1,4 +1,4 @@
--- Sheets of which those before a place have given way, and the records that are put over them.
+-- Sheets of which those before an index are replaced, and the records that are put over them.
 use Rattle.std.proofs.Common.{◌≡◌, ◌≢◌, ◌∙◌, ℕ, zero, suc, ◌+◌, ◌<◌, List, [], ◌∷◌, ◌++◌, length, get_or, take, ◌==◌, Option, Some, None, true, false, inl, inr, refl, sym, ap}
 use Rattle.std.proofs.Common.{subst, arith, rules}
 use Rattle.std.specs.Prelude.{count_by, is_some}
@@ -23,7 +23,7 @@ Sheets = List (Account × List ℕ)
 abbrev New : Type 0
 New = ℕ × (Account × List ℕ)
 
--- the sheets before the place have given way, the others stand as they are
+-- the sheets before the index are replaced, the others are as they were
 abbrev pub GivenWay : ℕ → Sheets → Sheets → Type 0
 GivenWay k [] [] = Unit {0}
 GivenWay k [] (y ∷ ys) = ⊥
@@ -31,7 +31,7 @@ GivenWay k (x ∷ xs) [] = ⊥
 GivenWay zero (x ∷ xs) (y ∷ ys) = (y ≡ x) × GivenWay zero xs ys
 GivenWay (suc k) (x ∷ xs) (y ∷ ys) = (y.0 ≡ x.0) × IsMigrated x.1 y.1 × GivenWay k xs ys
 
--- the records found so far, each with its place
+-- the records found so far, each with its index
 pub record AreFound (k : ℕ) (sheets : Sheets) (found : List New) : Type 0 where
   pub given : GivenWay k sheets (set_all found sheets)
   pub many : length found ≡ count_by is_old (take k sheets)
@@ -51,7 +51,7 @@ all_given (x ∷ xs) (y ∷ ys) given = (given.0, given.1, all_given xs ys given
 stays : (x y : Sheet_) → y ≡ x → old_sheet x.1 ≡ None → IsMigrated x.1 y.1
 stays x y same none = rw none (ap (λ (z : Sheet_). z.1) same)
 
--- the sheet at the place is no record of the first version
+-- the sheet at the index is no record of the first version
 kept : (k : ℕ) (before after : Sheets) (d : Sheet_) → k < length before → old_sheet (get_or before k d).1 ≡ None → GivenWay k before after → GivenWay (suc k) before after
 kept k [] after d within none given = absurd (omega arith)
 kept zero (x ∷ xs) [] d within none given = given
@@ -59,7 +59,7 @@ kept zero (x ∷ xs) (y ∷ ys) d within none given = (ap (λ (z : Sheet_). z.0)
 kept (suc k) (x ∷ xs) [] d within none given = given
 kept (suc k) (x ∷ xs) (y ∷ ys) d within none given = (given.0, given.1, kept k xs ys d (omega arith) none given.2)
 
--- a record is put over the sheet at the place
+-- a record is put over the sheet at the index
 put_over : (k : ℕ) (before after : Sheets) (d : Sheet_) (text : List ℕ)
     → k < length before → IsMigrated (get_or before k d).1 text → GivenWay k before after → GivenWay (suc k) before (set_text after k text)
 put_over k [] after d text within is given = absurd (omega arith)
@@ -94,9 +94,9 @@ put_behind (new ∷ found) k text sheets within =
 further : (k : ℕ) (found : List New) → AreWithin k found → AreWithin (k + 1) found
 further k found within = All-weaker (λ (n : New). n.0 < k) (λ (n : New). n.0 < k + 1) (λ n lt. omega arith) found within
 
--- ---- by account, in place of by place
+-- ---- by account, instead of by index
 
--- the accounts of sheets, each once, stay so whatever text is set
+-- the accounts of sheets, each once, are the same whatever text is set
 others_set : (xs : Sheets) (a : ℕ) (k : ℕ) (text : List ℕ) → NoneOf a xs → NoneOf a (set_text xs k text)
 others_set [] a k text all = all
 others_set (x ∷ xs) a zero text all = (all.0, all.1)
@@ -130,7 +130,7 @@ account_behind [] k a d b within is all = absurd (omega arith)
 account_behind (x ∷ xs) zero a d b within is all = λ e. all.0 (ap (λ (z : Account). z.0) is ∙ sym e)
 account_behind (x ∷ xs) (suc k) a d b within is all = account_behind xs k a d b (omega arith) is all.1
 
--- where each account stands once, a sheet is put where its account stands
+-- where each account occurs once, a sheet is put at the index of its account
 put_is_set : (xs : Sheets) (k : ℕ) (a : Account) (text : List ℕ) (d : Sheet_) → k < length xs → (get_or xs k d).0 ≡ a → EachOnce xs → put a text xs ≡ set_text xs k text
 put_is_set [] k a text d within is once = absurd (omega arith)
 put_is_set (x ∷ xs) zero a text d within is once = rw (is, eq-eqb a.0 a.0 refl) refl
@@ -164,7 +164,7 @@ not_old text none = go (old_sheet text) none
 next : (k : ℕ) → suc k ≡ k + 1
 next k = omega arith
 
--- no record of the first version at the place
+-- no record of the first version at the index
 pub passed : (sheets : Sheets) (found : List New) (k : ℕ) (x : Sheet_)
     → k < length sheets → x ≡ get_or sheets k x → is_some (old_sheet x.1) ≡ false → AreFound k sheets found → AreFound (k + 1) sheets found
 passed sheets found k x within at none are =
@@ -177,7 +177,7 @@ passed sheets found k x within at none are =
       puts = are.puts;
     }
 
--- one, and the record that it gives way to
+-- one, and the record that replaces it
 pub added : (sheets : Sheets) (found : List New) (k : ℕ) (x : Sheet_) (text : List ℕ)
     → k < length sheets → x ≡ get_or sheets k x → is_some (old_sheet x.1) ≡ true → IsMigrated x.1 text → AreFound k sheets found
     → AreFound (k + 1) sheets (found ++ (k, (x.0, text)) ∷ [])
@@ -198,7 +198,7 @@ added sheets found k x text within at some is are =
           ∙ put_is_set (set_all found sheets) k x.0 text x long its (once_all found sheets once) ∙ sym whole;
     }
 
--- sheets that are put leave each account once
+-- sheets that are put keep each account once
 others_put : (xs : Sheets) (a : Account) (text : List ℕ) (b : ℕ) → b ≢ a.0 → NoneOf b xs → NoneOf b (put a text xs)
 others_put [] a text b apart all = (λ e. apart (sym e), tt)
 others_put (x ∷ xs) a text b apart all = elim (cases_eq x.0.0 a.0) [

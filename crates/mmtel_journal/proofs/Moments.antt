@@ -1,4 +1,4 @@
--- How a run of disk calls goes on.
+-- How a sequence of disk calls continues.
 use Rattle.std.proofs.Common.{inl, inr, ⊎_elim, ℕ, List, arith}
 use Rattle.std.specs.Prelude.{Result, Ok, Err, OnErr, OnOk}
 use Rattle.mmtel_journal.specs.Disks.{Elapses, Leaves, LeavesOnly}
@@ -36,7 +36,7 @@ module _ {D : Type 0} (clock : D → ℕ) (left_since : D → ℕ → List ℕ �
     before = λ t c le left. ⊎_elim (λ was. inl was) (λ x. inr (p c x)) (first.before t c le left);
   }
 
--- what holds whatever was answered
+-- what holds whatever was returned
 pub on_err : {T E : Type 0} (P : Type 0) (r : Result T E) → P → OnErr r P
 on_err P (Ok x) p = tt
 on_err P (Err e) p = p

@@ -12,7 +12,7 @@ pub record Reads {X : Type 0} (P : X → Type 0) (spell : X → List ℕ) (read 
   pub takes : (bytes : List ℕ) (found : X × List ℕ) → IsBytes bytes → read bytes ≡ Some found → P found.0 × (bytes ≡ spell found.0 ++ found.1)
   pub again : (x : X) (rest : List ℕ) → P x → read (spell x ++ rest) ≡ Some (x, rest)
 
--- what a reading of two steps was
+-- what a reading of two steps consists of
 pub record Then {X Y : Type 0} (first : Option (X × List ℕ)) (next : X → List ℕ → Option (Y × List ℕ)) (found : Y × List ℕ) : Type 0 where
   pub read : X × List ℕ
   pub is : first ≡ Some read
@@ -80,7 +80,7 @@ made_reads P Q spell read make back made given reads = record {
       ∙ ap (λ o. made_of o rest) g.1;
 }
 
--- a value that what was read always makes
+-- a value that can always be built of what was read
 pub turned_reads : {X Y : Type 0} (P : X → Type 0) (Q : Y → Type 0) (spell : X → List ℕ) (read : List ℕ → Option (X × List ℕ)) (make : X → Y) (back : Y → X)
     → ((x : X) → P x → Q (make x) × (x ≡ back (make x))) → ((y : Y) → Q y → P (back y) × (make (back y) ≡ y))
     → Reads P spell read → Reads Q (λ y. spell (back y)) (λ bytes. then_read (read bytes) (λ x rest. Some (make x, rest)))
@@ -98,7 +98,7 @@ turned_reads P Q spell read make back made given reads = record {
       ∙ ap (λ z. Some (z, rest)) g.1;
 }
 
--- the same reader, told by another spelling and another condition
+-- the same reader, by another spelling and another condition
 pub other_reads : {X : Type 0} (P Q : X → Type 0) (spell other : X → List ℕ) (read : List ℕ → Option (X × List ℕ))
     → ((x : X) → P x → Q x) → ((x : X) → Q x → P x) → ((x : X) → spell x ≡ other x) → Reads P spell read → Reads Q other read
 other_reads P Q spell other read to from same reads = record {
@@ -121,7 +121,7 @@ text_reads size = record {
       rw (long, take_at text rest size is, drop_at text rest size is) refl;
 }
 
--- so many, one behind the other
+-- so many, one after the other
 abbrev pub spelled_all : {X : Type 0} → (X → List ℕ) → List X → List ℕ
 spelled_all spell [] = []
 spelled_all spell (x ∷ xs) = spell x ++ spelled_all spell xs

@@ -1,4 +1,4 @@
--- A record behind the records of a journal, and what a stop leaves of it.
+-- A record after the records of a journal, and what a stop leaves of it.
 use Rattle.std.proofs.Common.{◌≡◌, ◌≢◌, inl, inr, ⊎_elim, ℕ, ◌+◌, ◌<◌, Bool, true, false, List, [], ◌∷◌, ◌++◌, length, refl, sym, ◌∙◌, ap, subst, arith, append_assoc}
 use Rattle.std.proofs.Common.{length-append}
 use Rattle.std.proofs.lemmas.List.{append-nil}
@@ -17,7 +17,7 @@ spelled_push (q ∷ ps) p rest =
     ∙ ap (λ (l : List ℕ). record_of q ++ l) (spelled_push ps p rest)
     ∙ sym (append_assoc (record_of q) (spelled ps) (record_of p ++ rest))
 
--- an open gate and what was written behind it are a record, with a closed gate behind it
+-- an open gate and what was written after it are a record, with a closed gate after it
 opened : (p rest : List ℕ) → 1 ∷ (body_of p ++ rest) ≡ record_of p ++ 0 ∷ rest
 unfolding record_of body_of
 opened p rest =
@@ -74,7 +74,7 @@ more_left ps others more c is = ⊎_elim (λ same. inl same) (λ one. inr (one.0
 pub more_right : (ps others more : List (List ℕ)) (c : List ℕ) → IsJournalOrMore ps more c → IsJournalOrMore ps (others ++ more) c
 more_right ps others more c is = ⊎_elim (λ same. inl same) (λ one. inr (one.0, among_right others more one.0 one.1, one.2)) is
 
--- ---- a journal that stands
+-- ---- the state of a journal
 
 module _ {D : Type 0} (may_leave : D → List ℕ → Type 0) where
   by_flag : (ps others : List (List ℕ)) (log : Log D) (flag : Bool) → log.pending ≡ flag → Stands may_leave ps others log

@@ -1,4 +1,4 @@
--- How long what is written of rows is, and what one row more makes of it.
+-- The length of what is written of rows, and the same after one more row.
 use Rattle.std.proofs.Common.{◌≡◌, ◌<◌, ℕ, ◌+◌, ◌*◌, List, [], ◌∷◌, ◌++◌, length, get_or, take, Option, Some, None, refl, sym, ◌∙◌, ap, arith, append_assoc, length-append}
 use Rattle.std.proofs.lemmas.List.{append-nil, take_more}
 use Rattle.std.specs.Int.{w32, w64, to_be_bytes}

@@ -1,4 +1,4 @@
--- What one more call on a disk in memory makes of what a stop may leave.
+-- What a stop may leave, after one more call on a disk in memory.
 use Rattle.std.proofs.Common.{◌≡◌, inl, inr, ℕ, ◌+◌, ◌<◌, List, [], ◌∷◌, ◌++◌, length, get_or, take, refl, sym, ◌∙◌, ap, subst, arith, length-append, Vec}
 use Rattle.std.specs.declared.alloc.Global.{Global}
 use Rattle.std.proofs.lemmas.List.{take_all, take-append-le, take_more}
@@ -54,7 +54,7 @@ shown_sync (Tore a b ∷ calls) bytes = shown_sync calls bytes
 shown_sync (Synced ∷ calls) bytes = shown_sync calls bytes
 shown_sync (Kept ∷ calls) bytes = shown_sync calls bytes
 
--- ---- as the clauses of a disk say it, of the record of calls after one more
+-- ---- as the clauses of a disk state it, of the record of calls after one more
 
 pub follow_write : (first : List ℕ) (calls later : List Done) (at : ℕ) (new : Vec ℕ Global) (bytes : List ℕ) → new.items ≡ bytes → later ≡ calls ++ Wrote at new ∷ []
     → Follows (Torn at (length bytes)) (image_of first calls) (image_of first later)
@@ -113,7 +113,7 @@ pub elapses_keep : (first : List ℕ) (calls later : List Done) → later ≡ ca
 elapses_keep first calls later same =
     subst (λ (l : List Done). Elapses (length calls) (length l) (LeftSince first calls) (LeftSince first l) (image_of first l)) (sym same) (elapses_same first calls)
 
--- ---- a call that leaves all as it was
+-- ---- a call that changes nothing
 
 shown_same : (calls : List Done) (bytes : List ℕ) → shown_after bytes (calls ++ Kept ∷ []) ≡ shown_after bytes calls
 shown_same [] bytes = refl
@@ -122,7 +122,7 @@ shown_same (Tore a b ∷ calls) bytes = shown_same calls bytes
 shown_same (Synced ∷ calls) bytes = shown_same calls bytes
 shown_same (Kept ∷ calls) bytes = shown_same calls bytes
 
--- of a disk whose first bytes and whose record are as before, or have such a call more
+-- of a disk whose first bytes and whose record are as before, or have one such call more
 module _ (first other : List ℕ) (calls later : List Done) (is : other ≡ first) where
   pub kept_leaves : later ≡ calls → (c : List ℕ) → image_of other later c → image_of first calls c
   kept_leaves same c left = subst (λ (f : List ℕ). image_of f calls c) is (subst (λ (l : List Done). image_of other l c) same left)

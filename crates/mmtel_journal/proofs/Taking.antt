@@ -1,4 +1,4 @@
--- What reading the sheets or the rows of a payload came to.
+-- The result of reading the sheets or the rows of a payload.
 use Rattle.std.proofs.Common.{◌≡◌, ◌≢◌, inl, inr, ℕ, Bool, true, false, List, [], ◌∷◌, ◌++◌, length, get_or, drop, ◌==◌, Some, None, refl, sym, ap, subst, ◌∙◌, arith}
 use Rattle.std.proofs.lemmas.Bool.{eqb-true, eq-eqb}
 use Rattle.mmtel_types.specs.declared.numbers.Account.{Account}
@@ -61,7 +61,7 @@ puts_push (first ∷ done) sheet before = puts_push done sheet (Rattle.mmtel_she
 other_form : (a b : ℕ) (x y : List ℕ) → a ≢ b → a ∷ x ≡ b ∷ y → ⊥
 other_form a b x y apart e = apart (ap (λ (l : List ℕ). get_or l 0 0) e)
 
--- ---- a payload says one thing
+-- ---- a payload has one content
 
 pub adds_same : (payload : List ℕ) (before a b : Held) → Adds payload before a → Adds payload before b → a ≡ b
 adds_same payload before a b (inl x) (inl y) =
@@ -79,7 +79,7 @@ adds_same payload before a b (inr x) (inr y) =
 adds_same payload before a b (inl x) (inr y) = absurd (other_form 1 2 _ _ (λ e. absurd (omega (arith, e))) (sym x.1.spelled ∙ y.1.spelled))
 adds_same payload before a b (inr x) (inl y) = absurd (other_form 2 1 _ _ (λ e. absurd (omega (arith, e))) (sym x.1.spelled ∙ y.1.spelled))
 
--- ---- by the answer of what took it
+-- ---- by the result of reading it
 
 pub took_whole : (payload : List ℕ) (before after : Held) (whole : Bool) → whole ≡ true → TakesPayload payload before after whole → Adds payload before after
 took_whole payload before after true is took = took

@@ -1,4 +1,4 @@
--- What a torn write behind a gate, or of a gate, may leave; and what stands there once it is done.
+-- What a torn write after a gate, or of a gate, may leave; and the bytes there once it is done.
 use Rattle.std.proofs.Common.{◌≡◌, inl, inr, ℕ, suc, ◌+◌, ◌<◌, ◌≤◌, List, [], ◌∷◌, ◌++◌, length, get_or, take, drop, refl, sym, ◌∙◌, ap, subst, arith, append_assoc}
 use Rattle.std.proofs.Common.{length-append, length-drop}
 use Rattle.std.proofs.lemmas.List.{take_at, drop_at, drop_more, get_or-drop, get_or-take}
@@ -6,7 +6,7 @@ use Rattle.mmtel_journal.specs.Disks.{Holds, Torn, Follows, Leaves, Only}
 use Rattle.mmtel_journal.specs.Journal.{IsJournal}
 use Rattle.mmtel_journal.specs.Gates.{Closed, Gated, Staged}
 
--- what agrees with xs as far as they go begins with them
+-- what agrees with xs for the length of xs begins with them
 pub begins : (xs c : List ℕ) → length xs ≤ length c → ((i : ℕ) → i < length xs → get_or c i 0 ≡ get_or xs i 0) → c ≡ xs ++ drop (length xs) c
 begins [] c long same = refl
 begins (x ∷ xs) [] long same = absurd (omega (arith, long))
@@ -15,7 +15,7 @@ begins (x ∷ xs) (y ∷ c) long same =
     let others : c ≡ xs ++ drop (length xs) c = begins xs c (omega (arith, long)) (λ i lt. same (suc i) (omega (arith, lt))) in
     λ i. first i ∷ others i
 
--- a write behind the front leaves the front
+-- a write after the first bytes leaves them
 pub front_stays : (front rest c : List ℕ) (at n : ℕ) → length front ≤ at → Torn at n (front ++ rest) c → c ≡ front ++ drop (length front) c
 front_stays front rest c at n le torn =
     let size = length-append front rest in
@@ -24,7 +24,7 @@ front_stays front rest c at n le torn =
     ∙ get_or-take (length front) (front ++ rest) i 0 lt in
     torn.stays i (omega (arith, size, lt)) (inl (omega (arith, lt, le))) ∙ sym here)
 
--- a write behind a gate leaves the gate
+-- a write after a gate leaves the gate
 pub behind : (front : List ℕ) (gate : ℕ) (rest c : List ℕ) (n : ℕ) → Torn (length front + 1) n (front ++ gate ∷ rest) c → (more : List ℕ) × (c ≡ front ++ gate ∷ more)
 behind front gate rest c n torn =
     let xs : List ℕ = front ++ gate ∷ [] in
@@ -33,7 +33,7 @@ behind front gate rest c n torn =
     let split = front_stays xs rest c (length front + 1) n (omega (arith, size)) (subst (λ (l : List ℕ). Torn (length front + 1) n l c) whole torn) in
     (drop (length xs) c, split ∙ append_assoc front (gate ∷ []) (drop (length xs) c))
 
--- a write of a gate leaves what stands around it, and perhaps more at the end
+-- a write of a gate leaves what is around it, and perhaps more at the end
 pub around : (front : List ℕ) (gate : ℕ) (rest c : List ℕ) → Torn (length front) 1 (front ++ gate ∷ rest) c → (g : ℕ) × (more : List ℕ) × (c ≡ front ++ g ∷ (rest ++ more))
 around front gate rest c torn =
     let n = length front in
@@ -51,7 +51,7 @@ around front gate rest c torn =
     let cell : drop n c ≡ g ∷ r = drop_more c n 0 (omega (arith, size, torn.no_shorter)) in
     (g, drop (length rest) r, split ∙ ap (λ (l : List ℕ). front ++ l) (cell ∙ ap (λ (l : List ℕ). g ∷ l) ends))
 
--- what stands behind a gate after a write there that was done
+-- the bytes after a gate after a write there that was done
 pub written_behind : (front : List ℕ) (gate : ℕ) (rest bytes c : List ℕ) → Holds (front ++ gate ∷ rest) (length front + 1) bytes c → Gated front gate bytes c
 written_behind front gate rest bytes c holds =
     let n = length front + 1 in

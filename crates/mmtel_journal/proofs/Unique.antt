@@ -1,4 +1,4 @@
--- Bytes are a journal of one list of payloads and no other, these come to one thing, and then they are not broken.
+-- Bytes are a journal of one list of payloads and no other, these give one content, and then they are not broken.
 use Rattle.std.proofs.Common.{◌≡◌, ◌≢◌, ◌⊎◌, inl, inr, ℕ, ◌+◌, ◌^◌, ◌<◌, List, [], ◌∷◌, ◌++◌, length, get_or, drop, Result, Ok, Err, refl, sym, ◌∙◌, ap, subst, arith}
 use Rattle.std.proofs.Common.{append_assoc, length-append}
 use Rattle.std.specs.Prelude.{IfOk, IfErr, MatchResult}
@@ -35,7 +35,7 @@ adds_forms : (ps : List (List ℕ)) (a b : Held) → AddsAll ps a b → AreForms
 adds_forms [] a b all = tt
 adds_forms (p ∷ ps) a b all = (adds_form p a all.0 all.1, adds_forms ps all.0 b all.2)
 
--- they come to one thing
+-- they give one content
 all_same : (ps : List (List ℕ)) (before a b : Held) → AddsAll ps before a → AddsAll ps before b → a ≡ b
 all_same [] before a b x y = x ∙ sym y
 all_same (p ∷ ps) before a b x y =

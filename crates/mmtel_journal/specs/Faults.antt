@@ -1,4 +1,4 @@
--- What the count of a disk's faults says of its answer, and which fault of a keeper one of its disk is.
+-- The count of a disk's faults after a call, by its result, and which fault of a keeper a fault of its disk is.
 use Rattle.std.specs.Prelude.{◌≡◌, ℕ, Ok, Err}
 use Rattle.std.specs.declared.result.Result.{Result}
 use Rattle.mmtel_outside.specs.Counts.{HasFaultCause}
@@ -10,7 +10,7 @@ use Rattle.mmtel_journal.specs.declared.keepers.JournalKeeper.{JournalKeeper}
 use Rattle.mmtel_keeper.specs.declared.keepers.KeepFault.{KeepFault}
 use Rattle.mmtel_keeper.specs.declared.keepers.KeepFault.TheVariants as fault
 
--- the count rose at `Failed`, and is as before at every other answer
+-- the count rose at `Failed`, and is as before at every other result
 abbrev pub HasDiskCause : {T : Type 0} → ℕ → ℕ → Result T DiskFault → Type 0
 HasDiskCause before now result = HasFaultCause Failed NoMemory before now result
 
@@ -18,11 +18,11 @@ abbrev pub fault_of : DiskFault → KeepFault
 fault_of Failed = fault.Failed
 fault_of NoMemory = fault.NoMemory
 
--- the same of making a journal
+-- the same of creating a journal
 abbrev pub HasJournalCause : {T : Type 0} → ℕ → ℕ → Result T JournalFault → Type 0
 HasJournalCause before now result = HasFaultCause journal.Failed journal.NoMemory before now result
 
--- and of opening one, which hands the disk back
+-- and of opening one, which returns the disk
 abbrev pub OpenedFrom : {D : Type 0} → (D → ℕ) → ℕ → Result (JournalKeeper D) (D × JournalFault) → Type 0
 OpenedFrom faults before (Ok k) = faults k.log.disk ≡ before
 OpenedFrom faults before (Err e) = HasFaultCause {T = Unit {0}} journal.Failed journal.NoMemory before (faults e.0) (Err e.1)

@@ -1,4 +1,4 @@
--- Reading the fields of a payload from left to right: each gives a value and the bytes behind it, or nothing.
+-- Reading the fields of a payload from left to right: each gives a value and the bytes after it, or nothing.
 use Rattle.std.specs.Prelude.{◌==◌, ◌&&◌, ℕ, zero, suc, ◌∷◌, [], List, length, take, drop, Option, Some, None, nat_lt, if◌then◌else◌}
 use Rattle.std.specs.Int.{Width, w16, w32, w64, from_be_bytes}
 use Rattle.mmtel_types.specs.Moments.{last_moment}
@@ -13,16 +13,16 @@ use Rattle.mmtel_charging.specs.declared.rows.Kind.TheVariants.{Origin, Terminat
 use Rattle.mmtel_charging.specs.declared.rows.Row.{Row}
 use Rattle.mmtel_journal.specs.Payloads.{kind_of, cause_of}
 
--- what is read behind what was read before it
+-- what is read after what was read before it
 abbrev pub then_read : {X Y : Type 0} → Option (X × List ℕ) → (X → List ℕ → Option (Y × List ℕ)) → Option (Y × List ℕ)
 then_read None next = None
 then_read (Some read) next = next read.0 read.1
 
--- one behind the other
+-- one after the other
 abbrev pub pair_at : {X Y : Type 0} → (List ℕ → Option (X × List ℕ)) → (List ℕ → Option (Y × List ℕ)) → List ℕ → Option ((X × Y) × List ℕ)
 pair_at first second bytes = then_read (first bytes) (λ x behind. then_read (second behind) (λ y rest. Some ((x, y), rest)))
 
--- a value that is made of what was read, where there is one
+-- a value that is built of what was read, where there is one
 abbrev pub made_of : {Y : Type 0} → Option Y → List ℕ → Option (Y × List ℕ)
 made_of None rest = None
 made_of (Some value) rest = Some (value, rest)
@@ -55,7 +55,7 @@ told_kind number = if kind_of (kind_by number) == number then Some (kind_by numb
 abbrev pub kind_at : List ℕ → Option (Kind × List ℕ)
 kind_at bytes = then_read (byte_at bytes) (λ number rest. made_of (told_kind number) rest)
 
--- the cause of this place and code, if any has them
+-- the cause of this position in the table and this code, if any has them
 abbrev pub cause_by : ℕ → ℕ → Cause
 cause_by place code =
     if place == 1 then OutgoingBarred
@@ -86,7 +86,7 @@ told_cause place code =
 abbrev pub cause_at : List ℕ → Option (Cause × List ℕ)
 cause_at bytes = then_read (pair_at byte_at (sized_at w16 2) bytes) (λ numbers rest. made_of (told_cause numbers.0 numbers.1) rest)
 
--- a flag, and a moment that is 0 behind the flag 0
+-- a flag, and a moment that is 0 after the flag 0
 abbrev pub told_answer : ℕ → ℕ → Option (Option ℕ)
 told_answer flag moment = if flag == 1 then Some (Some moment) else if (flag == 0) && (moment == 0) then Some None else None
 
@@ -99,7 +99,7 @@ account_at bytes = then_read (sized_at w32 4 bytes) (λ number rest. Some (recor
 abbrev pub call_at : List ℕ → Option (CallNo × List ℕ)
 call_at bytes = then_read (sized_at w64 8 bytes) (λ number rest. Some (record { 0 = number }, rest))
 
--- what stands before the answer, and what behind it
+-- what precedes the answer time, and what follows it
 abbrev pub head_at : List ℕ → Option (((Kind × Account) × (CallNo × ℕ)) × List ℕ)
 head_at bytes = pair_at (pair_at kind_at account_at) (pair_at call_at moment_at) bytes
 
@@ -129,7 +129,7 @@ text_at size bytes = if nat_lt (length bytes) size then None else Some (take siz
 abbrev pub sheet_at : List ℕ → Option ((Account × List ℕ) × List ℕ)
 sheet_at bytes = pair_at account_at (λ behind. then_read (sized_at w64 8 behind) text_at) bytes
 
--- so many, one behind the other
+-- so many, one after the other
 abbrev pub many_at : {X : Type 0} → (List ℕ → Option (X × List ℕ)) → ℕ → List ℕ → Option (List X × List ℕ)
 many_at read zero bytes = Some ([], bytes)
 many_at read (suc count) bytes = then_read (read bytes) (λ x behind. then_read (many_at read count behind) (λ xs rest. Some (x ∷ xs, rest)))

@@ -1,11 +1,11 @@
--- Calls on a journal, one after the other, each acknowledged or refused; and what a stop leaves of it then.
+-- Calls on a journal, one after the other, each acknowledged or refused; and what a stop leaves of the journal then.
 use Rattle.std.specs.Prelude.{◌≡◌, ℕ, Bool, List, [], ◌∷◌, ◌++◌, if◌then◌else◌, Option, option_to_list}
 use Rattle.mmtel_journal.specs.Disks.{LeavesOnly}
 use Rattle.mmtel_journal.specs.Journal.{IsJournalOrMore}
 use Rattle.mmtel_journal.specs.Logs.{Stands}
 use Rattle.mmtel_journal.specs.declared.logs.Log.{Log}
 
--- a call that ended: the payload that it was to append, if any, and whether it answered Ok
+-- a call that ended: the payload that it was to append, if any, and whether it returned Ok
 pub record Call : Type 0 where
   pub payload : Option (List ℕ)
   pub ok : Bool
@@ -14,7 +14,7 @@ pub record Call : Type 0 where
 abbrev pub kept : List (List ℕ) → Call → List (List ℕ)
 kept payloads call = if call.ok then payloads ++ option_to_list call.payload else payloads
 
--- what a call may add in part: what was refused since the last call that was acknowledged, and its own payload
+-- what a call may add: what was refused since the last call that was acknowledged, and its own payload
 abbrev pub tried : List (List ℕ) → Call → List (List ℕ)
 tried refused call = refused ++ option_to_list call.payload
 
@@ -32,7 +32,7 @@ refused_by refused [] = refused
 refused_by refused (call ∷ calls) = refused_by (refused_after refused call) calls
 
 module _ {D : Type 0} (honest : D → Type 0) (may_leave : D → List ℕ → Type 0) (clock : D → ℕ) (left_since : D → ℕ → List ℕ → Type 0) where
-  -- what each call does: where it stood, it stands with what was kept; and a stop at any moment of it leaves that, or one more of what was tried
+  -- the effect of each call: where the journal was in this state, it is in it with what was stored; and a stop at any moment of the call leaves that, or one more of what was tried
   pub record IsCall (old : Log D) (call : Call) (new : Log D) : Type 0 where
     pub stays_honest : honest old.disk → honest new.disk
     pub stands : (payloads refused : List (List ℕ)) → honest old.disk → Stands may_leave payloads refused old

@@ -1,4 +1,4 @@
--- Facts of what a stop may leave of a disk in memory, for the laws of a disk.
+-- Facts about what a stop may leave of a disk in memory, for the clauses of a disk.
 use Rattle.std.proofs.Common.{◌≡◌, inl, inr, ℕ, ◌+◌, ◌-◌, ◌≤◌, List, [], ◌∷◌, ◌++◌, length, get_or, take, drop, refl, sym, ◌∙◌, ap, subst, arith, length-append, length-drop}
 use Rattle.std.proofs.lemmas.List.{length-take, take_all, get_or_append_left, get_or-append_right, get_or-take, get_or-drop}
 use Rattle.mmtel_journal.specs.Disks.{Torn}
@@ -9,7 +9,7 @@ use Rattle.mmtel_journal.specs.declared.memory.Done.TheVariants.{Wrote, Tore, Sy
 pub torn_same : (at n : ℕ) (d : List ℕ) → Torn at n d d
 torn_same at n d = record { no_shorter = omega arith; stays = λ i lt out. refl }
 
--- what is written is one of the outcomes of a write that a stop cuts short
+-- the completed write is one of the outcomes of a write that a stop interrupts
 pub torn_written : (at : ℕ) (new d : List ℕ) → Torn at (length new) d (written d at new)
 torn_written at new d =
     let n = length new in

@@ -6,7 +6,7 @@ use Rattle.mmtel_journal.specs.Payloads.{Adds, EachOnce, IsPayload}
 use Rattle.mmtel_journal.specs.Keepers.{held_of}
 use Rattle.mmtel_journal.specs.declared.keepers.JournalKeeper.{JournalKeeper}
 
--- what a call makes of what is held: what its payload adds, where it answered Ok, and else nothing
+-- the contents after a call: what its payload adds, where it returned Ok, and else unchanged
 abbrev pub Changes : Option (List ℕ) → Bool → Held → Held → Type 0
 Changes (Some payload) true before after = Adds payload before after
 Changes (Some payload) false before after = after ≡ before
@@ -23,7 +23,7 @@ IsNoneOr payload None = Unit {0}
 IsNoneOr payload (Some other) = other ≡ payload
 
 module _ {D : Type 0} (honest : D → Type 0) (may_leave : D → List ℕ → Type 0) (clock : D → ℕ) (left_since : D → ℕ → List ℕ → Type 0) where
-  -- what a call makes of the journal and of what is held
+  -- the effect of a call on the journal and on the contents
   pub record IsKept (old : JournalKeeper D) (call : Call) (new : JournalKeeper D) : Type 0 where
     pub log : IsCall honest may_leave clock left_since old.log call new.log
     pub form : IsForm call.payload

@@ -1,4 +1,4 @@
--- What public clauses cite, which a user of the crate has to believe.
+-- Definitions that public contracts cite: a user of the crate has to trust them.
 pub mod Disks
 pub mod Faults
 pub mod Journal
@@ -13,7 +13,7 @@ pub mod Files
 pub mod Images
 pub mod Reading
 pub mod Walks
--- What private functions alone cite.
+-- Definitions that only private functions cite.
 pub mod Gates
 pub mod Logs
 pub mod Fields

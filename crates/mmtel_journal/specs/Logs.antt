@@ -1,4 +1,4 @@
--- How the end of a journal stands on a disk.
+-- The state of the end of a journal on a disk.
 use Rattle.std.specs.Prelude.{◌≡◌, ℕ, true, false, List, [], ◌∷◌, ◌++◌, length}
 use Rattle.std.specs.Int.{w64, to_be_bytes}
 use Rattle.mmtel_journal.specs.Disks.{Leaves}
@@ -6,7 +6,7 @@ use Rattle.mmtel_journal.specs.Journal.{spelled, IsJournal, IsAmong}
 use Rattle.mmtel_journal.specs.Gates.{Staged}
 use Rattle.mmtel_journal.specs.declared.logs.Log.{Log}
 
--- what is written behind a gate: the length, the payload and the next gate
+-- what is written after a gate: the length, the payload and the next gate
 unfoldable pub body_of : List ℕ → List ℕ
 body_of payload = to_be_bytes w64 (length payload) ++ payload ++ 0 ∷ []
 

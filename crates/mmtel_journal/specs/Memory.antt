@@ -1,15 +1,15 @@
--- A disk in memory, which keeps a record of its calls: what a read gives after them, and what a stop may leave.
+-- A disk in memory, which records its calls: what a read returns after them, and what a stop may leave.
 use Rattle.std.specs.Prelude.{◌≡◌, ℕ, ◌+◌, ◌≤◌, List, [], ◌∷◌, ◌++◌, length, take, drop}
 use Rattle.mmtel_journal.specs.Disks.{Torn}
 use Rattle.mmtel_journal.specs.declared.memory.MemoryDisk.{MemoryDisk}
 use Rattle.mmtel_journal.specs.declared.memory.Done.{Done}
 use Rattle.mmtel_journal.specs.declared.memory.Done.TheVariants.{Wrote, Tore, Synced, Kept}
 
--- these bytes at this place
+-- these bytes at this position
 abbrev pub written : List ℕ → ℕ → List ℕ → List ℕ
 written bytes at new = take at bytes ++ new ++ drop (at + length new) bytes
 
--- what a read gives after these calls
+-- what a read returns after these calls
 abbrev pub shown_after : List ℕ → List Done → List ℕ
 shown_after bytes [] = bytes
 shown_after bytes (Wrote at new ∷ calls) = shown_after (written bytes at new.items) calls

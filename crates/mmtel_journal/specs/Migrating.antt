@@ -1,25 +1,25 @@
--- Records of the second version that stand in the place of sheets, each with the place, and what the sheets become by them.
+-- Records of the second version that replace sheets, each with the index, and the sheets after the replacement.
 use Rattle.std.specs.Prelude.{◌≡◌, ◌<◌, ℕ, List, [], ◌∷◌, All, length}
 use Rattle.mmtel_types.specs.declared.numbers.Account.{Account}
 use Rattle.mmtel_sheet_texts.specs.Texts.{set_text}
 use Rattle.mmtel_keeper.specs.Migration.{AreMigrated, old_ones}
 use Rattle.mmtel_journal.specs.Payloads.{put_sheets, EachOnce}
 
--- the sheets with these texts at their places, from the last text to the first
+-- the sheets with these texts at their indices, from the last text to the first
 abbrev pub set_all : List (ℕ × (Account × List ℕ)) → List (Account × List ℕ) → List (Account × List ℕ)
 set_all [] sheets = sheets
 set_all (new ∷ more) sheets = set_text (set_all more sheets) new.0 new.1.1
 
--- the new sheets without their places
+-- the new sheets without their indices
 abbrev pub sheets_in : List (ℕ × (Account × List ℕ)) → List (Account × List ℕ)
 sheets_in [] = []
 sheets_in (new ∷ more) = new.1 ∷ sheets_in more
 
--- each of these has its place among so many sheets
+-- each of these has its index among so many sheets
 abbrev pub AreWithin : ℕ → List (ℕ × (Account × List ℕ)) → Type 0
 AreWithin many found = All (λ new. new.0 < many) found
 
--- one for each record of the first version, which gives way to it; put over the sheets of their accounts they come to the same
+-- one for each record of the first version, which it replaces; put over the sheets of their accounts they give the same sheets
 pub record AreReplacements (sheets : List (Account × List ℕ)) (found : List (ℕ × (Account × List ℕ))) : Type 0 where
   pub migrated : AreMigrated sheets (set_all found sheets)
   pub many : length found ≡ old_ones sheets

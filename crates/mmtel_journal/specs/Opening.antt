@@ -1,4 +1,4 @@
--- What making and opening a journal answers.
+-- The results of creating and opening a journal.
 use Rattle.std.specs.Prelude.{◌≡◌, ◌≢◌, ◌⊎◌, ℕ, List, Ok, Err}
 use Rattle.std.specs.declared.result.Result.{Result}
 use Rattle.mmtel_keeper.specs.Kept.{Held}
@@ -14,25 +14,25 @@ abbrev pub fault_of : DiskFault → JournalFault
 fault_of disk.Failed = Failed
 fault_of disk.NoMemory = NoMemory
 
--- so long, and not empty, if that is the fault
+-- the disk has so many bytes and is not empty, if that is the fault
 abbrev pub OnNotEmpty : ℕ → JournalFault → Type 0
 OnNotEmpty size (NotEmpty len) = (len ≡ size) × (len ≢ 0)
 OnNotEmpty size Failed = Unit {0}
 OnNotEmpty size (Broken at) = ⊥
 OnNotEmpty size NoMemory = Unit {0}
 
--- at a place where it is broken, if that is the fault
+-- broken at such a position, if that is the fault
 abbrev pub OnBrokenAt : (ℕ → Type 0) → JournalFault → Type 0
 OnBrokenAt P (Broken at) = P at
 OnBrokenAt P Failed = Unit {0}
 OnBrokenAt P (NotEmpty len) = ⊥
 OnBrokenAt P NoMemory = Unit {0}
 
--- what has P is found, unless the disk could not or memory ran out
+-- the contents have P, unless the disk failed or memory ran out
 abbrev pub OpensAs : {D : Type 0} → (Held → Type 0) → Result (JournalKeeper D) (D × JournalFault) → Type 0
 OpensAs P (Ok k) = P (held_of k)
 OpensAs P (Err e) = (e.1 ≡ Failed) ⊎ (e.1 ≡ NoMemory)
 
--- bytes were opened: what is found in them was found
+-- the bytes were opened: the result has their contents
 abbrev pub IsOpening : {D : Type 0} → List ℕ → Result (JournalKeeper D) (D × JournalFault) → Type 0
 IsOpening c result = (held : Held) → Finds held c → OpensAs (λ h. h ≡ held) result

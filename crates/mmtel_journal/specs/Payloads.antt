@@ -1,4 +1,4 @@
--- The payloads of a journal's records: sheets, each with its account, or charging rows; and what the records of a journal come to.
+-- The payloads of a journal's records: sheets, each with its account, or charging rows; and the contents that the records of a journal give.
 use Rattle.std.specs.Prelude.{◌≡◌, ◌≢◌, ◌⊎◌, ◌<◌, ◌≤◌, ◌^◌, ℕ, List, [], ◌∷◌, ◌++◌, length, if◌then◌else◌, Option, Some, None, All, IfSome}
 use Rattle.std.specs.Int.{w16, w32, w64, to_be_bytes}
 use Rattle.mmtel_types.specs.Moments.{last_moment}
@@ -32,7 +32,7 @@ abbrev pub answered_of : Option ℕ → List ℕ
 answered_of None = 0 ∷ to_be_bytes w64 0
 answered_of (Some moment) = 1 ∷ to_be_bytes w64 moment
 
--- the place of a cause in the table of causes, from 1, and its code
+-- the position of a cause in the table of causes, from 1, and its code
 abbrev pub cause_of : Cause → ℕ × ℕ
 cause_of OutgoingBarred = (1, 0)
 cause_of IncomingBarred = (2, 0)
@@ -58,7 +58,7 @@ cause_of Unacknowledged = (20, 0)
 abbrev pub cause_bytes : Cause → List ℕ
 cause_bytes cause = (cause_of cause).0 ∷ to_be_bytes w16 (cause_of cause).1
 
--- whose part it is in which call, and when it began
+-- whose part of which call it is, and when it began
 abbrev pub begin_of : Row → List ℕ
 begin_of row = kind_of row.kind ∷ (to_be_bytes w32 row.account.0 ++ to_be_bytes w64 row.call.0 ++ to_be_bytes w64 row.began)
 
@@ -95,7 +95,7 @@ abbrev pub EachOnce : List (Account × List ℕ) → Type 0
 EachOnce [] = Unit {0}
 EachOnce (sheet ∷ sheets) = NoneOf sheet.0.0 sheets × EachOnce sheets
 
--- the numbers of a sheet and of a row have room in their bytes
+-- the numbers of a sheet and of a row fit into their bytes
 abbrev pub IsSheet : Account × List ℕ → Type 0
 IsSheet sheet = (sheet.0.0 < 2 ^ 32) × (length sheet.1 < 2 ^ 64)
 
@@ -122,13 +122,13 @@ pub record AreRows (payload : List ℕ) (rows : List Row) : Type 0 where
 abbrev pub IsPayload : List ℕ → Type 0
 IsPayload payload = ((sheets : List (Account × List ℕ)) × AreSheets payload sheets) ⊎ ((rows : List Row) × AreRows payload rows)
 
--- what a payload makes of what is held
+-- the contents after a payload
 abbrev pub Adds : List ℕ → Held → Held → Type 0
 Adds payload before after =
     ((sheets : List (Account × List ℕ)) × AreSheets payload sheets × (after ≡ with_sheets sheets before))
     ⊎ ((rows : List Row) × AreRows payload rows × (after ≡ with_rows rows before))
 
--- what payloads make of it, in order
+-- the contents after payloads, in order
 abbrev pub AddsAll : List (List ℕ) → Held → Held → Type 0
 AddsAll [] before after = after ≡ before
 AddsAll (payload ∷ payloads) before after = (mid : Held) × Adds payload before mid × AddsAll payloads mid after

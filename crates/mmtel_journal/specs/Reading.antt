@@ -8,7 +8,7 @@ use Rattle.mmtel_journal.specs.Journal.{spelled}
 use Rattle.mmtel_journal.specs.Keepers.{nothing_held}
 use Rattle.mmtel_journal.specs.Payloads.{AreSheets, AreRows, IsPayload, Adds, AddsAll, put_sheets}
 
--- the gate that ends a journal stands at this place, behind the records of payloads that come to this
+-- the gate that ends a journal is at this position, after the records of payloads that give these contents
 abbrev pub EndsAt : List ℕ → ℕ → Held → Type 0
 EndsAt bytes at held =
     (payloads : List (List ℕ)) × (gate : ℕ) × (rest : List ℕ) × (gate ≢ 1) × (bytes ≡ spelled payloads ++ gate ∷ rest) ×
@@ -18,27 +18,27 @@ EndsAt bytes at held =
 abbrev pub IsNoRecord : List ℕ → Type 0
 IsNoRecord tail = (payload rest : List ℕ) → length payload < 2 ^ 64 → IsPayload payload → tail ≡ to_be_bytes w64 (length payload) ++ payload ++ rest → ⊥
 
--- behind the records of some payloads nothing stands at this place, or an open gate with no record behind it
+-- after the records of some payloads there is nothing at this position, or an open gate without a record after it
 abbrev pub IsBrokenAt : List ℕ → ℕ → Type 0
 IsBrokenAt bytes at =
     (payloads : List (List ℕ)) × (rest : List ℕ) × (held : Held) × AddsAll payloads nothing_held held × (bytes ≡ spelled payloads ++ rest) × (at ≡ length (spelled payloads))
     × ((rest ≡ []) ⊎ ((tail : List ℕ) × (rest ≡ 1 ∷ tail) × IsNoRecord tail))
 
--- used between the functions of this crate alone
+-- used between the functions of this crate only
 
--- an answer, seen by view, is what reading gives
+-- a result, mapped by view, is that of reading
 abbrev pub Gives : {X Y : Type 0} → (X → Y) → Option X → Option Y → Type 0
 Gives view (Some x) read = read ≡ Some (view x)
 Gives view None read = read ≡ None
 
--- the payload of a record behind its open gate, of whatever it says, and the bytes behind it
+-- the payload of a record after its open gate, whatever its content, and the bytes after it
 abbrev pub IsFramed : List ℕ → List ℕ → List ℕ → Type 0
 IsFramed tail payload rest = (length payload < 2 ^ 64) × (tail ≡ to_be_bytes w64 (length payload) ++ payload ++ rest)
 
 abbrev pub IsUnframed : List ℕ → Type 0
 IsUnframed tail = (payload rest : List ℕ) → IsFramed tail payload rest → ⊥
 
--- what reading the sheets or the rows of a payload came to: whether they are of the format, and what they make of those before
+-- the result of reading the sheets or the rows of a payload: whether they are of the format, and the sheets or rows with them added
 abbrev pub TakesSheets : List ℕ → List (Account × List ℕ) → List (Account × List ℕ) → Bool → Type 0
 TakesSheets payload before after true = (sheets : List (Account × List ℕ)) × AreSheets payload sheets × (after ≡ put_sheets sheets before)
 TakesSheets payload before after false = (sheets : List (Account × List ℕ)) → AreSheets payload sheets → ⊥

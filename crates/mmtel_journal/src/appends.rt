@@ -1,4 +1,4 @@
-//! Writing behind a gate, and writing a gate.
+//! Writing after a gate, and writing a gate.
 ghost use Rattle.std.specs.Prelude.{◌≡◌, ◌<◌, ◌+◌, ◌^◌, ◌↔◌, List, ℕ, [], length, OnOk, OnErr};
 ghost use Rattle.mmtel_journal.specs.Disks.{Leaves, LeavesOnly};
 ghost use Rattle.mmtel_journal.specs.Faults.{HasDiskCause};
@@ -7,7 +7,7 @@ ghost use Rattle.mmtel_journal.specs.Gates.{Closed, Gated, Staged};
 
 use crate::disks::{Disk, DiskFault};
 
-/// Writes behind a gate that is not open, and syncs.
+/// Writes after a gate that is not open, and syncs.
 pub fn stage<D: Disk>(disk: &mut D, gate: u64, body: &[u8]) -> Result<(), DiskFault>
     requires { gate + 1 < 2 ^ 64 }
     ensures cause { HasDiskCause (D.faults disk.old) (D.faults disk.new) result }

@@ -1,4 +1,4 @@
-//! A disk: what a read gives, and what a stop of the machine may leave.
+//! A disk: what a read returns, and what a stop of the machine may leave.
 ghost use Rattle.std.specs.Prelude.{◌≡◌, ◌≤◌, ◌<◌, ◌↔◌, List, ℕ, length, take, drop, IfOk, OnOk};
 ghost use Rattle.mmtel_journal.specs.Disks.{Only, Leaves, Follows, Torn, Holds, Elapses};
 ghost use Rattle.mmtel_journal.specs.Faults.{HasDiskCause};
@@ -6,10 +6,10 @@ ghost use Rattle.mmtel_journal.specs.Faults.{HasDiskCause};
 use mmtel_scan::NoMemory;
 use std::alloc::AllocError;
 
-/// Why a call of a disk did not do what it was asked.
+/// Why a call of a disk failed.
 #[derive(Clone, Copy, Debug, PartialEq, Eq)]
 pub enum DiskFault {
-    /// The disk could not. It was counted.
+    /// The disk failed. It was counted.
     Failed,
     /// Memory ran out. It was not counted.
     NoMemory,
@@ -17,22 +17,22 @@ pub enum DiskFault {
 
 /// A disk, with a count of faults.
 pub trait Disk {
-    /// What a read gives.
+    /// What a read returns.
     ghost shown: { Self → List ℕ };
 
     /// What a stop now may leave.
     ghost may_leave: { Self → List ℕ → Type 0 };
 
-    /// A number that never falls.
+    /// A clock: a number that never decreases.
     ghost clock: { Self → ℕ };
 
     /// What a stop at some moment since that clock might have left, during a call or between two.
     ghost left_since: { Self → ℕ → List ℕ → Type 0 };
 
-    /// Whether it keeps what is told of it.
+    /// Whether it satisfies the clauses about its bytes.
     ghost honest: { Self → Type 0 };
 
-    /// How many calls answered `Failed`. It never falls, and stays at the greatest u64.
+    /// How many calls returned `Failed`. It never decreases, and remains at the greatest u64.
     ghost faults: { Self → ℕ };
 
     /// How many bytes there are.
@@ -46,7 +46,7 @@ pub trait Disk {
             (may_leave self.new) }
         ensures cause { HasDiskCause (faults self.old) (faults self.new) result };
 
-    /// Reads what stands at a place and behind it into the front of the buffer, as much as it likes, but something where something is. Answers how much.
+    /// Reads the bytes from a position on into the front of the buffer, any number of them, but at least one where there is one. Returns how many.
     fn read(&mut self, at: u64, buf: &mut [u8]) -> Result<usize, DiskFault>
         requires { 0 < length buf.old }
         ensures honest { honest self.old ↔ honest self.new }
@@ -61,11 +61,11 @@ pub trait Disk {
             (may_leave self.new) }
         ensures cause { HasDiskCause (faults self.old) (faults self.new) result };
 
-    /// Writes over what is there, and past the end. Until a sync, a stop may leave any bytes in the range and past the old end.
+    /// Overwrites what is there, and writes past the end. Until a sync, a stop may leave any bytes in the range and past the old end.
     ///
     /// # Errors
     ///
-    /// `Failed` only where the count of faults rose in this call; `NoMemory` leaves the count. So of every call.
+    /// `Failed` only where the count of faults rose in this call; `NoMemory` leaves the count unchanged. The same holds for every call.
     fn write_at(&mut self, at: u64, bytes: &[u8]) -> Result<(), DiskFault>
         ensures honest { honest self.old ↔ honest self.new }
         ensures written { honest self.old
@@ -77,7 +77,7 @@ pub trait Disk {
             (may_leave self.new) }
         ensures cause { HasDiskCause (faults self.old) (faults self.new) result };
 
-    /// After it, a stop leaves what a read gives.
+    /// After it, a stop leaves what a read returns.
     fn sync(&mut self) -> Result<(), DiskFault>
         ensures honest { honest self.old ↔ honest self.new }
         ensures shown { honest self.old → OnOk result (shown self.new ≡ shown self.old) }
@@ -88,13 +88,13 @@ pub trait Disk {
             (may_leave self.new) }
         ensures cause { HasDiskCause (faults self.old) (faults self.new) result };
 
-    /// What a read gives is an image.
+    /// What a read returns is an image.
     ghost among: { (d : Self) → honest d → may_leave d (shown d) };
 
-    /// This moment is one of those since an earlier one.
+    /// What a stop may leave now is among what it might have left since an earlier moment.
     ghost counts_now: { (d : Self) (t : ℕ) (c : List ℕ) → honest d → t ≤ clock d → may_leave d c → left_since d t c };
 
-    /// Since this moment there is no other.
+    /// Since this moment a stop may have left only what it may leave now.
     ghost only_now: { (d : Self) (c : List ℕ) → honest d → left_since d (clock d) c → may_leave d c };
 }
 

@@ -1,6 +1,6 @@
-//! Reading the fields of a payload: each gives a value and the bytes behind it, or None where the bytes are not of the format.
+//! Reading the fields of a payload: each returns a value and the bytes after it, or None where the bytes are not of the format.
 //!
-//! Which number or place a kind or a cause has is said once, where they are written: what was read is compared with that.
+//! The number of a kind and the position of a cause are defined once, where they are written: what was read is compared with that.
 ghost use Rattle.std.specs.Prelude.{◌≡◌};
 ghost use Rattle.std.specs.Int.{w16, w32, w64};
 ghost use Rattle.mmtel_journal.specs.Fields.{byte_at, sized_at, moment_at, kind_by, kind_at, cause_by, cause_at, answered_at};
@@ -101,7 +101,7 @@ fn kind_at(bytes: &[u8]) -> Option<(Kind, &[u8])>
     Some((kind, rest))
 }
 
-/// The cause of this place and code, if any has them.
+/// The cause of this position and code, if any has them.
 fn cause_by(place: u8, code: u16) -> Cause
     ensures { result ≡ cause_by place code }
 {
@@ -129,7 +129,7 @@ fn cause_by(place: u8, code: u16) -> Cause
     }
 }
 
-/// The place of a cause and its code.
+/// The position of a cause and its code.
 fn place_at(bytes: &[u8]) -> Option<((u8, u16), &[u8])>
     ensures { Gives (λ x. (x.0, x.1.now)) result (pair_at byte_at (sized_at w16 2) bytes.now) }
 {
@@ -162,7 +162,7 @@ fn flag_at(bytes: &[u8]) -> Option<((u8, Moment), &[u8])>
     Some(((flag, moment), rest))
 }
 
-/// When a call was answered, if it was: the moment is 0 behind the flag 0.
+/// When a call was answered, if it was: the moment is 0 after the flag 0.
 fn answered_at(bytes: &[u8]) -> Option<(Option<Moment>, &[u8])>
     ensures { Gives (λ x. (x.0, x.1.now)) result (answered_at bytes.now) }
 {
@@ -192,7 +192,7 @@ fn call_at(bytes: &[u8]) -> Option<(CallNo, &[u8])>
     Some((CallNo(number), rest))
 }
 
-/// For what an account is charged.
+/// For which part an account is charged.
 fn part_at(bytes: &[u8]) -> Option<((Kind, Account), &[u8])>
     ensures { Gives (λ x. (x.0, x.1.now)) result (pair_at kind_at account_at bytes.now) }
 {
@@ -212,7 +212,7 @@ fn begin_at(bytes: &[u8]) -> Option<((CallNo, Moment), &[u8])>
     Some(((call, began), rest))
 }
 
-/// What stands before the answer.
+/// What precedes the answer time.
 fn head_at(bytes: &[u8]) -> Option<(((Kind, Account), (CallNo, Moment)), &[u8])>
     ensures { Gives (λ x. (x.0, x.1.now)) result (head_at bytes.now) }
 {
@@ -234,7 +234,7 @@ fn end_at(bytes: &[u8]) -> Option<((Moment, u32), &[u8])>
     Some(((ended, holds), rest))
 }
 
-/// What stands behind the answer.
+/// What follows the answer time.
 fn tail_at(bytes: &[u8]) -> Option<(((Moment, u32), Cause), &[u8])>
     ensures { Gives (λ x. (x.0, x.1.now)) result (tail_at bytes.now) }
 {
@@ -271,7 +271,7 @@ pub fn row_at(bytes: &[u8]) -> Option<(Row, &[u8])>
     Some((row, rest))
 }
 
-/// The text of a sheet behind its length.
+/// The text of a sheet after its length.
 pub fn long_text_at(bytes: &[u8]) -> Option<(&[u8], &[u8])>
     ensures { Gives (λ x. (x.0.now, x.1.now)) result (then_read (sized_at w64 8 bytes.now) text_at) }
 {

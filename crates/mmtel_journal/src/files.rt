@@ -1,4 +1,4 @@
-//! A disk over a file of the system: the edge, of which no clause says what it holds.
+//! A disk over a file of the system: the boundary, of whose contents no clause says anything.
 ghost use Rattle.std.specs.Prelude.{◌≡◌, [], IfOk, Err};
 ghost use Rattle.mmtel_journal.specs.Faults.{HasDiskCause};
 ghost use Rattle.mmtel_journal.specs.Files.{file_disk_faults};
@@ -17,7 +17,7 @@ pub struct FileDisk {
     faults: u64,
 }
 
-/// Opens the file of a path to be read and written, and makes it where there is none.
+/// Opens the file of a path for reading and writing, and creates it where it does not exist.
 fn open_or_make(rt: &HostRuntime, path: &str) -> io::Result<File> {
     let file = OpenOptions::new()
         .read(true)
@@ -28,13 +28,13 @@ fn open_or_make(rt: &HostRuntime, path: &str) -> io::Result<File> {
     if file.as_raw_fd() > 2 {
         return Ok(file);
     }
-    // What is meant for a standard stream that was closed must not land in the journal.
+    // What is written to a standard stream that was closed must not be written to the journal.
     let moved = file.try_clone();
     drop(file);
     moved
 }
 
-/// Takes a file for itself as long as it is open: whoever asks for it is refused meanwhile.
+/// Locks a file as long as it is open: other programs that try to lock it are refused.
 fn lock(file: &File) -> io::Result<()> {
     if !file.metadata()?.is_file() {
         return Err(io::Error::from(ErrorKind::Unsupported));
@@ -45,7 +45,7 @@ fn lock(file: &File) -> io::Result<()> {
     }
 }
 
-/// Syncs the folder in which a file stands, so that the file is found there again.
+/// Syncs the directory of a file, so that the file's entry is durable.
 fn sync_folder(rt: &HostRuntime, path: &str) -> io::Result<()> {
     let mut real = fs::canonicalize(rt, path)?;
     real.pop();
@@ -57,7 +57,7 @@ fn sync_folder(rt: &HostRuntime, path: &str) -> io::Result<()> {
     done
 }
 
-/// Syncs a file and its folder, and gives up the system's copies of what is in it: after a sync of an earlier program that failed they may be other than what the disk has.
+/// Syncs a file and its directory, and drops the system's cached pages of it: after a failed sync of an earlier program they may differ from what is on the disk.
 fn sync_with_folder(rt: &HostRuntime, file: &File, path: &str) -> io::Result<()> {
     file.sync_all()?;
     let advised = libc::posix_fadvise(file.as_raw_fd(), 0, 0, libc::POSIX_FADV_DONTNEED);
@@ -67,7 +67,7 @@ fn sync_with_folder(rt: &HostRuntime, file: &File, path: &str) -> io::Result<()>
     sync_folder(rt, path)
 }
 
-/// The file of a path, locked, with what it holds and its name on the disk.
+/// The file of a path, locked, with its contents and its directory entry on the disk.
 fn open_file(rt: &HostRuntime, path: &[u8]) -> io::Result<File> {
     let Ok(path) = str::from_utf8(path) else {
         return Err(io::Error::from(ErrorKind::InvalidInput));
@@ -87,12 +87,13 @@ fn open_file(rt: &HostRuntime, path: &[u8]) -> io::Result<File> {
 }
 
 impl FileDisk {
-    /// The disk over the file of a path, which is made where there is none. It is locked as long as it is open, and synced with its folder, so that a file that was made is
-    /// found again after a stop.
+    /// The disk over the file of a path, which is created where it does not exist. It is locked as long as it is open, and synced with its directory, so that a file that was
+    /// created still exists after a stop.
     ///
     /// # Errors
     ///
-    /// `Failed` where the path is no text, or is of no file, or the system could not open or sync it or its folder, or another has it; nothing counts it here.
+    /// `Failed` where the path is not UTF-8, or is of no file, or the system could not open or sync it or its directory, or another program has locked it; this is not counted
+    /// here.
     pub fn at(rt: &HostRuntime, path: &[u8]) -> Result<FileDisk, DiskFault>
         ensures fresh { IfOk result (λ disk. file_disk_faults disk ≡ 0) }
     {
@@ -111,7 +112,7 @@ impl FileDisk {
         DiskFault::Failed
     }
 
-    /// What a failed call of the system is. It is counted.
+    /// The fault for a failed call of the system. It is counted.
     fn note(&mut self, error: io::Error) -> DiskFault
         ensures { HasDiskCause {T = Unit {0}} self.old.faults self.new.faults (Err result) }
     {

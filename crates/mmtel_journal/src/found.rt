@@ -11,9 +11,9 @@ ghost use Rattle.mmtel_journal.specs.declared.keepers.JournalKeeper.{JournalKeep
 
 use crate::disks::Disk;
 
-/// A law, and no code: over every list of calls, failed ones among them, a stop at any moment, within a call or between two, leaves a journal of the sheets and rows that
-/// the keeper holds then, which are those at first with those of the acknowledged calls, in order; or of these and one call more, whole, that was refused, or under way,
-/// since the last call that was acknowledged.
+/// A theorem, without code: over every list of calls, failed ones included, a stop at any moment, within a call or between two, leaves a journal of the sheets and rows that the
+/// keeper holds then, which are the initial ones and those of the acknowledged calls, in order; or of these and one more call, whole, that was refused, or under way, since the
+/// last call that was acknowledged.
 pub fn stops_leave_what_is_held<D: Disk>()
     ensures between { (calls : List Call) (old new : TheKeeper D) (payloads refused : List (List ℕ))
         → D.honest old.log.disk → Keeps D.may_leave payloads refused old
@@ -28,8 +28,8 @@ pub fn stops_leave_what_is_held<D: Disk>()
         (FindsOrMore (held_of mid) (tried (refused_by refused calls) call)) }
 {}
 
-/// A law, and no code: whatever such a stop leaves, opening it finds what is held then, or what one call more makes of it, whole, that was refused, or under way, since the last
-/// call that was acknowledged; unless the disk could not or memory ran out. It is never broken.
+/// A theorem, without code: whatever such a stop leaves, opening it finds what is held then, or that with one more call, whole, that was refused, or under way, since the last call
+/// that was acknowledged; unless the disk failed or memory ran out. It is never broken.
 pub fn stops_are_opened<D: Disk, E: Disk>()
     ensures between { (calls : List Call) (old new : TheKeeper D) (payloads refused : List (List ℕ)) (c : List ℕ)
         (opened : Result (TheKeeper E) (E × TheFault))

@@ -1,4 +1,4 @@
-//! What a call of a keeper grows in memory before its first call of the disk.
+//! The allocations of a call of a keeper, before its first call of the disk.
 ghost use Rattle.std.specs.Prelude.{◌≡◌, ◌++◌, ◌+◌, ◌∷◌, [], ◌≤◌, ◌<◌, length, All, IfOk, OnOk};
 ghost use Rattle.std.specs.Vec.{vec_capacity, vec_len};
 ghost use Rattle.mmtel_journal.specs.Logs.{body_of};
@@ -11,7 +11,7 @@ use mmtel_sheet_texts::SheetTexts;
 use mmtel_types::Account;
 use std::alloc::Global;
 
-/// Makes room for more rows.
+/// Reserves space for more rows.
 fn make_room(kept: &mut Vec<Row>, more: usize) -> Result<(), NoMemory>
     ensures same { kept.new.items ≡ kept.old.items }
     ensures room { OnOk result (vec_len kept.new + more ≤ vec_capacity kept.new) }
@@ -20,7 +20,7 @@ fn make_room(kept: &mut Vec<Row>, more: usize) -> Result<(), NoMemory>
     Ok(())
 }
 
-/// Adds rows for which there is room.
+/// Adds rows for which space is reserved.
 pub fn add_reserved(kept: &mut Vec<Row>, rows: &[Row])
     requires { vec_len kept.old + length rows.now ≤ vec_capacity kept.old }
     ensures added { kept.new.items ≡ kept.old.items ++ rows.now }
@@ -56,7 +56,7 @@ pub fn copy_rows(alloc: Global, rows: &[Row]) -> Result<List<Row>, NoMemory>
     Ok(copied)
 }
 
-/// Makes all growths of a store: the text, what is written behind the gate, and room for a sheet.
+/// Makes all allocations of a store: the text, what is written after the gate, and space for a sheet.
 pub fn grow_sheets(
     alloc: Global,
     sheets: &mut SheetTexts,
@@ -75,7 +75,7 @@ pub fn grow_sheets(
     Ok((kept, body))
 }
 
-/// Makes all growths of rows that are added.
+/// Makes all allocations for rows that are added.
 pub fn grow_rows(alloc: Global, kept: &mut Vec<Row>, rows: &[Row]) -> Result<Vec<u8>, NoMemory>
     ensures same { kept.new.items ≡ kept.old.items }
     ensures room { OnOk result (vec_len kept.new + length rows.now ≤ vec_capacity kept.new) }

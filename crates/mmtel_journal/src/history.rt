@@ -8,8 +8,8 @@ ghost use Rattle.mmtel_journal.specs.declared.logs.Log.{Log as TheLog};
 
 use crate::disks::Disk;
 
-/// A law, and no code: over every list of calls, failed ones among them, a stop at any moment, within a call or between two, leaves a journal of the payloads that it had
-/// at first with those of the acknowledged calls, in order, followed at most by one more, whole: one that was not acknowledged and was tried after the last call that was.
+/// A theorem, without code: over every list of calls, failed ones included, a stop at any moment, within a call or between two, leaves a journal of its initial payloads and those
+/// of the acknowledged calls, in order, followed at most by one more, whole: one that was not acknowledged and was tried after the last call that was.
 pub fn stops_leave_what_was_acknowledged<D: Disk>()
     ensures between { (calls : List Call) (old new : TheLog D) (payloads refused : List (List ℕ)) → D.honest old.disk
         → Stands D.may_leave payloads refused old

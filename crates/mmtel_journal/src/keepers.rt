@@ -20,7 +20,7 @@ use std::alloc::Global;
 
 /// A keeper over a journal on a disk.
 ///
-/// It holds in memory what the journal comes to. It tells that, and neither its path nor its calls; its count of faults is that of its disk.
+/// It holds the contents of the journal in memory. These are known in contracts, its path and its calls are not; its count of faults is that of its disk.
 #[derive(Drop)]
 pub struct JournalKeeper<D: Disk> {
     pub(crate) log: Log<D>,

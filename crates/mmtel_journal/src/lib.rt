@@ -1,4 +1,4 @@
-//! A keeper over a journal on a disk.
+//! A keeper over a journal on a disk, which survives a stop (crash) of the machine at any moment.
 #![tactic(auto)]
 
 mod appends;

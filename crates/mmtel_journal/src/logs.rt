@@ -1,4 +1,4 @@
-//! The end of a journal on a disk: the gate that ends it, and writing behind it.
+//! The end of a journal on a disk: the gate that ends it, and writing after it.
 ghost use Rattle.std.specs.Prelude.{◌≡◌, ◌<◌, ◌++◌, ◌∷◌, [], ◌↔◌, List, ℕ, length, true, false, Some, None, OnOk, OnErr};
 ghost use Rattle.mmtel_journal.specs.Disks.{LeavesOnly};
 ghost use Rattle.mmtel_journal.specs.Faults.{HasDiskCause};
@@ -13,9 +13,9 @@ use crate::disks::{Disk, DiskFault};
 #[derive(Drop)]
 pub struct Log<D: Disk> {
     pub disk: D,
-    /// The place of the gate that ends the journal.
+    /// The position of the gate that ends the journal.
     pub gate: u64,
-    /// Whether the gate may be open: a record stands behind it that was refused.
+    /// Whether the gate may be open: a record that was refused is after it.
     pub pending: bool,
 }
 
@@ -43,7 +43,7 @@ impl<D: Disk> Log<D> {
         Ok(())
     }
 
-    /// Writes a record behind a gate that is closed.
+    /// Writes a record after a gate that is closed.
     fn append(&mut self, body: &[u8]) -> Result<(), DiskFault>
         requires { 0 < length body.now }
         ensures cause { HasDiskCause (D.faults self.old.disk) (D.faults self.new.disk) result }
@@ -74,7 +74,7 @@ impl<D: Disk> Log<D> {
         Ok(())
     }
 
-    /// Adds a record, whose length, payload and next gate are given.
+    /// Adds a record, of which the length, payload and next gate are passed.
     pub fn write(&mut self, body: &[u8]) -> Result<(), DiskFault>
         requires { 0 < length body.now }
         ensures cause { HasDiskCause (D.faults self.old.disk) (D.faults self.new.disk) result }

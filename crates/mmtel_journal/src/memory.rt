@@ -9,22 +9,22 @@ use mmtel_outside::fails_by_number;
 use mmtel_scan::{List, NoMemory};
 use std::alloc::Global;
 
-/// What a call on a disk in memory did.
+/// The effect of a call on a disk in memory.
 #[derive(Drop)]
 pub enum Done {
-    /// It wrote these bytes at a place.
+    /// It wrote these bytes at a position.
     Wrote(u64, Vec<u8>),
-    /// It was to write these bytes at a place, and failed.
+    /// It was to write these bytes at a position, and failed.
     Tore(u64, Vec<u8>),
     /// It synced.
     Synced,
-    /// It left all as it was: it told something, or was to tell or to sync and failed.
+    /// It changed nothing: it read or returned the length, or it was to read, to return the length or to sync, and failed.
     Kept,
 }
 
-/// A disk in memory, which keeps a record of its calls, and whose calls of given numbers fail.
+/// A disk in memory, which records its calls, and whose calls of given numbers fail.
 ///
-/// It is honest: a stop right after any of its calls leaves what the record says.
+/// It is honest: a stop directly after any of its calls leaves what the record says.
 #[derive(Drop)]
 pub struct MemoryDisk {
     alloc: Global,
@@ -34,7 +34,7 @@ pub struct MemoryDisk {
     faults: u64,
 }
 
-/// What stands before a place.
+/// What precedes a position.
 fn before(bytes: &[u8], at: u64) -> &[u8]
     ensures { result.now ≡ take at bytes.now }
 {
@@ -45,7 +45,7 @@ fn before(bytes: &[u8], at: u64) -> &[u8]
     }
 }
 
-/// What stands behind so many bytes.
+/// The rest after so many bytes.
 fn behind(bytes: &[u8], count: u64) -> &[u8]
     ensures { result.now ≡ drop count bytes.now }
 {
@@ -56,7 +56,7 @@ fn behind(bytes: &[u8], count: u64) -> &[u8]
     }
 }
 
-/// Bytes with others at a place.
+/// Bytes with others at a position.
 fn with_bytes(alloc: Global, bytes: &[u8], at: u64, new: &[u8]) -> Result<Vec<u8>, NoMemory>
     ensures put { IfOk result (λ put. put.items ≡ written bytes.now at new.now) }
 {
@@ -67,7 +67,7 @@ fn with_bytes(alloc: Global, bytes: &[u8], at: u64, new: &[u8]) -> Result<Vec<u8
     Ok(put)
 }
 
-/// What a read gives after one call more.
+/// What a read returns after one more call.
 fn after(alloc: Global, bytes: Vec<u8>, done: &Done) -> Result<Vec<u8>, NoMemory>
     ensures shown { IfOk result (λ after. after.items ≡ shown_after bytes.items (done.now ∷ [])) }
 {
@@ -79,7 +79,7 @@ fn after(alloc: Global, bytes: Vec<u8>, done: &Done) -> Result<Vec<u8>, NoMemory
     }
 }
 
-/// What a read gives after these calls.
+/// What a read returns after these calls.
 fn replayed(alloc: Global, first: &[u8], calls: &[Done]) -> Result<Vec<u8>, NoMemory>
     ensures shown { IfOk result (λ bytes. bytes.items ≡ shown_after first.now calls.now) }
 {
@@ -115,18 +115,18 @@ impl MemoryDisk {
         }
     }
 
-    /// How many calls were made, those aside that wanted memory.
+    /// How many calls were made, except those that ran out of memory.
     pub fn calls(&self) -> u64
         ensures told { result ≡ length self.now.calls.items }
     {
         self.calls.len() as u64
     }
 
-    /// The disk, without failing calls, that a stop right after so many calls left: all that was written by then is on it, synced or not.
+    /// The disk, without failing calls, that a stop directly after so many calls left: all that was written by then is on it, synced or not.
     ///
     /// # Errors
     ///
-    /// Want of memory alone.
+    /// Out of memory only.
     pub fn stopped(&self, calls: u64) -> Result<MemoryDisk, NoMemory>
         requires { calls ≤ length self.now.calls.items }
         ensures fresh { IfOk result (λ disk. IsFresh disk disk.first.items []) }
@@ -152,7 +152,7 @@ impl MemoryDisk {
         fails_by_number(self.failing.items(), self.calls.len() as u64)
     }
 
-    /// What a read gives, with room for one more call in the record.
+    /// What a read returns, with space for one more call in the record.
     fn shown(&mut self) -> Result<Vec<u8>, NoMemory>
         ensures shown { IfOk result (λ bytes. bytes.items ≡ shown_after self.old.first.items self.old.calls.items) }
         ensures first { self.new.first ≡ self.old.first }

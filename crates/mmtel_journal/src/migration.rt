@@ -1,4 +1,4 @@
-//! Records of the first version that are held give way to records of the second.
+//! Stored records of the first version are replaced by records of the second.
 ghost use Rattle.std.specs.Prelude.{◌≡◌, length, All, IfOk, OnOk};
 ghost use Rattle.mmtel_journal.specs.Logs.{body_of};
 ghost use Rattle.mmtel_journal.specs.Migrating.{AreReplacements, AreWithin, set_all, sheets_in};
@@ -11,7 +11,7 @@ use mmtel_sheet_texts::SheetTexts;
 use mmtel_types::Account;
 use std::alloc::Global;
 
-/// The records that stand in the place of those of the first version, each with its place among the sheets and its account.
+/// The records that replace those of the first version, each with its index among the sheets and its account.
 pub fn replacements(
     alloc: Global,
     sheets: &[(Account, Text)],
@@ -29,7 +29,7 @@ pub fn replacements(
     Ok(found)
 }
 
-/// What is written behind a gate for them.
+/// What is written after a gate for them.
 pub fn replaced_body(alloc: Global, found: &[(usize, (Account, Text))]) -> Result<Vec<u8>, NoMemory>
     ensures fits { OnOk result (All IsSheet (sheets_in found.now)) }
     ensures body { IfOk result (λ body. body.items ≡ body_of (payload_of_sheets (sheets_in found.now))) }
@@ -41,7 +41,7 @@ pub fn replaced_body(alloc: Global, found: &[(usize, (Account, Text))]) -> Resul
     body_around(alloc, payload.as_slice())
 }
 
-/// Puts each in its place. It takes no memory.
+/// Puts each at its index. It allocates nothing.
 pub fn put_all(sheets: &mut SheetTexts, found: List<(usize, (Account, Text))>)
     requires { AreWithin (length sheets.old.texts) found }
     ensures put { sheets.new.texts ≡ set_all found sheets.old.texts }

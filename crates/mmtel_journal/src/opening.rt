@@ -1,4 +1,4 @@
-//! Making a journal on an empty disk, and opening one.
+//! Creating a journal on an empty disk, and opening one.
 ghost use Rattle.std.specs.Prelude.{◌≡◌, ◌↔◌, [], length, IfOk, IfErr, OnOk, List, ℕ};
 ghost use Rattle.mmtel_journal.specs.Disks.{Leaves, Only};
 ghost use Rattle.mmtel_journal.specs.Faults.{HasDiskCause, HasJournalCause, HasOpenCause};
@@ -15,22 +15,22 @@ use crate::reading::{Unread, read_journal};
 use mmtel_scan::NoMemory;
 use std::alloc::Global;
 
-/// How many bytes are read at once, at most.
+/// The maximum number of bytes that are read at once.
 const PIECE: usize = 16_384;
 
-/// Why a journal was not made or opened.
+/// Why a journal was not created or opened.
 #[derive(Clone, Copy, Debug, PartialEq, Eq)]
 pub enum JournalFault {
-    /// The disk could not. It was counted.
+    /// The disk failed. It was counted.
     Failed,
-    /// A journal is to be made on a disk that has bytes: so many.
+    /// A journal is to be created on a disk that has bytes: so many.
     NotEmpty {
         /// How many.
         len: u64,
     },
     /// What is on the disk is no journal.
     Broken {
-        /// The place of the first gate behind which no record stands, or where a gate is wanted and nothing stands.
+        /// The position of the first open gate without a record after it, or where a gate is expected and the bytes end.
         at: u64,
     },
     /// Memory ran out. It was not counted.
@@ -50,13 +50,13 @@ impl From<DiskFault> for JournalFault {
     }
 }
 
-/// Makes a journal of no records on an empty disk.
+/// Creates a journal of no records on an empty disk.
 ///
-/// A disk on which it did not answer Ok may have a byte after a stop, and then no journal is made or opened on it: it has to be emptied first.
+/// A disk on which it did not return Ok may have a byte after a stop, and then no journal is created or opened on it: it has to be emptied first.
 ///
 /// # Errors
 ///
-/// `Failed` only where the count of the disk's faults rose; `NotEmpty` exactly where the disk has bytes; `NoMemory` where the disk wants memory.
+/// `Failed` only where the count of the disk's faults rose; `NotEmpty` exactly where the disk has bytes; `NoMemory` where the disk runs out of memory.
 pub fn make<D: Disk>(disk: &mut D) -> Result<(), JournalFault>
     ensures cause { HasJournalCause (D.faults disk.old) (D.faults disk.new) result }
     ensures honest { D.honest disk.old ↔ D.honest disk.new }
@@ -93,9 +93,9 @@ fn read_all<D: Disk>(alloc: Global, disk: &mut D) -> Result<Vec<u8>, DiskFault>
 }
 
 impl<D: Disk> JournalKeeper<D> {
-    /// Opens the journal on a disk: reads all of it, and holds what it comes to. It writes nothing.
+    /// Opens the journal on a disk: reads all of it, and holds its contents. It writes nothing.
     ///
-    /// Nothing that was written on the disk may wait for a sync: after a stop nothing does.
+    /// No write on the disk may be waiting for a sync: after a stop none is.
     ///
     /// # Errors
     ///
@@ -131,7 +131,7 @@ impl<D: Disk> JournalKeeper<D> {
         }
     }
 
-    /// Lends the disk.
+    /// Returns a reference to the disk.
     pub fn disk(&self) -> &D
         ensures lent { result.now ≡ self.now.log.disk }
     {

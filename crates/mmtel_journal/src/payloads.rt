@@ -1,4 +1,4 @@
-//! Reading a payload into what is held.
+//! Adding a payload to the contents.
 ghost use Rattle.std.specs.Prelude.{◌∷◌, IfOk};
 ghost use Rattle.mmtel_journal.specs.Reading.{TakesSheets, TakesRows, TakesPayload};
 
@@ -8,7 +8,7 @@ use mmtel_scan::{NoMemory, Text};
 use mmtel_sheet_texts::SheetTexts;
 use std::alloc::Global;
 
-/// Puts the sheets of a payload over those of their accounts, and says whether the payload is of the format. Where it is not, what was read of it stays put.
+/// Puts the sheets of a payload over those of their accounts, and returns whether the payload is of the format. Where it is not, what was read of it remains put.
 fn take_sheets(alloc: Global, tail: &[u8], sheets: &mut SheetTexts) -> Result<bool, NoMemory>
     ensures { IfOk result (TakesSheets (1 ∷ tail.now) sheets.old.texts sheets.new.texts) }
 {
@@ -29,7 +29,7 @@ fn take_sheets(alloc: Global, tail: &[u8], sheets: &mut SheetTexts) -> Result<bo
     Ok(rest.is_empty())
 }
 
-/// Adds the rows of a payload behind the others, and says whether the payload is of the format. Where it is not, what was read of it stays.
+/// Adds the rows of a payload after the others, and returns whether the payload is of the format. Where it is not, what was read of it remains added.
 fn take_rows(tail: &[u8], rows: &mut Vec<Row>) -> Result<bool, NoMemory>
     ensures { IfOk result (TakesRows (2 ∷ tail.now) rows.old.items rows.new.items) }
 {
@@ -50,7 +50,7 @@ fn take_rows(tail: &[u8], rows: &mut Vec<Row>) -> Result<bool, NoMemory>
     Ok(rest.is_empty())
 }
 
-/// Adds what a payload says, and says whether it is of the format.
+/// Adds a payload to the contents, and returns whether it is of the format.
 pub fn take_payload(
     alloc: Global,
     payload: &[u8],

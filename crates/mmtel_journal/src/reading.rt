@@ -1,4 +1,4 @@
-//! Reading a journal: the gate that ends it, and what its records come to.
+//! Reading a journal: the gate that ends it, and the contents that its records give.
 ghost use Rattle.std.specs.Prelude.{◌≡◌, length, IfOk, IfErr, IfSome, IfNone, List, ℕ, MatchResult};
 ghost use Rattle.mmtel_keeper.specs.Kept.{Held};
 ghost use Rattle.mmtel_journal.specs.Journal.{spelled, IsJournal};
@@ -14,7 +14,7 @@ use mmtel_scan::NoMemory;
 use mmtel_sheet_texts::SheetTexts;
 use std::alloc::Global;
 
-/// What a journal comes to, and where the gate stands that ends it.
+/// The contents of a journal, and the position of the gate that ends it.
 #[derive(Drop)]
 pub struct Found {
     pub gate: usize,
@@ -25,7 +25,7 @@ pub struct Found {
 /// Why a journal was not read.
 #[derive(Clone, Copy, Debug, PartialEq, Eq)]
 pub enum Unread {
-    /// The place of the first record that is none.
+    /// The position of the first record that is not of the format.
     Broken(usize),
     /// Memory ran out.
     NoMemory,
@@ -41,7 +41,7 @@ impl From<NoMemory> for Unread {
     }
 }
 
-/// The payload of a record behind its open gate, and what stands behind it.
+/// The payload of a record after its open gate, and what follows it.
 fn framed(bytes: &[u8]) -> Option<(&[u8], &[u8])>
     ensures found { IfSome result (λ x. IsFramed bytes.now x.0.now x.1.now) }
     ensures none { IfNone result (IsUnframed bytes.now) }
@@ -73,7 +73,7 @@ fn walk(alloc: Global, bytes: &[u8]) -> Result<Found, Unread>
     Ok(Found { gate, sheets, rows })
 }
 
-/// The same. Where the bytes are a journal, it is that of one list of payloads and no other: what they come to is found, and nothing is broken.
+/// The same. Where the bytes are a journal, it is that of one list of payloads and no other: their contents are found, and nothing is broken.
 pub fn read_journal(alloc: Global, bytes: &[u8]) -> Result<Found, Unread>
     ensures found { IfOk result (λ f. EndsAt bytes.now f.gate (found_held f)) }
     ensures broken { IfErr result (OnBroken (IsBrokenAt bytes.now)) }

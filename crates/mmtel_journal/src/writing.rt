@@ -1,4 +1,4 @@
-//! The payloads of records, as bytes that are written behind a gate.
+//! The payloads of records, as bytes that are written after a gate.
 ghost use Rattle.std.specs.Prelude.{◌≡◌, ◌++◌, ◌∷◌, [], ◌<◌, ◌≤◌, ◌^◌, All, IfOk, IfSome, OnOk};
 ghost use Rattle.std.specs.Int.{w32, w64, to_be_bytes};
 ghost use Rattle.mmtel_types.specs.Moments.{last_moment};
@@ -10,10 +10,10 @@ use mmtel_scan::NoMemory;
 use mmtel_types::{Account, CallNo, Cause, Moment};
 use std::alloc::Global;
 
-/// More rows than this do not lie in memory.
+/// More rows than this do not fit into memory.
 const MOST_ROWS: u64 = 1 << 48;
 
-/// What is written behind a gate for a payload: its length, itself, and the next gate.
+/// What is written after a gate for a payload: its length, the payload, and the next gate.
 #[tactic(auto, unfolding(crate::specs::Logs::body_of))]
 pub fn body_around(alloc: Global, payload: &[u8]) -> Result<Vec<u8>, NoMemory>
     ensures body { IfOk result (λ body. body.items ≡ body_of payload.now) }
@@ -25,7 +25,7 @@ pub fn body_around(alloc: Global, payload: &[u8]) -> Result<Vec<u8>, NoMemory>
     Ok(body)
 }
 
-/// The beginning of a payload: its form, and how many sheets or rows follow.
+/// The beginning of a payload: its kind, and how many sheets or rows follow.
 pub fn payload_head(alloc: Global, form: u8, count: u64) -> Result<Vec<u8>, NoMemory>
     ensures head { IfOk result (λ head. head.items ≡ form ∷ to_be_bytes w64 count) }
 {
@@ -54,7 +54,7 @@ pub fn put_sheet(out: &mut Vec<u8>, account: Account, text: &[u8]) -> Result<(),
     Ok(())
 }
 
-/// What is written behind a gate for one sheet.
+/// What is written after a gate for one sheet.
 pub fn sheet_body(alloc: Global, account: Account, text: &[u8]) -> Result<Vec<u8>, NoMemory>
     ensures fits { OnOk result (IsSheet (account, text.now)) }
     ensures body { IfOk result (λ body. body.items ≡ body_of (payload_of_sheets ((account, text.now) ∷ []))) }
@@ -76,7 +76,7 @@ pub fn kind_number(kind: Kind) -> u8
     }
 }
 
-/// The place of a cause in the table of causes, and its code.
+/// The position of a cause in the table of causes, and its code.
 pub fn cause_numbers(cause: &Cause) -> (u8, u16)
     ensures { result ≡ cause_of cause.now }
 {
@@ -142,7 +142,7 @@ fn put_holds(out: &mut Vec<u8>, holds: u32) -> Result<(), NoMemory>
     Ok(())
 }
 
-/// Writes whose part a row is in which call.
+/// Writes whose part of which call a row is.
 fn put_part(out: &mut Vec<u8>, kind: Kind, account: Account, call: CallNo) -> Result<(), NoMemory>
     ensures account { account.0 < 2 ^ 32 }
     ensures call { call.0 < 2 ^ 64 }
@@ -180,7 +180,7 @@ fn put_row(out: &mut Vec<u8>, row: &Row) -> Result<(), NoMemory>
     Ok(())
 }
 
-/// What is written behind a gate for rows.
+/// What is written after a gate for rows.
 #[tactic(auto, unfolding(crate::specs::Logs::body_of))]
 pub fn rows_body(alloc: Global, rows: &[Row]) -> Result<Vec<u8>, NoMemory>
     ensures fits { OnOk result (All IsRow rows.now) }

@@ -1,4 +1,4 @@
--- Sheets of which those before a place have given way, and the texts that are put over them.
+-- Sheets of which those before an index are replaced, and the texts that are put over them.
 use Rattle.std.proofs.Common.{◌≡◌, ◌∙◌, ℕ, zero, suc, ◌+◌, ◌<◌, List, [], ◌∷◌, ◌++◌, length, get_or, take, Option, Some, None, true, false, refl, sym, ap, subst, arith, rules}
 use Rattle.std.specs.Prelude.{count_by, is_some}
 use Rattle.std.proofs.lemmas.List.{length-append, take_all}
@@ -14,7 +14,7 @@ use Rattle.mmtel_keeper.specs.Migration.{AreMigrated, IsMigrated, is_old, old_on
 abbrev Sheets : Type 0
 Sheets = List (Account × List ℕ)
 
--- the sheets before the place have given way, the others stand as they are
+-- the sheets before the index are replaced, the others are as they were
 abbrev pub GivenWay : ℕ → Sheets → Sheets → Type 0
 GivenWay k [] [] = Unit {0}
 GivenWay k [] (y ∷ ys) = ⊥
@@ -22,7 +22,7 @@ GivenWay k (x ∷ xs) [] = ⊥
 GivenWay zero (x ∷ xs) (y ∷ ys) = (y ≡ x) × GivenWay zero xs ys
 GivenWay (suc k) (x ∷ xs) (y ∷ ys) = (y.0 ≡ x.0) × IsMigrated x.1 y.1 × GivenWay k xs ys
 
--- the texts found so far, each with its place
+-- the texts found so far, each with its index
 pub record AreFound (k : ℕ) (sheets : Sheets) (found : List (ℕ × List ℕ)) : Type 0 where
   pub given : GivenWay k sheets (set_all found sheets)
   pub many : length found ≡ count_by is_old (take k sheets)
@@ -41,7 +41,7 @@ all_given (x ∷ xs) (y ∷ ys) given = (given.0, given.1, all_given xs ys given
 stays : (x y : Account × List ℕ) → y ≡ x → old_sheet x.1 ≡ None → IsMigrated x.1 y.1
 stays x y same none = rw none (ap (λ (z : Account × List ℕ). z.1) same)
 
--- the sheet at the place is no record of the first version
+-- the sheet at the index is no record of the first version
 kept : (k : ℕ) (before after : Sheets) (d : Account × List ℕ) → k < length before → old_sheet (get_or before k d).1 ≡ None → GivenWay k before after → GivenWay (suc k) before after
 kept k [] after d within none given = absurd (omega arith)
 kept zero (x ∷ xs) [] d within none given = given
@@ -49,7 +49,7 @@ kept zero (x ∷ xs) (y ∷ ys) d within none given = (ap (λ (z : Account × Li
 kept (suc k) (x ∷ xs) [] d within none given = given
 kept (suc k) (x ∷ xs) (y ∷ ys) d within none given = (given.0, given.1, kept k xs ys d (omega arith) none given.2)
 
--- a text is put over the sheet at the place
+-- a text is put over the sheet at the index
 put_over : (k : ℕ) (before after : Sheets) (d : Account × List ℕ) (text : List ℕ)
     → k < length before → IsMigrated (get_or before k d).1 text → GivenWay k before after → GivenWay (suc k) before (set_text after k text)
 put_over k [] after d text within is given = absurd (omega arith)
@@ -104,7 +104,7 @@ not_old text none = go (old_sheet text) none
 next : (k : ℕ) → suc k ≡ k + 1
 next k = omega arith
 
--- no record of the first version at the place
+-- no record of the first version at the index
 pub passed : (sheets : Sheets) (found : List (ℕ × List ℕ)) (k : ℕ) (x : Account × List ℕ)
     → k < length sheets → x ≡ get_or sheets k x → is_some (old_sheet x.1) ≡ false → AreFound k sheets found → AreFound (k + 1) sheets found
 passed sheets found k x within at none are =
@@ -115,7 +115,7 @@ passed sheets found k x within at none are =
       within = further k found are.within;
     }
 
--- one, and the text that it gives way to
+-- one, and the text that replaces it
 pub added : (sheets : Sheets) (found : List (ℕ × List ℕ)) (k : ℕ) (x : Account × List ℕ) (text : List ℕ)
     → k < length sheets → x ≡ get_or sheets k x → is_some (old_sheet x.1) ≡ true → IsMigrated x.1 text → AreFound k sheets found → AreFound (k + 1) sheets (found ++ (k, text) ∷ [])
 added sheets found k x text within at some is are =

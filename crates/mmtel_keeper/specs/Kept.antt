@@ -1,4 +1,4 @@
--- What a keeper tells, and what each of its calls makes of it. What it does not tell is absent, before and after.
+-- What is known of a keeper's contents, and the effect of each of its calls. What is not known is absent, before and after.
 use Rattle.std.specs.Prelude.{◌≡◌, ℕ, List, ◌++◌, ◌↔◌, Bool, true, Some, None, IfOk, OnOk, OnErr, IsErrOf}
 use Rattle.std.specs.declared.option.Option.{Option}
 use Rattle.std.specs.declared.result.Result.{Result}
@@ -10,7 +10,7 @@ use Rattle.mmtel_sheet_texts.specs.Texts.{put}
 use Rattle.mmtel_keeper.specs.declared.keepers.KeepFault.{KeepFault}
 use Rattle.mmtel_keeper.specs.declared.keepers.KeepFault.TheVariants.{Failed}
 
--- the records, each the text of an account, in the order in which each account first had one; and the charging rows, in the order in which they were added
+-- the records, each the text of an account, in the order in which the accounts first had one; and the charging rows, in the order in which they were added
 pub record Held : Type 0 where
   pub sheets : List (Account × List ℕ)
   pub rows : List Row
@@ -29,12 +29,12 @@ fails_next calls = fails_by_number calls.failing calls.calls
 abbrev pub called : KeeperCalls → KeeperCalls
 called calls = record calls { calls = next_number calls.calls }
 
--- a call is counted whatever it answers, and fails exactly where its number says so
+-- a call is counted whatever it returns, and fails exactly where its number is one of those that fail
 abbrev pub IsCall : {T : Type 0} → Option KeeperCalls → Option KeeperCalls → Result T KeepFault → Type 0
 IsCall None after result = after ≡ None
 IsCall (Some calls) after result = (after ≡ Some (called calls)) × (IsErrOf result Failed ↔ (fails_next calls ≡ true))
 
--- the same of a call that binds a path: one that answers a fault leaves the path that was bound last
+-- the same of a call that binds a path: one that returns a fault leaves the path that was bound last
 abbrev pub IsBind : {T : Type 0} → Option KeeperCalls → Option KeeperCalls → List ℕ → Result T KeepFault → Type 0
 IsBind None after path result = after ≡ None
 IsBind (Some calls) after path result =
@@ -42,20 +42,20 @@ IsBind (Some calls) after path result =
     × OnErr result (after ≡ Some (called calls))
     × (IsErrOf result Failed ↔ (fails_next calls ≡ true))
 
--- where it is told, it becomes this at `Ok`, and stays at `Err`
+-- where the contents are known, they become these at `Ok`, and are unchanged at `Err`
 abbrev pub Becomes : {A T E : Type 0} → Option A → Option A → (A → A) → Result T E → Type 0
 Becomes None after change result = after ≡ None
 Becomes (Some held) after change result = OnOk result (after ≡ Some (change held)) × OnErr result (after ≡ Some held)
 
--- where it is told, the answer is this part of it
+-- where the contents are known, the result is this part of them
 abbrev pub Tells : {A T E : Type 0} → Option A → (A → T) → Result T E → Type 0
 Tells None part result = Unit {0}
 Tells (Some held) part result = IfOk result (λ told. told ≡ part held)
 
--- with one record put over the account's
+-- with this record in place of the account's previous one
 abbrev pub with_sheet : Account → List ℕ → Held → Held
 with_sheet account text held = record held { sheets = put account text held.sheets }
 
--- with rows behind the others
+-- with rows after the others
 abbrev pub with_rows : List Row → Held → Held
 with_rows rows held = record held { rows = held.rows ++ rows }

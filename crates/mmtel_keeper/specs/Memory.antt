@@ -9,31 +9,31 @@ use Rattle.mmtel_keeper.specs.Migration.{AreMigrated, old_ones}
 use Rattle.mmtel_keeper.specs.declared.keepers.KeepFault.{KeepFault}
 use Rattle.mmtel_keeper.specs.declared.keepers.KeepFault.TheVariants.{Failed, NoMemory}
 
--- what it holds, its calls, and the count of its faults
+-- its contents, its calls, and the count of its faults
 pub record Store : Type 0 where
   pub held : Held
   pub calls : KeeperCalls
   pub faults : ℕ
 
--- used between the functions of this crate alone
+-- used between the functions of this crate only
 
--- a call that has begun: it is counted, and fails exactly where its number says so
+-- a call at its start: it is counted, and fails exactly where its number is one of those that fail
 abbrev pub Begins : {T : Type 0} → Store → Store → Result T KeepFault → Type 0
 Begins before after (Ok x) = (fails_next before.calls ≡ false) × (after ≡ record before { calls = called before.calls })
 Begins before after (Err Failed) =
     (fails_next before.calls ≡ true) × (after ≡ record before { calls = called before.calls; faults = next_number before.faults })
 Begins before after (Err NoMemory) = ⊥
 
--- the sheets with these texts at their places, from the last text to the first
+-- the sheets with these texts at their indices, from the last text to the first
 abbrev pub set_all : List (ℕ × List ℕ) → List (Account × List ℕ) → List (Account × List ℕ)
 set_all [] sheets = sheets
 set_all (new ∷ more) sheets = set_text (set_all more sheets) new.0 new.1
 
--- each of these texts has its place among so many sheets
+-- each of these texts has its index among so many sheets
 abbrev pub AreWithin : ℕ → List (ℕ × List ℕ) → Type 0
 AreWithin many found = All (λ new. new.0 < many) found
 
--- texts with their places, one for each record of the first version, which it gives way to
+-- texts with their indices, one for each record of the first version, which it replaces
 pub record AreReplacements (sheets : List (Account × List ℕ)) (found : List (ℕ × List ℕ)) : Type 0 where
   pub migrated : AreMigrated sheets (set_all found sheets)
   pub many : length found ≡ old_ones sheets

@@ -1,4 +1,4 @@
--- Records of the first version give way to records of the second that say the same (3GPP TS 24.623 §5).
+-- Records of the first version are replaced by records of the second with the same sheet (3GPP TS 24.623 §5).
 use Rattle.std.specs.Prelude.{◌≡◌, ℕ, ◌∷◌, [], List, Bool, Some, None, Ok, Err, is_some, count_by}
 use Rattle.std.specs.declared.option.Option.{Option}
 use Rattle.std.specs.declared.result.Result.{Result}
@@ -14,7 +14,7 @@ pub record IsSecond (sheet : Sheet) (text : List ℕ) : Type 0 where
   pub sheet_is : sheet_read text ≡ Ok sheet
   pub version_is : version_read text ≡ Ok version.Two
 
--- what stands in the place of a text, by the sheet of the record of the first version that it is: any other text stays
+-- the text after the migration, by the sheet of the text if it is a record of the first version: any other text is unchanged
 abbrev pub Replaces : (old : Option Sheet) → (before after : List ℕ) → Type 0
 Replaces None before after = after ≡ before
 Replaces (Some sheet) before after = IsSecond sheet after
@@ -36,17 +36,17 @@ is_old x = is_some (old_sheet x.1)
 abbrev pub old_ones : List (Account × List ℕ) → ℕ
 old_ones sheets = count_by is_old sheets
 
--- the sheets that were held, each of the first version replaced, and the rows as they were
+-- the stored sheets, each of the first version replaced, and the rows as they were
 pub record IsHeldMigrated (before after : Held) : Type 0 where
   pub sheets : AreMigrated before.sheets after.sheets
   pub rows : after.rows ≡ before.rows
 
--- so, and as many are answered as were replaced
+-- so, and the result is the number of those that were replaced
 abbrev pub MigratesTo : Held → Option Held → Result ℕ KeepFault → Type 0
 MigratesTo held after (Ok n) = (later : Held) × (after ≡ Some later) × IsHeldMigrated held later × (n ≡ old_ones held.sheets)
 MigratesTo held after (Err e) = after ≡ Some held
 
--- where it is told; a call that answers a fault changes nothing
+-- where the contents are known; a call that returns a fault changes nothing
 abbrev pub Migrates : Option Held → Option Held → Result ℕ KeepFault → Type 0
 Migrates None after result = after ≡ None
 Migrates (Some held) after result = MigratesTo held after result

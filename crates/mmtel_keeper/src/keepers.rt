@@ -1,4 +1,4 @@
-//! Where service records and charging rows are kept.
+//! Storage of service records and charging rows.
 ghost use Rattle.std.specs.Prelude.{◌≡◌, ℕ, Option};
 ghost use Rattle.mmtel_keeper.specs.Causes.{HasKeepCause};
 ghost use Rattle.mmtel_keeper.specs.Kept.{Held, KeeperCalls, IsCall, IsBind, Becomes, Tells, with_sheet, with_rows};
@@ -9,39 +9,39 @@ use mmtel_scan::{List, NoMemory, Text};
 use mmtel_types::Account;
 use std::alloc::Global;
 
-/// Why a call of a keeper did not do what it was asked.
+/// Why a call of a keeper failed.
 #[derive(Clone, Copy, Debug, PartialEq, Eq)]
 pub enum KeepFault {
-    /// The keeper could not. It was counted.
+    /// The keeper could not do it. It was counted.
     Failed,
     /// Memory ran out. It was not counted.
     NoMemory,
 }
 
-/// Where service records and charging rows are kept, with a count of faults.
+/// The storage of service records and charging rows, with a count of faults.
 ///
-/// A call that answers a fault changes no sheet and no row that is told.
+/// A call that returns a fault changes no sheet and no row, where they are known.
 pub trait Keeper {
-    /// The sheets and the rows that it holds, where that is told.
+    /// The sheets and the rows that it holds, where they are known.
     ghost held: { Self → Option Held };
 
-    /// The path bound last, the number of calls so far and the numbers of those that fail, where that is told.
+    /// The path bound last, the number of calls so far and the numbers of those that fail, where they are known.
     ghost calls: { Self → Option KeeperCalls };
 
-    /// How many calls answered `Failed`. It never falls, and stays at the greatest u64.
+    /// How many calls returned `Failed`. It never decreases, and remains at the greatest u64.
     ghost faults: { Self → ℕ };
 
-    /// Takes what is kept at a path. It changes no sheet and no row that is told.
+    /// Opens the storage at a path. It changes no sheet and no row, where they are known.
     ///
     /// # Errors
     ///
-    /// `Failed` only where the count of faults rose in this call; `NoMemory` leaves the count.
+    /// `Failed` only where the count of faults rose in this call; `NoMemory` leaves the count unchanged.
     fn bind(&mut self, alloc: Global, path: &[u8]) -> Result<(), KeepFault>
         ensures same { held self.new ≡ held self.old }
         ensures calls { IsBind (calls self.old) (calls self.new) path.now result }
         ensures cause { HasKeepCause (faults self.old) (faults self.new) result };
 
-    /// Puts in the place of each text that is a record of the first version one of the second that says the same; every other stays. Answers how many were replaced.
+    /// Replaces each text that is a record of the first version by one of the second with the same sheet; every other is unchanged. Returns how many were replaced.
     ///
     /// # Errors
     ///
@@ -62,7 +62,7 @@ pub trait Keeper {
         ensures calls { IsCall (calls self.old) (calls self.new) result }
         ensures cause { HasKeepCause (faults self.old) (faults self.new) result };
 
-    /// Puts a sheet in the place of the account's.
+    /// Puts a sheet in place of the account's previous one.
     ///
     /// # Errors
     ///
@@ -72,7 +72,7 @@ pub trait Keeper {
         ensures calls { IsCall (calls self.old) (calls self.new) result }
         ensures cause { HasKeepCause (faults self.old) (faults self.new) result };
 
-    /// Adds rows behind those that it holds, all or none.
+    /// Adds rows after those that it holds, all or none.
     ///
     /// # Errors
     ///
@@ -104,7 +104,7 @@ impl From<NoMemory> for KeepFault {
     }
 }
 
-/// What a refused `List::push` hands back is let go, so that `?` works on it.
+/// The item that a refused `List::push` returns is dropped, so that `?` works on it.
 impl<T: Drop> From<(T, NoMemory)> for KeepFault {
     ghost use Rattle.mmtel_keeper.specs.declared.keepers.KeepFault.TheVariants as fault;
 

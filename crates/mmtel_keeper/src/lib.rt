@@ -1,4 +1,4 @@
-//! Keeping service records and charging rows: what a keeper is, and one in memory.
+//! Storing service records and charging rows: the interface of a keeper, and one in memory.
 #![tactic(auto)]
 
 mod keepers;

@@ -35,7 +35,7 @@ impl Model for MemoryKeeper {
     } };
 }
 
-/// Rows in order, which contracts see as a list.
+/// Rows in order, seen as a list in contracts.
 #[derive(Drop)]
 struct Rows {
     kept: Option<Vec<Row>>,
@@ -104,7 +104,7 @@ fn copy_rows(alloc: Global, rows: &[Row]) -> Result<List<Row>, NoMemory>
     Ok(copied)
 }
 
-/// The texts that stand in the place of records of the first version, each with its place among the sheets.
+/// The texts that replace records of the first version, each with its index among the sheets.
 fn replacements(alloc: Global, sheets: &[(Account, Text)]) -> Result<List<(usize, Text)>, NoMemory>
     ensures replaced { IfOk result (AreReplacements sheets.now) }
 {
@@ -119,7 +119,7 @@ fn replacements(alloc: Global, sheets: &[(Account, Text)]) -> Result<List<(usize
     Ok(found)
 }
 
-/// Puts each text in its place. It takes no memory.
+/// Puts each text at its index. It allocates nothing.
 fn put_all(sheets: &mut SheetTexts, found: List<(usize, Text)>)
     requires { AreWithin (length sheets.old.texts) found }
     ensures put { sheets.new.texts ≡ set_all found sheets.old.texts }
@@ -149,7 +149,7 @@ impl MemoryKeeper {
         }
     }
 
-    /// Counts a call, and fails where its number says so.
+    /// Counts a call, and fails where its number is one of those that fail.
     fn begin(&mut self) -> Result<(), KeepFault>
         ensures begins { Begins self.old self.new result }
     {

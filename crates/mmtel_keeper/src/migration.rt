@@ -1,4 +1,4 @@
-//! Records of the first version give way to records of the second that say the same.
+//! Replacing records of the first version by records of the second with the same sheet.
 ghost use Rattle.std.specs.Prelude.{IfOk, IfSome, Some, is_some, ◌≡◌};
 ghost use Rattle.mmtel_keeper.specs.Migration.{IsMigrated};
 ghost use Rattle.mmtel_sheet_grammar.specs.Texts.{old_sheet};
@@ -7,11 +7,11 @@ use mmtel_scan::{NoMemory, Text};
 use mmtel_sheets::{print_sheet, read_old_sheet};
 use std::alloc::Global;
 
-/// The record of the second version that stands in the place of a record of the first; None where the text is none, which then stays.
+/// The record of the second version that replaces a record of the first; None where the text is none, which then is unchanged.
 ///
 /// # Errors
 ///
-/// Want of memory alone.
+/// Out of memory only.
 pub fn migrated(alloc: Global, text: &[u8]) -> Result<Option<Text>, NoMemory>
     ensures replaced { IfOk result (λ new. IfSome new (λ after. IsMigrated text.now after)) }
     ensures old { IfOk result (λ new. is_some new ≡ is_some (old_sheet text.now)) }

@@ -1,4 +1,4 @@
--- The last answer of a callee decides its tag, its target and the routes to it.
+-- The last response of a callee decides its tag, its target and the routes to it.
 use Rattle.std.proofs.Common.{Option, Result, Ok, Err, ◌∙◌, ◌≡◌, ◌<◌, ℕ, true, List, [], ◌∷◌, ◌++◌, ap, arith, length, refl}
 use Rattle.std.specs.List.{list_all}
 use Rattle.mmtel_charging.specs.Meters.{Noted}

@@ -1,4 +1,4 @@
--- Laws over deeds, each by induction on the list of them.
+-- Theorems about operations, each by induction on the list of them.
 use Rattle.std.proofs.Common.{Option, Some, Result, Ok, Err, ◌∙◌, ℕ, ◌+◌, ◌≡◌, ◌<◌, ◌^◌, true, List, [], ◌∷◌, ◌++◌, length, refl, ap, arith}
 use Rattle.std.specs.List.{list_all}
 use Rattle.mmtel_message.specs.Message.{Message}
@@ -14,7 +14,7 @@ use Rattle.mmtel_leg.specs.Requests.{cseq_text}
 use Rattle.mmtel_leg.proofs.LineLaws.{cseq}
 use Rattle.mmtel_charging.specs.Meters.{Noted}
 
--- what is heard leaves these alone, whatever the answer
+-- a received request does not change these, whatever the result
 pub own_stays : (answer : Result (Unit {0}) DialogueFault) (d : Dialogue) (request : Message Start) → (after_answer answer d request).own ≡ d.own
 own_stays (Ok done) d request = refl
 own_stays (Err fault) d request = refl
@@ -27,7 +27,7 @@ routes_heard : (answer : Result (Unit {0}) DialogueFault) (d : Dialogue) (reques
 routes_heard (Ok done) d request = refl
 routes_heard (Err fault) d request = refl
 
--- the same laws of a number that the leg has
+-- the same theorems for a number that the leg has
 counted_from : (leg : Leg) (deeds : List Deed) (n : ℕ) → leg.dialogue.own ≡ n → n + length (requests leg deeds) < 2 ^ 64 → IsCountedFrom n (requests leg deeds)
 counted_from leg [] n own few = tt
 counted_from leg (Meets remote ∷ deeds) n own few = counted_from (after_deed leg (Meets remote)) deeds n own few

@@ -1,4 +1,4 @@
--- What is built in a dialog has the five fields that each message has, and they are read as what was written (RFC 3261 §8.1.1, §20.42).
+-- What is built in a dialog has the five fields that each message has, and they are parsed as what was written (RFC 3261 §8.1.1, §20.42).
 use Rattle.std.proofs.Common.{◌∙◌, ◌≡◌, ◌^◌, ◌<◌, ◌≤◌, ◌+◌, ◌&&◌, Bool, true, false, not, inl, cond, ℕ, List, [], ◌∷◌, ◌++◌, Some, append-nil, ap, arith, codes, decimal, get_or, length, map, refl, sym}
 use Rattle.std.proofs.lemmas.Bool.Decides.{nat_tests}
 use Rattle.std.proofs.lemmas.Fmt.{length-decimal-le}
@@ -36,7 +36,7 @@ dot_host : in_class Host 46 ≡ true
 unfolding in_class
 dot_host = refl
 
--- two parts of an address, a dot between them
+-- two parts of an address, with a dot between them
 dotted_length : (a b : List ℕ) (n m : ℕ) → length a ≤ n → length b ≤ m → length (a ++ 46 ∷ b) ≤ n + m + 1
 dotted_length a b n m x y = omega (arith, length-append a (46 ∷ b))
 
@@ -51,7 +51,7 @@ ip_length ip small =
     let four : length (ip_text ip) ≤ 15 = dotted_length (d 0) (d 1 ++ 46 ∷ (d 2 ++ 46 ∷ d 3)) 3 11 (byte_length ip small 0) three in
     omega (arith, four)
 
--- ---- Via is read
+-- ---- Via is parsed
 
 abbrev branch_of : List ℕ → Param
 branch_of branch = record { name = codes "branch"; value = Some (codes "z9hG4bK" ++ branch) }
@@ -87,9 +87,9 @@ via_read d number method given is low token =
     let again = via_again given.sip given.branch is low token in
     ap via_at (via_is_one (via_text given.sip given.branch) (via_of given.sip given.branch) again) ∙ again
 
--- ---- From, To, Call-ID and CSeq stand once
+-- ---- From, To, Call-ID and CSeq occur once
 
--- the names that are none of the server's other lines
+-- the names that none of the server's other lines has
 record IsApart (name : List ℕ) : Type 0 where
   via : IsOther name (codes "Via")
   route : IsOther name (codes "Route")

@@ -1,4 +1,4 @@
--- What is heard, one request after another: what is refused changes nothing, and the last number never falls.
+-- Requests that are received, one after another: what is refused changes nothing, and the last number never falls.
 use Rattle.std.proofs.Common.{Option, Some, None, Result, Ok, Err, ℕ, ◌≡◌, ◌≤◌, List, [], ◌∷◌, codes, refl, ap, arith}
 use Rattle.std.proofs.lemmas.Bool.Decides.{nat_tests}
 use Rattle.mmtel_message.specs.Faults.{is_method}
@@ -32,7 +32,7 @@ not_below_either (Some n) None k first second = absurd first
 not_below_either (Some n) (Some m) None first second = absurd second
 not_below_either (Some n) (Some m) (Some k) first second = omega arith
 
--- a number that is let through is not lower than the last
+-- a number that is accepted is not lower than the last
 in_turn : (n last : ℕ) (otherwise : Result (Unit {0}) DialogueFault) (done : Unit {0}) → unless_old (Some n) (Some last) otherwise ≡ Ok done → last ≤ n
 in_turn n last otherwise done heard = grind (arith, nat_tests)
 

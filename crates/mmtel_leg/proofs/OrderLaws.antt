@@ -1,4 +1,4 @@
--- The requests of a leg are heard in order on the other side (RFC 3261 §12.2.2), and an ACK has the number of its INVITE (§13.2.2.4).
+-- The requests of a leg are received in order on the other side (RFC 3261 §12.2.2), and an ACK has the number of its INVITE (§13.2.2.4).
 use Rattle.std.proofs.Common.{◌∙◌, ◌≡◌, ◌<◌, ◌≤◌, ◌+◌, ◌^◌, Bool, true, false, not, ℕ, nat_lt, List, [], ◌∷◌, Option, Some, None, Result, Ok, Err, ap, arith, codes, refl, sym}
 use Rattle.std.specs.List.{list_all}
 use Rattle.std.specs.Option.{unwrap_or}
@@ -42,13 +42,13 @@ pub ack_reads : (d : Dialogue) (given : Given) → unwrap_or d.invited 0 < 2 ^ 3
 ack_reads d given small =
     ap (λ (o : Option (List ℕ)). o >>= cseq_at) (cseq d (unwrap_or d.invited 0) (codes "ACK") given) ∙ cseq_again (unwrap_or d.invited 0) (codes "ACK") small ack_token
 
--- ---- what is heard of the requests
+-- ---- what is received of the requests
 
 number_of_request : (d : Dialogue) (n : ℕ) (method : List ℕ) (given : Given) → number_in (request_of d method given).lines ≡ number_at (cseq_text (next_number d.own) method)
 unfolding number_in
 number_of_request d n method given = ap (λ (o : Option (List ℕ)). o >>= number_at) (cseq d (next_number d.own) method given)
 
--- a number that is read is k, which is not below what was heard
+-- a number that is read is k, which is not less than the one that was received
 in_turn : (o last : Option ℕ) (n k : ℕ) (invite : Bool) → ((j : ℕ) → o ≡ Some j → j ≡ k) → n ≤ k → IsNotBelow last (Some n) → (unless_old o last (unless_busy invite in_flight.None) ≡ Ok tt) × IsNotBelow (last_after o last) (Some k)
 in_turn None None n k invite is le below = (refl, tt)
 in_turn None (Some l) n k invite is le below = (refl, omega arith)

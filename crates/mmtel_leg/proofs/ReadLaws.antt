@@ -1,4 +1,4 @@
--- CSeq that is written is read again (RFC 3261 §20.16).
+-- CSeq that is written is parsed again (RFC 3261 §20.16).
 use Rattle.std.proofs.Common.{◌∙◌, ◌≡◌, ◌^◌, ◌<◌, ℕ, List, [], ◌∷◌, Option, Some, None, append-nil, ap, arith, decimal, refl, sym}
 use Rattle.std.specs.List.{list_all}
 use Rattle.std.specs.Option.{option_map}
@@ -33,7 +33,7 @@ digits_run n method small = run_again Digit (decimal n) (32 ∷ method) (decimal
 digits_after : (n : ℕ) (method : List ℕ) → n < 2 ^ 64 → after_run Digit (cseq_text n method) ≡ 32 ∷ method
 digits_after n method small = after_run_again Digit (decimal n) (32 ∷ method) (decimal_writes n small).digits.each (blank_stops method)
 
--- ---- the method behind a blank
+-- ---- the method after a blank
 
 token_stops : (method : List ℕ) → IsAll Token method → Stops Blank method
 token_stops [] each = tt

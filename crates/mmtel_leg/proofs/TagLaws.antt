@@ -1,4 +1,4 @@
--- A tag that is put behind a From or To value is the one that is read of it (RFC 3261 §19.3), and the names of a dialog stay.
+-- A tag that is put after a From or To value is the one that is read of it (RFC 3261 §19.3), and the identifiers of a dialog stay.
 use Rattle.std.proofs.Common.{◌∙◌, ◌≡◌, ◌⊎◌, inl, inr, Bool, true, false, ℕ, List, [], ◌∷◌, ◌++◌, Option, Some, None, Result, Ok, Err, IfSome, ap, arith, codes, cond, length, refl, subst}
 use Rattle.std.proofs.lemmas.List.{length-append}
 use Rattle.std.specs.Option.{unwrap_or}
@@ -29,7 +29,7 @@ use Rattle.mmtel_leg.specs.declared.dialogues.DialogueFault.{DialogueFault}
 use Rattle.mmtel_leg.specs.declared.remotes.Remote.{Remote}
 use Rattle.mmtel_leg.proofs.LineLaws as lines
 
--- ---- a tag that is put behind a value
+-- ---- a tag that is put after a value
 
 tag_again : (s tag : List ℕ) (n : NameAddr) → name_addr_of s ≡ Some n → IsUntagged n → IsValue tag → tag_of (Some (tagged s tag)) ≡ Some tag
 tag_again s tag n e untagged value =
@@ -90,7 +90,7 @@ side_stays leg deeds = stays (λ (d : Dialogue). d.side) (λ d r. refl) (λ d me
 
 -- ---- the tags in what is built
 
--- nothing is no name-addr, so a field that is absent has no tag
+-- an empty value is no name-addr, so a field that is absent has no tag
 no_name : (n : NameAddr) → IsNameAddr [] n → ⊥
 no_name n (inl is) = absurd (omega (arith, ap (λ (l : List ℕ). length l) is.whole, length-append n.display (is.gap ++ (60 ∷ (n.uri ++ 62 ∷ params_text n.params))), length-append is.gap (60 ∷ (n.uri ++ 62 ∷ params_text n.params))))
 no_name n (inr is) = absurd (omega (arith, is.uri_in.filled, ap (λ (l : List ℕ). length l) is.whole, length-append n.uri (params_text n.params)))
@@ -136,7 +136,7 @@ callee_from peer invite meter deeds number method given =
     let leg : Leg = record { dialogue = started peer invite; meter = meter } in
     from_reads (after leg deeds).dialogue number method given (field (codes "From") invite.lines) (local_stays leg deeds) ∙ kept_field (codes "From") invite.lines
 
--- behind a callee's To comes its tag, where it gave one
+-- after a callee's To comes its tag, where it gave one
 no_tag : (s : List ℕ) (n : NameAddr) → name_addr_of s ≡ Some n → IsUntagged n → tag_of (Some s) ≡ None
 no_tag s n e untagged = ap (λ (o : Option NameAddr). o >>= λ m. param_value (codes "tag") m.params) e ∙ none_found n.params untagged
 

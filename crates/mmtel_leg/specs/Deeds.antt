@@ -1,5 +1,5 @@
--- What is done with a leg from its making on, one deed after another, and what comes of it: the laws of a dialog's numbers (RFC 3261 §12.2.1.1), of its target and routes,
--- and of the meters that a leg was given.
+-- The operations on a leg from its creation on, one after another, and their effects: the theorems about a dialog's numbers (RFC 3261 §12.2.1.1), about its target and routes,
+-- and about the meters that a leg was given.
 use Rattle.std.specs.Prelude.{ℕ, ◌+◌, ◌≤◌, None, ◌≡◌, Bool, true, false, not, List, [], ◌∷◌, ◌++◌, Option, Some, Result, Ok, Err, codes}
 use Rattle.std.specs.Str.{bytes_eq}
 use Rattle.mmtel_scan.specs.Chain.{◌>>=◌}
@@ -16,7 +16,8 @@ use Rattle.mmtel_leg.specs.declared.dialogues.InFlight.{InFlight}
 use Rattle.mmtel_leg.specs.declared.dialogues.InFlight.TheVariants as in_flight
 use Rattle.mmtel_leg.specs.declared.remotes.Remote.{Remote}
 
--- the other side says who it is (`early`, `stand`); the server makes a request (`request`); a request comes (`heard`); a meter is put in the place of another (`swap_meter`)
+-- the other side gives its tag, target and route set (`early`, `stand`); the server makes a request (`request`); a request is received (`heard`); a meter replaces another
+-- (`swap_meter`)
 pub data Deed : Type 0 where
   Meets : (remote : Remote) → Deed
   Asks : (method : List ℕ) → (given : Given) → Deed
@@ -34,7 +35,7 @@ after_deed leg (Asks method given) = with_dialogue leg (after_request leg.dialog
 after_deed leg (Hears request busy) = with_dialogue leg (after_answer (hears leg.dialogue request busy) leg.dialogue request)
 after_deed leg (Swaps meter) = record leg { meter = meter }
 
--- the leg after these deeds
+-- the leg after these operations
 abbrev pub after : Leg → List Deed → Leg
 after leg [] = leg
 after leg (deed ∷ deeds) = after (after_deed leg deed) deeds
@@ -61,7 +62,7 @@ abbrev pub IsCountedFrom : ℕ → List (Message Start) → Type 0
 IsCountedFrom n [] = Unit {0}
 IsCountedFrom n (m ∷ ms) = HasNumber (n + 1) m × IsCountedFrom (n + 1) ms
 
--- the two have one number
+-- the two have the same number
 abbrev pub HaveOneNumber : Message Start → Message Start → Type 0
 HaveOneNumber one other = (n : ℕ) × (HasNumber n one × HasNumber n other)
 
@@ -76,22 +77,22 @@ is_not_invite (Swaps meter) = true
 abbrev pub ReadsAs : ℕ → List ℕ → Message Start → Type 0
 ReadsAs n method m = (first_value (codes "CSeq") m.lines >>= cseq_at) ≡ Some (record { number = n; method = method })
 
--- ---- numbers that were heard
+-- ---- numbers of received requests
 
--- where a number was heard, one that is not lower was heard later
+-- where a number was accepted before, one is accepted later that is not lower
 abbrev pub IsNotBelow : Option ℕ → Option ℕ → Type 0
 IsNotBelow None later = Unit {0}
 IsNotBelow (Some n) None = ⊥
 IsNotBelow (Some n) (Some m) = n ≤ m
 
--- the dialog hears each request, one after another, where no INVITE of either side has no answer (§12.2.2)
+-- the dialog accepts each request, one after another, where no INVITE of either side is without a response (§12.2.2)
 abbrev pub HearsEach : Dialogue → List (Message Start) → Type 0
 HearsEach d [] = Unit {0}
 HearsEach d (m ∷ ms) = (hears d m in_flight.None ≡ Ok tt) × HearsEach (after_hearing d m) ms
 
--- ---- the way to the other side
+-- ---- the route to the other side
 
--- what is done with a leg once it stands
+-- the operations on a leg once it is confirmed
 abbrev pub is_later : Deed → Bool
 is_later (Meets remote) = false
 is_later (Asks method given) = true
@@ -100,7 +101,7 @@ is_later (Swaps meter) = true
 
 -- ---- meters
 
--- what is put into the leg
+-- the meters that are put into the leg
 abbrev pub put_in_by : Deed → List (Option Noted)
 put_in_by (Meets remote) = []
 put_in_by (Asks method given) = []
@@ -111,7 +112,7 @@ abbrev pub put_in : List Deed → List (Option Noted)
 put_in [] = []
 put_in (deed ∷ deeds) = put_in_by deed ++ put_in deeds
 
--- what comes out of it
+-- the meters that are handed back
 abbrev pub given_back_by : Leg → Deed → List (Option Noted)
 given_back_by leg (Meets remote) = []
 given_back_by leg (Asks method given) = []

@@ -1,5 +1,5 @@
--- What a leg knows of its dialog (RFC 3261 §12): its names, the way to the other side, and its numbers; how it begins (§12.1), what it takes of the other side, and which
--- requests it hears (§12.2.2, §14.2).
+-- The dialog state of a leg (RFC 3261 §12): its identifiers, the route to the other side, and its numbers; how it begins (§12.1), what it records of the other side, and which
+-- requests it accepts (§12.2.2, §14.2).
 use Rattle.std.specs.Prelude.{ℕ, nat_lt, Bool, true, false, if◌then◌else◌, List, [], ◌∷◌, Option, Some, None, Result, Ok, Err, codes}
 use Rattle.std.specs.Option.{option_map, unwrap_or}
 use Rattle.std.specs.Str.{bytes_eq}
@@ -40,7 +40,7 @@ abbrev pub request_uri : Start → List ℕ
 request_uri (Request method uri) = uri
 request_uri (Status code phrase) = []
 
--- the dialog of an INVITE that was received, where the server answers with this tag: the parties change places (§12.1.1)
+-- the dialog of an INVITE that was received, where the server responds with this tag: the parties change places (§12.1.1)
 abbrev pub taken : Peer → List Line → List ℕ → Dialogue
 taken peer ls tag = record {
   side = Caller;
@@ -57,7 +57,7 @@ taken peer ls tag = record {
   invited = None;
 }
 
--- the dialog of an INVITE that the server sends (§12.1.2); until it is answered the target is the Request-URI; a number that cannot be read counts as 0
+-- the dialog of an INVITE that the server sends (§12.1.2); until a response to it makes a dialog the target is the Request-URI; a number that cannot be read counts as 0
 abbrev pub started : Peer → Message Start → Dialogue
 started peer m = record {
   side = Callee;
@@ -74,21 +74,21 @@ started peer m = record {
   invited = number_in m.lines;
 }
 
--- ---- what is taken of the other side
+-- ---- what is recorded of the other side
 
--- whether a side says with this tag who it is and which way leads to it. A caller does so in its INVITE, which has a tag (§12.1.1); later it has nothing new to say, and no
--- tag. A callee does so anew in each answer that makes or confirms a dialog, also where it gives no tag (§12.1.2, §13.2.2.4)
+-- whether a side that gives this tag sets its tag and its route set with it. A caller does so in its INVITE, which has a tag (§12.1.1); later it gives nothing new, and no tag. A
+-- callee does so anew in each response that makes or confirms a dialog, also where it gives no tag (§12.1.2, §13.2.2.4)
 abbrev pub names_itself : Side → List ℕ → Bool
 names_itself Caller [] = false
 names_itself Caller (b ∷ tag) = true
 names_itself Callee tag = true
 
--- the target that was said, or the one before where none was
+-- the target that was given, or the one before where none was
 abbrev pub said_or : List ℕ → List ℕ → List ℕ
 said_or [] before = before
 said_or (b ∷ target) before = b ∷ target
 
--- the dialog with what the other side said of itself
+-- the dialog with the tag, target and route set that the other side gave
 abbrev pub met : Dialogue → Remote → Dialogue
 met d r = record d {
   remote_tag = if names_itself d.side r.tag then r.tag else d.remote_tag;
@@ -96,43 +96,43 @@ met d r = record d {
   routes = if names_itself d.side r.tag then r.routes else d.routes;
 }
 
--- the dialog of an INVITE that came, with what the caller says of itself in it (§12.1.1)
+-- the dialog of a received INVITE, with the caller's tag, target and route set from it (§12.1.1)
 abbrev pub opened : Peer → List Line → List ℕ → Dialogue
 opened peer ls tag = met (taken peer ls tag) (remote_of Caller ls)
 
--- ---- what is heard in a dialog
+-- ---- requests that are received in a dialog
 
--- an INVITE while one of either side has no answer (§14.2); another request is heard at any time
+-- an INVITE is refused while one of either side is pending (§14.2); another request is accepted at any time
 abbrev pub unless_busy : Bool → InFlight → Result (Unit {0}) DialogueFault
 unless_busy invite in_flight.None = Ok tt
 unless_busy invite in_flight.Own = if invite then Err Pending else Ok tt
 unless_busy invite in_flight.Theirs = if invite then Err Unfinished else Ok tt
 
--- a number lower than the last is out of order (§12.2.2), whatever else is to be said
+-- a number lower than the last is out of order (§12.2.2), whatever else applies
 abbrev pub unless_old : Option ℕ → Option ℕ → Result (Unit {0}) DialogueFault → Result (Unit {0}) DialogueFault
 unless_old None last otherwise = otherwise
 unless_old (Some n) None otherwise = otherwise
 unless_old (Some n) (Some last) otherwise = if nat_lt n last then Err (OldCSeq last) else otherwise
 
--- what a dialog answers to a request
+-- whether a dialog accepts a request, or why not
 abbrev pub hears : Dialogue → Message Start → InFlight → Result (Unit {0}) DialogueFault
 hears d m busy = unless_old (number_in m.lines) d.last (unless_busy (is_method (codes "INVITE") m.start) busy)
 
--- the last number, once a request with this one was let through
+-- the last number, once a request with this one was accepted
 abbrev pub last_after : Option ℕ → Option ℕ → Option ℕ
 last_after None last = last
 last_after (Some n) last = Some n
 
--- the dialog once a request was let through: its last number and nothing else
+-- the dialog once a request was accepted: its last number changes and nothing else
 abbrev pub after_hearing : Dialogue → Message Start → Dialogue
 after_hearing d m = record d { last = last_after (number_in m.lines) d.last }
 
--- ---- what is asked in a dialog
+-- ---- requests that are sent in a dialog
 
 -- the number of the last INVITE, once a request of the method was made with this number
 abbrev pub invited_by : List ℕ → ℕ → Option ℕ → Option ℕ
 invited_by method number before = if bytes_eq method (codes "INVITE") then Some number else before
 
--- the dialog once a request of the method was made: its own number, which is that of the last INVITE too where it is one
+-- the dialog once a request of the method was made: its own number changes, and that of the last INVITE too where the request is one
 abbrev pub after_request : Dialogue → List ℕ → Dialogue
 after_request d method = record d { own = next_number d.own; invited = invited_by method (next_number d.own) d.invited }

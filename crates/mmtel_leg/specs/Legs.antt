@@ -1,4 +1,4 @@
--- What contracts see of a leg, of either side and in any state: its dialog, and its meter where it has one.
+-- The value of a leg in contracts, of either side and in any state: its dialog, and its meter where it has one.
 use Rattle.std.specs.Prelude.{Option, codes}
 use Rattle.mmtel_charging.specs.Meters.{Noted}
 use Rattle.mmtel_leg.specs.Dialogues.{after_request}

@@ -1,12 +1,12 @@
 -- What public clauses cite, which a user of the crate has to believe.
--- Of the calls:
+-- Of the functions:
 pub mod Remotes
 pub mod Dialogues
 pub mod Requests
 pub mod Legs
 pub mod Names
 pub mod Releases
--- Of the laws alone:
+-- Of the theorems alone:
 pub mod Deeds
 pub mod Readings
 

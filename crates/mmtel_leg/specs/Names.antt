@@ -1,9 +1,9 @@
--- By what a dialog is named (RFC 3261 §12).
+-- The identifiers of a dialog (RFC 3261 §12).
 use Rattle.std.specs.Prelude.{ℕ, ◌&&◌, Bool, List}
 use Rattle.std.specs.Str.{bytes_eq}
 use Rattle.mmtel_leg.specs.declared.dialogues.Dialogue.{Dialogue}
 
--- the name of a dialog: its Call-ID, the server's tag, and that of the other side
+-- the identifiers of a dialog: its Call-ID, the server's tag, and that of the other side
 pub record DialogName : Type 0 where
   pub call_id : List ℕ
   pub local : List ℕ

@@ -1,4 +1,4 @@
--- What is read of what is built in a dialog: its five fields (RFC 3261 §8.1.1); and the dialogs of which laws speak, from their beginning on.
+-- What is parsed of what is built in a dialog: its five fields (RFC 3261 §8.1.1); and the dialogs that theorems are about, from their beginning on.
 use Rattle.std.specs.Prelude.{ℕ, Option, Some, List, [], ◌∷◌, ◌++◌, codes}
 use Rattle.mmtel_lex.specs.declared.values.NameAddr.{NameAddr}
 use Rattle.mmtel_charging.specs.Meters.{Noted}
@@ -14,7 +14,7 @@ use Rattle.mmtel_leg.specs.Dialogues.{started, taken}
 use Rattle.mmtel_leg.specs.Requests.{Given}
 use Rattle.mmtel_leg.specs.declared.dialogues.Dialogue.{Dialogue}
 
--- the server's Via as it is read (§20.42)
+-- the server's Via as it is parsed (§20.42)
 abbrev pub via_of : Addr → List ℕ → Via
 via_of sip branch = record {
   transport = codes "UDP";
@@ -24,7 +24,7 @@ via_of sip branch = record {
   params = record { name = codes "branch"; value = Some (codes "z9hG4bK" ++ branch) } ∷ [];
 }
 
--- the five fields of what is built, where this is read of its From and To
+-- the five fields of what is built, where this is parsed of its From and To
 abbrev pub five_of : Dialogue → ℕ → List ℕ → Given → NameAddr → NameAddr → Five
 five_of d number method given from to = record {
   via = via_of given.sip given.branch;
@@ -34,7 +34,7 @@ five_of d number method given from to = record {
   cseq = record { number = number; method = method };
 }
 
--- the dialog of a leg that `take` made, and of one that `start` made, after these deeds
+-- the dialog of a leg that `take` made, and of one that `start` made, after these operations
 abbrev pub caller_after : Peer → Message Start → List ℕ → Option Noted → List Deed → Dialogue
 caller_after peer invite tag meter deeds = (after (record { dialogue = taken peer invite.lines tag; meter = meter }) deeds).dialogue
 

@@ -1,4 +1,4 @@
--- A leg that was taken out of its call, whichever side's it is.
+-- A leg that was detached from its call, on whichever side.
 use Rattle.mmtel_leg.specs.Legs.{Leg}
 use Rattle.mmtel_leg.specs.declared.legs.Released.{Released}
 use Rattle.mmtel_leg.specs.declared.legs.Released.TheVariants.{Caller, Callee}

@@ -1,5 +1,5 @@
--- What the other side of a dialog says of itself where the dialog begins: its tag, the URI of its Contact, and the way to it (RFC 3261 §12.1.1 for a caller, who sent the
--- INVITE, and §12.1.2 for a callee, who answered it).
+-- The other side of a dialog as its message describes it where the dialog begins: its tag, the URI of its Contact, and the route to it (RFC 3261 §12.1.1 for a caller, who sent
+-- the INVITE, and §12.1.2 for a callee, who responded to it).
 use Rattle.std.specs.Prelude.{ℕ, List, [], ◌∷◌, Option, Some, None, codes, reverse}
 use Rattle.std.specs.Option.{unwrap_or}
 use Rattle.mmtel_lex.specs.Reading.{name_addr_of}
@@ -19,7 +19,7 @@ field name ls = unwrap_or (first_value name ls) []
 unfoldable pub tag_in : List ℕ → List Line → List ℕ
 tag_in name ls = unwrap_or (tag_of (first_value name ls)) []
 
--- where a side is named: who sent the INVITE in From, who answered it in To
+-- the field that identifies a side: From for the sender of the INVITE, To for the one who responded
 abbrev pub field_of : Side → List ℕ
 field_of Caller = codes "From"
 field_of Callee = codes "To"
@@ -44,6 +44,6 @@ in_order Callee values = reverse values
 unfoldable pub route_set : Side → List Line → List (List ℕ)
 route_set side ls = in_order side (values_named Plain (codes "Record-Route") ls)
 
--- what a message with these lines says of the side that sent it
+-- the tag, target and route set of the side that sent a message with these lines
 abbrev pub remote_of : Side → List Line → Remote
 remote_of side ls = record { tag = tag_in (field_of side) ls; target = contact_uri ls; routes = route_set side ls }

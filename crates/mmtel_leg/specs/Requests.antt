@@ -13,7 +13,7 @@ use Rattle.mmtel_message.specs.Addresses.{contact_text, via_text}
 use Rattle.mmtel_scan.specs.Numbers.{next_number}
 use Rattle.mmtel_leg.specs.declared.dialogues.Dialogue.{Dialogue}
 
--- what a request has that its dialog does not know: the server's address, the hops that are left, the branch behind its cookie, the lines that are passed on, and the body
+-- the parts of a request that do not come from its dialog: the server's address, the remaining hops, the branch after its cookie, the lines that are passed on, and the body
 pub record Given : Type 0 where
   pub sip : Addr
   pub hops : ℕ
@@ -36,23 +36,23 @@ to_text Callee value (b ∷ tag) = tagged value (b ∷ tag)
 abbrev pub cseq_text : ℕ → List ℕ → List ℕ
 cseq_text number method = decimal number ++ 32 ∷ method
 
--- INVITE makes a dialog, UPDATE refreshes its target, and NOTIFY stands in one that a subscription made: each says where the server is reached (§12.1.1, RFC 3311 §5.1,
--- RFC 6665 §4.2.2)
+-- INVITE makes a dialog, UPDATE refreshes its target, and NOTIFY is in a dialog that a subscription made: each has the address at which the server is reached (§12.1.1, RFC 3311
+-- §5.1, RFC 6665 §4.2.2)
 abbrev pub is_contacting : List ℕ → Bool
 is_contacting method = (bytes_eq method (codes "INVITE") || bytes_eq method (codes "UPDATE")) || bytes_eq method (codes "NOTIFY")
 
--- Contact of such a request, unless the lines that are shown bring one of their own, as those of a conference room do
+-- Contact of such a request, unless the shown lines have one of their own, as those of a conference do
 abbrev pub contact_lines : List ℕ → Addr → List Line → List Line
 contact_lines method sip shown = if is_contacting method && not (has_line (codes "Contact") shown) then line (codes "Contact") (contact_text sip) else []
 
--- where the request goes: Via, the route set, and the hops that are left
+-- the lines by which the request is routed: Via, the route set, and the remaining hops
 abbrev pub routing_lines : List (List ℕ) → Addr → ℕ → List ℕ → List Line
 routing_lines routes sip hops branch =
     line (codes "Via") (via_text sip branch) ++
     (map route_line routes ++
     line (codes "Max-Forwards") (decimal hops))
 
--- whose request it is, and which
+-- the lines that identify the dialog and the request in it
 abbrev pub dialog_lines : Dialogue → ℕ → List ℕ → List Line
 dialog_lines d number method =
     line (codes "From") d.local ++
@@ -60,7 +60,7 @@ dialog_lines d number method =
     (line (codes "Call-ID") d.call_id ++
     line (codes "CSeq") (cseq_text number method)))
 
--- what it brings
+-- the contents of the request
 abbrev pub content_lines : List ℕ → Addr → List Line → List ℕ → List Line
 content_lines method sip shown body =
     contact_lines method sip shown ++

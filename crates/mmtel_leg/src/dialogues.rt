@@ -1,4 +1,4 @@
-//! What a leg of either side knows of its dialog (RFC 3261 §12).
+//! The dialog state that a leg of either side keeps (RFC 3261 §12).
 ghost use Rattle.std.specs.Prelude.{◌≡◌, ◌++◌, IfOk, OnErr, OnOk, codes, if◌then◌else◌};
 ghost use Rattle.mmtel_leg.specs.Dialogues.{after_hearing, hears, last_after, met, names_itself, opened, said_or, started, taken, unless_busy, unless_old};
 
@@ -9,17 +9,17 @@ use mmtel_scan::{List, NoMemory, Text, texts_copied};
 use mmtel_types::{Peer, Side};
 use std::alloc::Global;
 
-/// What a leg knows of its dialog: its names, the way to the other side, and its numbers.
+/// The dialog state of a leg: the identifiers of the dialog, the route to the other side, and the CSeq numbers.
 #[derive(Drop)]
 pub struct Dialogue {
-    /// Whose side of the call it is.
+    /// The side of the call on which the leg is.
     pub side: Side,
-    /// The peer that every message of the leg goes to.
+    /// The peer to which every message of the leg is sent.
     pub peer: Peer,
     pub call_id: Text,
     /// From of the server's requests.
     pub local: Text,
-    /// The other side, as the INVITE named it: a caller's From with its tag, or a callee's To.
+    /// The other side, as it is in the INVITE: a caller's From with its tag, or a callee's To.
     pub remote: Text,
     /// The server's tag.
     pub local_tag: Text,
@@ -31,24 +31,24 @@ pub struct Dialogue {
     pub routes: List<Text>,
     /// The number of the server's last request, 0 before the first.
     pub own: u64,
-    /// The number of the last request that was heard.
+    /// The number of the last request of the other side that was accepted.
     pub last: Option<u32>,
     /// The number of the server's last INVITE.
     pub invited: Option<u64>,
 }
 
-/// Which INVITE stands in the way of another one in a dialog (RFC 3261 §14.2).
+/// Which INVITE prevents another one in a dialog (RFC 3261 §14.2).
 #[derive(Clone, Copy, Debug, PartialEq, Eq)]
 pub enum InFlight {
     /// None.
     None,
-    /// The server's INVITE to the leg, or an ACK is due in the call, or of the seat in a conference room.
+    /// The server's INVITE to the leg, or an ACK is due in the call, or of the participant in a conference.
     Own,
-    /// The leg's INVITE to the server, which has no final answer.
+    /// The leg's INVITE to the server, which has no final response.
     Theirs,
 }
 
-/// Why a request is not heard in a dialog.
+/// Why a request is refused in a dialog.
 #[derive(Clone, Copy, Debug, PartialEq, Eq)]
 pub enum DialogueFault {
     /// Its number is lower than that of the last one (RFC 3261 §12.2.2).
@@ -56,9 +56,9 @@ pub enum DialogueFault {
         /// The number of the last one.
         last: u32,
     },
-    /// It is an INVITE, and the server's own is in flight (RFC 3261 §14.2, answered 491).
+    /// It is an INVITE, and the server's own is pending (RFC 3261 §14.2, answered 491).
     Pending,
-    /// It is an INVITE, and the one before has no final answer yet (RFC 3261 §14.2, answered 500).
+    /// It is an INVITE, and the one before has no final response yet (RFC 3261 §14.2, answered 500).
     Unfinished,
 }
 
@@ -107,7 +107,7 @@ fn answer(
     }
 }
 
-/// The number of the last request that was let through, where this one was.
+/// The number of the last accepted request, where this one was accepted.
 fn last_after(number: Option<u32>, last: Option<u32>) -> Option<u32>
     ensures { result ≡ last_after number last }
 {
@@ -117,7 +117,7 @@ fn last_after(number: Option<u32>, last: Option<u32>) -> Option<u32>
     }
 }
 
-/// A number of the other side, among the server's own.
+/// A number of the other side, with the width of the server's own.
 fn widened(number: Option<u32>) -> Option<u64>
     ensures { result ≡ number }
 {
@@ -127,7 +127,7 @@ fn widened(number: Option<u32>) -> Option<u64>
     }
 }
 
-/// Whether a side says by this tag who it is and which way leads to it.
+/// Whether a side that gives this tag sets its tag and its route set with it.
 fn names_itself(side: Side, tag: &[u8]) -> bool
     ensures { result ≡ names_itself side tag.now }
 {
@@ -138,11 +138,11 @@ fn names_itself(side: Side, tag: &[u8]) -> bool
 }
 
 impl Dialogue {
-    /// The same dialog.
+    /// A copy of the dialog.
     ///
     /// # Errors
     ///
-    /// Want of memory alone.
+    /// Out of memory only.
     pub fn copied(&self, alloc: Global) -> Result<Dialogue, NoMemory>
         ensures copy { IfOk result (λ d. d ≡ self.now) }
     {
@@ -169,11 +169,11 @@ impl Dialogue {
         })
     }
 
-    /// The dialog of an INVITE that came from the peer, where the server answers with this tag (RFC 3261 §12.1.1).
+    /// The dialog of an INVITE that came from the peer, where the server responds with this tag (RFC 3261 §12.1.1).
     ///
     /// # Errors
     ///
-    /// Want of memory alone.
+    /// Out of memory only.
     pub fn of_caller(
         alloc: Global,
         peer: Peer,
@@ -202,11 +202,11 @@ impl Dialogue {
         })
     }
 
-    /// The dialog of an INVITE that came from the peer, where the server answers with this tag, with what the caller says of itself in it (RFC 3261 §12.1.1).
+    /// The dialog of an INVITE that came from the peer, where the server responds with this tag, with the caller's tag, target and route set from it (RFC 3261 §12.1.1).
     ///
     /// # Errors
     ///
-    /// Want of memory alone.
+    /// Out of memory only.
     pub fn opened(alloc: Global, peer: Peer, invite: &Msg, tag: Text) -> Result<Dialogue, NoMemory>
         ensures opened { IfOk result (λ d. d ≡ opened peer invite.now.lines tag) }
     {
@@ -219,7 +219,7 @@ impl Dialogue {
     ///
     /// # Errors
     ///
-    /// Want of memory alone.
+    /// Out of memory only.
     pub fn of_callee(alloc: Global, peer: Peer, invite: &Msg) -> Result<Dialogue, NoMemory>
         ensures started { IfOk result (λ d. d ≡ started peer invite.now) }
     {
@@ -245,7 +245,7 @@ impl Dialogue {
         })
     }
 
-    /// With the target that was said, where one was.
+    /// With the target that was given, where one was.
     fn aimed_at(self, target: Text) -> Dialogue
         ensures { result ≡ record self { target = said_or target self.target } }
     {
@@ -256,7 +256,7 @@ impl Dialogue {
         }
     }
 
-    /// With the tag and the routes that were said, where its side says by them who it is.
+    /// With the tag and the routes that were given, where the side sets them with this tag.
     fn answered_by(self, tag: Text, routes: List<Text>) -> Dialogue
         ensures { result ≡ record self {
           remote_tag = if names_itself self.side tag then tag else self.remote_tag;
@@ -275,8 +275,8 @@ impl Dialogue {
         }
     }
 
-    /// The dialog once the other side has said who it is and where it is reached. Tag and routes of a callee are those that it says, also where it gives no tag (RFC 3261
-    /// §12.1.2, §13.2.2.4); those of a caller stay as they are where it says no tag. Without a target the target stays.
+    /// The dialog once the other side has given its tag, target and route set. Tag and routes of a callee are those that it gives, also where it gives no tag (RFC 3261 §12.1.2,
+    /// §13.2.2.4); those of a caller stay as they are where it gives no tag. Without a target the target stays.
     pub fn meet(self, remote: Remote) -> Dialogue
         ensures met { result ≡ met self remote }
     {
@@ -288,7 +288,7 @@ impl Dialogue {
         self.aimed_at(target).answered_by(tag, routes)
     }
 
-    /// Takes note of a request that was heard, or refuses it.
+    /// Records a received request, or refuses it.
     ///
     /// # Errors
     ///

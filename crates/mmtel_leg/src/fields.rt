@@ -1,4 +1,4 @@
-//! Fields of a message that was received, as a dialog reads them (RFC 3261 §12).
+//! Fields of a received message, as a dialog reads them (RFC 3261 §12).
 ghost use Rattle.std.specs.Prelude.{◌≡◌, IfOk, []};
 ghost use Rattle.std.specs.Option.{option_copied, unwrap_or};
 ghost use Rattle.mmtel_trust.specs.Digest.{tag_of};

@@ -16,7 +16,7 @@ use std::alloc::Global;
 use std::marker::{Model, PhantomData};
 use std::mem;
 
-/// The state of a leg whose INVITE has no answer with a dialog.
+/// The state of a leg whose INVITE has no response that makes a dialog.
 pub struct Asked;
 
 /// The state of a leg with an early dialog (RFC 3261 §12).
@@ -32,16 +32,16 @@ impl InDialog for Early {}
 
 impl InDialog for Standing {}
 
-/// The side that asked for the call.
+/// The calling side.
 pub struct OfCaller;
 
-/// A side that the call is offered to.
+/// A side to which the call is offered.
 pub struct OfCallee;
 
 /// One side of a call, in one of the states `Asked`, `Early` and `Standing`.
 ///
-/// A leg must be spent: it is not `Drop`, so a program that loses one does not compile, and `leave` gives what it had to account for. Contracts see what it knows of its
-/// dialog, and its meter.
+/// A leg must be spent: it is not `Drop`, so a program that loses one does not compile, and `leave` returns what the leg had to account for. Its value in contracts is its dialog
+/// state and its meter.
 pub struct LegOf<P, S> {
     dialogue: Dialogue,
     meter: Option<Meter>,
@@ -49,7 +49,7 @@ pub struct LegOf<P, S> {
     state: PhantomData<S>,
 }
 
-/// The leg of a caller: the server answers its INVITE (RFC 3261 §12.1.1).
+/// The leg of a caller: the server responds to its INVITE (RFC 3261 §12.1.1).
 pub type CallerLeg<S> = LegOf<OfCaller, S>;
 
 /// The leg of a callee: the server sends it an INVITE (RFC 3261 §12.1.2).
@@ -63,17 +63,17 @@ impl<P, S> Model for LegOf<P, S> {
     ghost view = { λ leg. record { dialogue = leg.dialogue; meter = leg.meter } };
 }
 
-/// What is left of a leg that has left its call. It must be spent.
+/// What remains of a leg that has left its call. It must be spent.
 pub struct Ended {
-    /// The meter that ran for it, if one did.
+    /// The meter that ran for it, if there was one.
     pub meter: Option<Meter>,
 }
 
-/// A leg that was taken out of its call. It must be spent.
+/// A leg that was detached from its call. It must be spent.
 pub enum Released {
-    /// The caller's.
+    /// The leg of the caller.
     Caller(CallerLeg<Standing>),
-    /// A callee's.
+    /// The leg of a callee.
     Callee(CalleeLeg<Standing>),
 }
 
@@ -113,7 +113,7 @@ impl<P, S> LegOf<P, S> {
         Ended { meter }
     }
 
-    /// Keeps this meter in the leg, and gives the one that was there.
+    /// Keeps this meter in the leg, and returns the one that was there.
     pub fn swap_meter(&mut self, meter: Option<Meter>) -> Option<Meter>
         ensures before { result ≡ self.old.meter }
         ensures after { self.new ≡ record self.old { meter = meter } }
@@ -149,12 +149,12 @@ impl<P, S> LegOf<P, S> {
         self.dialogue.local_tag.bytes()
     }
 
-    /// Takes note of a request that was heard from this side, or refuses it.
+    /// Records a request that was received from this side, or refuses it.
     ///
     /// # Errors
     ///
-    /// The first that applies; the leg is then as before. `OldCSeq` where its number is lower than that of the last request that was let through; for an INVITE, `Pending`
-    /// where the server's own is in flight and `Unfinished` where the one before has no final answer (RFC 3261 §12.2.2, §14.2).
+    /// The first that applies; the leg is then as before. `OldCSeq` where its number is lower than that of the last accepted request; for an INVITE, `Pending` where the server's
+    /// own is pending and `Unfinished` where the one before has no final response (RFC 3261 §12.2.2, §14.2).
     pub fn heard(&mut self, request: &Msg, busy: InFlight) -> Result<(), DialogueFault>
         ensures answer { result ≡ hears self.old.dialogue request.now busy }
         ensures heard { OnOk result (self.new ≡ with_dialogue self.old (after_hearing self.old.dialogue request.now)) }
@@ -163,7 +163,7 @@ impl<P, S> LegOf<P, S> {
         self.dialogue.hear(request, busy)
     }
 
-    /// The leg in another state, once the other side has said who it is.
+    /// The leg in another state, once the other side has given its tag, target and route set.
     fn met<T>(self, remote: Remote) -> LegOf<P, T>
         ensures { result ≡ with_dialogue self (met self.dialogue remote) }
     {
@@ -184,11 +184,11 @@ impl<P, S> LegOf<P, S> {
 }
 
 impl LegOf<OfCaller, Asked> {
-    /// The leg of a caller whose INVITE came from the peer, where the server answers with this tag.
+    /// The leg of a caller whose INVITE came from the peer, where the server responds with this tag.
     ///
     /// # Errors
     ///
-    /// Want of memory alone; the meter is handed back.
+    /// Out of memory only; the meter is handed back.
     pub fn take(
         alloc: Global,
         peer: Peer,
@@ -212,12 +212,12 @@ impl LegOf<OfCaller, Asked> {
 }
 
 impl LegOf<OfCaller, Standing> {
-    /// The leg of a caller whose INVITE came from the peer, where the server answers with this tag: it stands from the opening on, since the INVITE says all that the
-    /// caller says of itself (RFC 3261 §12.1.1).
+    /// The leg of a caller whose INVITE came from the peer, where the server responds with this tag: it is confirmed from its opening on, since the INVITE has all that the
+    /// caller gives of its dialog (RFC 3261 §12.1.1).
     ///
     /// # Errors
     ///
-    /// Want of memory alone; the meter is handed back.
+    /// Out of memory only; the meter is handed back.
     pub fn open(
         alloc: Global,
         peer: Peer,
@@ -241,7 +241,7 @@ impl LegOf<OfCaller, Standing> {
 }
 
 impl LegOf<OfCallee, Asked> {
-    /// The leg of a callee with whom this dialog began.
+    /// The leg of a callee whose dialog is this one, at its beginning.
     pub fn begun(dialogue: Dialogue, meter: Option<Meter>) -> CalleeLeg<Asked>
         ensures leg { result ≡ record { dialogue = dialogue; meter = meter } }
     {
@@ -253,11 +253,11 @@ impl LegOf<OfCallee, Asked> {
         }
     }
 
-    /// The leg of a callee to whom the server sends this INVITE by the peer.
+    /// The leg of a callee to whom the server sends this INVITE through the peer.
     ///
     /// # Errors
     ///
-    /// Want of memory alone; the meter is handed back.
+    /// Out of memory only; the meter is handed back.
     pub fn start(
         alloc: Global,
         peer: Peer,
@@ -314,12 +314,12 @@ impl<P, S: InDialog> LegOf<P, S> {
 
     /// The next request in the dialog (RFC 3261 §12.2.1.1): to its target, by its route set, with the number after that of the last one.
     ///
-    /// `sip` is the server's address, `hops` what Max-Forwards says, and `branch` what stands behind the cookie of the branch. The shown lines stand between CSeq and
-    /// Content-Length. An INVITE, an UPDATE and a NOTIFY have the server's Contact before them, unless they bring one.
+    /// `sip` is the server's address, `hops` the value of Max-Forwards, and `branch` what follows the cookie of the branch. The shown lines are between CSeq and Content-Length.
+    /// An INVITE, an UPDATE and a NOTIFY have the server's Contact before them, unless the shown lines have one.
     ///
     /// # Errors
     ///
-    /// Want of memory alone; the leg is then as before.
+    /// Out of memory only; the leg is then as before.
     pub fn request(
         &mut self,
         alloc: Global,
@@ -341,12 +341,12 @@ impl<P, S: InDialog> LegOf<P, S> {
 }
 
 impl<P> LegOf<P, Standing> {
-    /// The ACK of the last INVITE that the server sent in the dialog, a callee's first one among them: with that INVITE's number (RFC 3261 §13.2.2.4). Where it sent none,
-    /// as to a caller who was asked nothing, there is nothing to acknowledge, and the number is 0. The other words are as of `request`.
+    /// The ACK of the last INVITE that the server sent in the dialog, a callee's first one among them: with that INVITE's number (RFC 3261 §13.2.2.4). Where it sent none, as to
+    /// a caller that was sent no request, there is nothing to acknowledge, and the number is 0. The other parameters are as in `request`.
     ///
     /// # Errors
     ///
-    /// Want of memory alone.
+    /// Out of memory only.
     pub fn ack(
         &self,
         alloc: Global,

@@ -1,5 +1,4 @@
-//! Typed legs: one side of a call as a value that must be spent, with what it knows of its dialog (RFC 3261 §12), the requests that the server makes in it, and the meter
-//! that runs for it.
+//! Typed legs: one side of a call as a value that must be spent, with its dialog state (RFC 3261 §12), the requests that the server makes in it, and the meter that runs for it.
 #![tactic(auto)]
 
 mod dialogues;

@@ -1,10 +1,10 @@
-//! By what a dialog is named.
+//! The identifiers of a dialog.
 ghost use Rattle.std.specs.Prelude.{◌≡◌};
 ghost use Rattle.mmtel_leg.specs.Names.{has_name};
 
 use crate::dialogues::Dialogue;
 
-/// The name of a dialog as a request gives it: its Call-ID, the server's tag, and the other side's (RFC 3261 §12).
+/// The identifiers of a dialog as a request has them: its Call-ID, the server's tag, and the other side's (RFC 3261 §12).
 #[derive(Clone, Copy)]
 pub struct DialogName<'a> {
     /// Call-ID.
@@ -16,7 +16,7 @@ pub struct DialogName<'a> {
 }
 
 impl<'a> DialogName<'a> {
-    /// Whether the dialog has this name.
+    /// Whether the dialog has these identifiers.
     pub fn is_of(&self, dialogue: &Dialogue) -> bool
         ensures exact { result ≡ has_name self.now.call_id.now self.now.local.now self.now.remote.now dialogue.now }
     {

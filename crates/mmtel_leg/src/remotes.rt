@@ -1,4 +1,4 @@
-//! What the other side of a dialog says of itself where the dialog begins (RFC 3261 §12.1.1, §12.1.2).
+//! The other side of a dialog as its message describes it where the dialog begins (RFC 3261 §12.1.1, §12.1.2).
 ghost use Rattle.std.specs.Prelude.{◌≡◌, IfOk, reverse};
 ghost use Rattle.mmtel_leg.specs.Remotes.{contact_uri, field_of, first_uri, in_order, remote_of, route_set, uri_named};
 ghost use Rattle.mmtel_lex.specs.Reading.{name_addr_of};
@@ -10,7 +10,7 @@ use mmtel_scan::{List, NoMemory, Text};
 use mmtel_types::Side;
 use std::alloc::Global;
 
-/// What the other side of a dialog says of itself.
+/// The tag, the target and the route set that the other side of a dialog gives.
 #[derive(Drop)]
 pub struct Remote {
     /// Its tag; no bytes where it gave none.
@@ -31,7 +31,7 @@ fn field_of(side: Side) -> &'static [u8]
     }
 }
 
-/// The URI of a name-addr, or no bytes where the value is none.
+/// The URI of a name-addr, or no bytes where the value is no name-addr.
 fn uri_named(alloc: Global, value: &[u8]) -> Result<Text, NoMemory>
     ensures { IfOk result (λ t. t ≡ uri_named (name_addr_of value.now)) }
 {
@@ -90,12 +90,12 @@ fn route_set(alloc: Global, side: Side, message: &Msg) -> Result<List<Text>, NoM
 }
 
 impl Remote {
-    /// Reads what a side says of itself in a message that it sent: the caller in its INVITE, whose Record-Route values are the route set in order (RFC 3261 §12.1.1), or
-    /// the callee in its answer, whose are the route set from the last to the first (§12.1.2).
+    /// Reads tag, target and route set of a side in a message that it sent: of the caller in its INVITE, whose Record-Route values are the route set in order (RFC 3261 §12.1.1),
+    /// or of the callee in its response, whose values are the route set from the last to the first (§12.1.2).
     ///
     /// # Errors
     ///
-    /// Want of memory alone.
+    /// Out of memory only.
     pub fn read(alloc: Global, message: &Msg, side: Side) -> Result<Remote, NoMemory>
         ensures remote { IfOk result (λ remote. remote ≡ remote_of side message.now.lines) }
     {

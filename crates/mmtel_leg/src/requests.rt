@@ -16,14 +16,14 @@ use mmtel_types::{Addr, Side};
 use std::alloc::Global;
 use std::marker::Model;
 
-/// What a request has that its dialog does not know.
+/// The parts of a request that do not come from its dialog.
 #[derive(Drop)]
 pub struct Parts<'a> {
     /// The server's address.
     pub sip: Addr,
-    /// What Max-Forwards says.
+    /// The value of Max-Forwards.
     pub hops: u8,
-    /// What stands behind the cookie of the branch.
+    /// What follows the cookie of the branch.
     pub branch: &'a [u8],
     /// The lines that are passed on, in order.
     pub shown: &'a [Line],
@@ -60,7 +60,7 @@ impl<'a> Parts<'a> {
     }
 }
 
-/// Adds Route, one value a line.
+/// Adds Route, one line for each value.
 fn add_routes(alloc: Global, out: &mut List<Line>, routes: &[Text]) -> Result<(), NoMemory>
     ensures { OnOk result (out.new ≡ out.old ++ map route_line routes.now) }
 {
@@ -85,7 +85,7 @@ fn add_hops(alloc: Global, out: &mut List<Line>, hops: u8) -> Result<(), NoMemor
     add_decimal(alloc, out, b"Max-Forwards", u64::from(hops))
 }
 
-/// Adds where the request goes.
+/// Adds the lines by which the request is routed.
 fn add_routing(
     alloc: Global,
     out: &mut List<Line>,
@@ -127,7 +127,7 @@ fn cseq_text(alloc: Global, number: u64, method: &[u8]) -> Result<Text, NoMemory
     Ok(out)
 }
 
-/// Adds whose request it is, and which.
+/// Adds the lines that identify the dialog and the request in it.
 fn add_dialog(
     alloc: Global,
     out: &mut List<Line>,
@@ -182,7 +182,7 @@ fn add_contact(
     Ok(())
 }
 
-/// Adds what the request brings.
+/// Adds the contents of the request.
 fn add_content(
     alloc: Global,
     out: &mut List<Line>,
@@ -203,7 +203,7 @@ fn add_content(
 ///
 /// # Errors
 ///
-/// Want of memory alone.
+/// Out of memory only.
 pub fn numbered(
     alloc: Global,
     dialogue: &Dialogue,
@@ -254,7 +254,7 @@ impl Dialogue {
     ///
     /// # Errors
     ///
-    /// Want of memory alone; the dialog is then as before.
+    /// Out of memory only; the dialog is then as before.
     pub fn request(
         &mut self,
         alloc: Global,
@@ -274,7 +274,7 @@ impl Dialogue {
     ///
     /// # Errors
     ///
-    /// Want of memory alone.
+    /// Out of memory only.
     pub fn ack(&self, alloc: Global, parts: &Parts<'_>) -> Result<Msg, NoMemory>
         ensures message { IfOk result (λ m. m ≡ ack_of self.now parts.now) }
     {

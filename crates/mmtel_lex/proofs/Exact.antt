@@ -1,4 +1,4 @@
--- A reader that gives what a function on lists gives reads a grammar, where that function does.
+-- A reader whose result is that of a function on lists reads a grammar, where that function does.
 use Rattle.std.proofs.Common.{◌≡◌, ◌⊎◌, inl, inr, Option, Some, Result, Ok, Err, refl}
 use Rattle.std.specs.Prelude.{IfOk}
 use Rattle.mmtel_lex.specs.Outcome.{IsReadUnlessMemory, IsMalformed}
@@ -26,6 +26,6 @@ refused_of P read takes (Ok v) h none = absurd (none v (takes v h))
 refused_of P read takes (Err lex.Malformed) h none = inl refl
 refused_of P read takes (Err lex.NoMemory) h none = inr refl
 
--- two values that one list of bytes spells are one
+-- two values that one list of bytes spells are equal
 pub one_of : {V : Type 0} (read : Option V) (a b : V) → read ≡ Some a → read ≡ Some b → a ≡ b
 one_of read a b e f = cc

@@ -29,7 +29,7 @@ pub token_again : (t r : List ℕ) → IsToken t → Stops Token r → token_at 
 unfolding token_at
 token_again t r is stops = rw (run_again Token t r is.each stops, after_run_again Token t r is.each stops, filled_test (length t) is.filled) refl
 
--- ---- texts in quotes
+-- ---- quoted strings
 
 text_by : (s : List ℕ) (o : Option (List ℕ)) (x : List ℕ × List ℕ) → after_byte 34 s ≡ o → text_from o s ≡ Some x → (s ≡ x.0 ++ x.1) × IsValue x.0
 text_by s None x e h = let tok = token_takes s x h in (tok.0, inl tok.1)
@@ -174,7 +174,7 @@ pub end_by : {A : Type 0} (x : A) (s : List ℕ) (y : A) → at_end x s ≡ Some
 end_by x [] y e = (refl, some_is x y e)
 end_by x (b ∷ s) y e = absurd cc
 
--- parameters and nothing behind them
+-- parameters and nothing after them
 pub all_params_alone : (ps : List Param) → AreParams ps → all_params_at (params_text ps) ≡ Some (ps, [])
 all_params_alone ps are = subst (λ (l : List ℕ). all_params_at l ≡ Some (ps, [])) (append-nil (params_text ps)) (all_params_again ps [] are (record { token = tt; equals = refl }) refl)
 

@@ -9,7 +9,7 @@ use Rattle.mmtel_scan.proofs.ChainLaws.{tail_of}
 use Rattle.mmtel_scan.specs.Chain.{◌>>=◌}
 use Rattle.mmtel_lex.specs.Reading.{Fails, param_at, params_at, all_params_at, next_params}
 
--- what was read before, and what is still read
+-- what was read before, and what remains to be read
 abbrev pub with_front : List Param → Option (List Param × List ℕ) → Option (List Param × List ℕ)
 with_front front read = read >>= λ x. Some (front ++ x.0, x.1)
 

@@ -1,4 +1,4 @@
--- Looking for a parameter in the bytes, one parameter after the other, as a loop does.
+-- Searching for a parameter in the bytes, one parameter after the other, as a loop does.
 use Rattle.std.proofs.Common.{◌≡◌, true, false, ℕ, zero, suc, ◌≤◌, List, [], ◌∷◌, ◌++◌, length, Option, Some, None, refl, ap, ◌∙◌, arith, inl, inr}
 use Rattle.std.specs.Prelude.{is_some}
 use Rattle.std.proofs.lemmas.Bool.{cases_Bool}

@@ -1,4 +1,4 @@
--- What a text with escaped bytes stands for.
+-- To what a text with escaped bytes decodes.
 use Rattle.std.proofs.Common.{◌≡◌, ◌==◌, ◌&&◌, ◌⊎◌, true, false, Bool, ℕ, ◌+◌, ◌*◌, List, [], ◌∷◌, ◌++◌, drop, Option, Some, None, refl, sym, ap, subst, ◌∙◌, arith, inl, inr, nat_lt, append-nil}
 use Rattle.std.specs.Prelude.{is_some, ◌↔◌}
 use Rattle.std.specs.Option.{option_map}
@@ -11,7 +11,7 @@ use Rattle.mmtel_lex.specs.Percent.{IsBroken, all_unescaped, begins_hex, decoded
 use Rattle.mmtel_lex.specs.UriPlaces.{parts}
 use Rattle.mmtel_lex.proofs.UriPlaceLaws.{Filled, free_parts, parts_filled, parts_more}
 
--- ---- what each byte stands for
+-- ---- to what each byte decodes
 
 pub plain : (s : List ℕ) → IsFree 37 s → percent_decoded s ≡ Some s
 unfolding percent_decoded
@@ -54,7 +54,7 @@ pub escaped : (a b high low : ℕ) (s : List ℕ) → hex_value a ≡ Some high 
 unfolding percent_decoded
 escaped a b high low s e f = rw (no_percent a high e, no_percent b low f) (escaped_by a b high low (parts 37 s) (parts_filled 37 s) e f)
 
--- ---- where nothing is stood for
+-- ---- where a text decodes to nothing
 
 abbrev front_of : List (List ℕ) → List ℕ
 front_of [] = []
@@ -165,7 +165,7 @@ none_at front rest e =
     let first : unescaped (front_of (parts 37 rest)) ≡ None = unescaped_none (front_of (parts 37 rest)) (begins_front rest ∙ e) in
     rw (parts_more 37 front rest) (none_decoded (parts 37 front) (parts 37 rest) (parts_filled 37 front) (none_first (parts 37 rest) (parts_filled 37 rest) first))
 
--- a text stands for nothing exactly where it is broken
+-- a text decodes to nothing exactly where it is broken
 pub decides : (s : List ℕ) → (percent_decoded s ≡ None) ↔ IsBroken s
 unfolding percent_decoded
 decides s = (λ none. broken s (decoded_none (parts 37 s) none), λ is. subst (λ (l : List ℕ). percent_decoded l ≡ None) (sym is.whole) (none_at is.front is.rest is.digits))

@@ -1,4 +1,4 @@
--- A sip URI that stands for a number.
+-- A sip URI that represents a telephone number.
 use Rattle.std.proofs.Common.{◌≡◌, Bool, true, not, ℕ, List, [], ◌∷◌, Option, Some, refl, sym, ap, ◌∙◌, arith}
 use Rattle.std.specs.Prelude.{◌↔◌, IsTrue}
 use Rattle.std.specs.List.{list_all}

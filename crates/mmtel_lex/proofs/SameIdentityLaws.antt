@@ -68,7 +68,7 @@ unfolding is_same_identity
 identity_self (Sip u h p ps hs) = both (is_same_user u u) (str_eq_ignore_ascii_case h h) (user_self u) (is_text (str_to_ascii_lowercase h) (str_to_ascii_lowercase h) refl)
 identity_self (Tel m ps) = is_text (reduced m) (reduced m) refl
 
--- a test that is true exactly where this one is is this one
+-- a test that is true exactly where this one is true equals this one
 pub same_test : (b c : Bool) → (b ≡ true → c ≡ true) → (c ≡ true → b ≡ true) → b ≡ c
 same_test true c f g = sym (f refl)
 same_test false true f g = g refl

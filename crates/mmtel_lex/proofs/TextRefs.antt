@@ -1,4 +1,4 @@
--- A quoted string as a front of the bytes, its quotes included; a number as one.
+-- A quoted string as a prefix of the bytes, its quotes included; a number as one.
 use Rattle.std.proofs.Common.{◌≡◌, ℕ, zero, suc, ◌+◌, List, [], ◌∷◌, ◌++◌, take, drop, Option, Some, None, true, false, ◌-◌, length, refl, sym, ap, ◌∙◌, add-one, arith}
 use Rattle.std.proofs.lemmas.List.{drop_at, length-append, take_at}
 use Rattle.std.specs.List.{list_any}

@@ -1,4 +1,4 @@
--- What a reader that answers as uri_of does says of the grammar.
+-- What a reader whose result is that of uri_of claims about the grammar.
 use Rattle.std.proofs.Common.{◌≡◌, ◌⊎◌, inl, inr, ℕ, List, Result, Ok, Err, refl}
 use Rattle.std.specs.Prelude.{IfOk}
 use Rattle.mmtel_lex.specs.Grammar.{IsUri, IsForeign, IsNoUri}

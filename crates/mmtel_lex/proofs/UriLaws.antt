@@ -86,7 +86,7 @@ number_takes s x e =
     let g = guard_some (list_any (in_class Digit) (run Phone (sign_of s).1)) ((sign_of s).0 ++ run Phone (sign_of s).1, after_run Phone (sign_of s).1) x e in
     subst (λ (y : List ℕ × List ℕ). TakesNumber s y) g.1 (number_by s (after_byte 43 s) x refl g.0)
 
--- no plus sign comes first where a mark or nothing does
+-- no plus sign comes first where a visual separator or nothing does
 phone_not_plus : (b : ℕ) → in_class Phone b ≡ true → (b == 43) ≡ false
 unfolding in_class
 phone_not_plus b e = grind (arith, nat_tests)

@@ -1,4 +1,4 @@
--- What stands where in a URI: the last '@', and the parts of a text.
+-- Where the parts of a URI are: the last '@', and the parts of a text.
 use Rattle.std.proofs.Common.{◌≡◌, ◌==◌, Bool, true, false, not, ℕ, suc, ◌+◌, ◌-◌, ◌≤◌, ◌<◌, List, [], ◌∷◌, ◌++◌, length, take, drop, get_or, reverse, Option, Some, None, refl, sym, ap, subst, ◌∙◌, arith, inl, inr, nat_lt}
 use Rattle.std.specs.Prelude.{IfSome, MatchOption}
 use Rattle.std.specs.Option.{option_map}
@@ -14,7 +14,7 @@ use Rattle.mmtel_scan.proofs.Runs.{and_true, parted_none, prefix_each}
 use Rattle.mmtel_scan.proofs.ChainLaws.{some_is}
 use Rattle.mmtel_lex.specs.UriPlaces.{parts, user_part, host_part}
 
--- ---- fronts of a list
+-- ---- prefixes of a list
 
 prefix_stops : {A : Type 0} (p : A → Bool) (r : List A) → prefix_len p (drop (prefix_len p r) r) ≡ 0
 prefix_stops p [] = refl
@@ -90,7 +90,7 @@ no_host u =
 pub new_host : (u t : List ℕ) → IsFree 64 t → host_part (user_part u ++ t) ≡ t
 new_host u t free = host_more (user_part u) t free ∙ ap (λ (l : List ℕ). l ++ t) (no_host u)
 
--- the user stays, whatever stands behind it
+-- the user stays, whatever follows it
 pub new_user : (u t : List ℕ) → IsFree 64 t → user_part (user_part u ++ t) ≡ user_part u
 new_user u t free =
     let whole : user_part u ++ t ≡ user_part (user_part u ++ t) ++ host_part (user_part u ++ t) = whole_uri (user_part u ++ t) in

@@ -1,4 +1,4 @@
--- What parameters that stand in bytes say, as contracts see them.
+-- What parameters in bytes are, as contracts see them.
 use Rattle.std.specs.Prelude.{ℕ, List, [], Option, Some, None}
 use Rattle.mmtel_lex.specs.declared.values.Param.{Param}
 use Rattle.mmtel_lex.specs.Reading.{all_params_at}
@@ -8,6 +8,6 @@ abbrev pub params_read : Option (List Param × List ℕ) → List Param
 params_read None = []
 params_read (Some x) = x.0
 
--- the parameters that come first in the bytes
+-- the parameters with which the bytes begin
 abbrev pub params_in : List ℕ → List Param
 params_in s = params_read (all_params_at s)

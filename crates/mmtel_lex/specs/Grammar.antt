@@ -1,5 +1,5 @@
 -- How parameters, URIs and name-addrs are spelled: which lists of bytes are of the grammar, and the value that each spells (RFC 3261 §19.1.1, §20.10 and §25.1, RFC 3966 §3).
--- Each relation speaks of the whole list: it is its parts, put one behind the other.
+-- Each relation is about the whole list: it is its parts, one after the other.
 use Rattle.std.specs.Prelude.{reverse, ◌≡◌, ℕ, ◌<◌, List, [], ◌∷◌, ◌++◌, length, true, false, Option, ◌≢◌, ◌⊎◌, codes, decimal, Some, None, IfSome}
 use Rattle.std.specs.List.{list_any, flat_map}
 use Rattle.std.specs.Str.{str_to_ascii_lowercase}
@@ -18,7 +18,7 @@ use Rattle.mmtel_lex.specs.declared.values.Uri.TheVariants.{Sip, Tel}
 abbrev pub IsToken : List ℕ → Type 0
 IsToken s = IsOneOrMore Token s
 
--- a quoted string, its quotes included: within, a quote stands only behind a backslash
+-- a quoted string, its quotes included: within, a quote occurs only after a backslash
 pub record IsQuoted (s : List ℕ) : Type 0 where
   pub inner : List ℕ
   pub whole : s ≡ 34 ∷ (inner ++ 34 ∷ [])
@@ -42,7 +42,7 @@ pub record IsParam (p : Param) : Type 0 where
   pub name : IsToken p.name
   pub value : IfSome p.value IsValue
 
--- the text of parameters: one behind the other
+-- the text of parameters: one after the other
 abbrev pub params_text : List Param → List ℕ
 params_text ps = flat_map param_text ps
 
@@ -51,14 +51,14 @@ abbrev pub AreParams : List Param → Type 0
 AreParams [] = Unit {0}
 AreParams (p ∷ ps) = IsParam p × AreParams ps
 
--- the bytes are parameters, each behind its ';', and these are the ones that they spell
+-- the bytes are parameters, each after its ';', and these are the ones that they spell
 pub record IsParams (s : List ℕ) (ps : List Param) : Type 0 where
   pub whole : s ≡ params_text ps
   pub params_in : AreParams ps
 
 -- ---- URIs (RFC 3261 §19.1.1, RFC 3966 §3)
 
--- the text of a user: an '@' behind it
+-- the text of a user: an '@' after it
 abbrev pub user_text : Option (List ℕ) → List ℕ
 user_text None = []
 user_text (Some u) = u ++ 64 ∷ []
@@ -74,13 +74,13 @@ pub record IsPortOf (digits : List ℕ) (port : ℕ) : Type 0 where
   pub low : 0 < port
   pub high : port < 65536
 
--- the text that stands for a port, or for none
+-- the text of a port, or of none
 abbrev pub IsPort : List ℕ → Option ℕ → Type 0
 IsPort text None = text ≡ []
 IsPort text (Some port) = (digits : List ℕ) × (text ≡ 58 ∷ digits) × IsPortOf digits port
 
--- what may stand behind 'sip:': a user and '@', where there is a user, the host, a port, parameters and the header part; the '@' behind the user is the only one. No byte
--- is a blank, a control, a quote or an angle bracket: no value of a parameter is a quoted string here (uri-parameter)
+-- what may follow 'sip:': a user and '@', where there is a user, the host, a port, parameters and the header part; the '@' after the user is the only one. No byte
+-- is a blank, a control character, a quote or an angle bracket: no value of a parameter is a quoted string here (uri-parameter)
 pub record IsSip (s : List ℕ) (user : Option (List ℕ)) (host : List ℕ) (port : Option ℕ) (params : List Param) (headers : List ℕ) : Type 0 where
   pub bytes_in : IsAll UriByte s
   pub port_text : List ℕ
@@ -102,7 +102,7 @@ pub record IsNumber (number : List ℕ) : Type 0 where
   pub marks_in : IsAll Phone marks
   pub digit_in : list_any is_digit marks ≡ true
 
--- what may stand behind 'tel:': a number and parameters, of the same bytes as behind 'sip:'
+-- what may follow 'tel:': a number and parameters, of the same bytes as after 'sip:'
 pub record IsTel (s : List ℕ) (number : List ℕ) (params : List Param) : Type 0 where
   pub bytes_in : IsAll UriByte s
   pub whole : s ≡ number ++ params_text params
@@ -164,12 +164,12 @@ uri_text (Tel number params) = codes "tel:" ++ (number ++ params_text params)
 
 -- ---- name-addrs (RFC 3261 §20.10 and §25.1)
 
--- a display of words, or none: tokens parted by blanks, without a blank at the end
+-- a display name of words, or none: tokens separated by blanks, without a blank at the end
 pub record IsWords (s : List ℕ) : Type 0 where
   pub each : IsAll Display s
   pub ends : Stops Blank (reverse s)
 
--- the URI in angle brackets: a display or none, blanks or none, <URI> and parameters; no blank stands before them
+-- the URI in angle brackets: a display name or none, blanks or none, <URI> and parameters; no blank comes before them
 pub record IsAngled (s : List ℕ) (n : NameAddr) : Type 0 where
   pub gap : List ℕ
   pub whole : s ≡ n.display ++ (gap ++ (60 ∷ (n.uri ++ 62 ∷ params_text n.params)))
@@ -190,7 +190,7 @@ pub record IsBare (s : List ℕ) (n : NameAddr) : Type 0 where
 abbrev pub IsNameAddr : List ℕ → NameAddr → Type 0
 IsNameAddr s n = IsAngled s n ⊎ IsBare s n
 
--- the display and a blank before the '<', where there is a display
+-- the display name and a blank before the '<', where there is a display name
 abbrev pub display_text : List ℕ → List ℕ
 display_text [] = []
 display_text (b ∷ d) = (b ∷ d) ++ 32 ∷ []

@@ -1,14 +1,14 @@
--- What the clauses of public calls cite: the grammar, identity, answers, what parameters say, the places of a URI, and escaped bytes.
+-- What the clauses of public functions cite: the grammar, identity, results, what parameters say, the places of a URI, and escaped bytes.
 pub mod Grammar
 pub mod Identity
 pub mod Outcome
 pub mod Params
 pub mod Percent
 pub mod UriPlaces
--- What they cite as functions that compute, which laws tie to the grammar and to identity. Of Reading the parts of a URI and of a name-addr (user_at to headers_at,
+-- What they cite as computable functions, which theorems tie to the grammar and to identity. Of Reading the parts of a URI and of a name-addr (user_at to headers_at,
 -- scheme_of, number_at, angle_of to quoted_of) serve private functions alone.
 pub mod Reading
 pub mod SameIdentity
--- What the types that borrow from bytes are seen as: of Borrowed private functions and the invariant of ParamsRef alone.
+-- The views of the types that borrow from bytes: of Borrowed private functions and the invariant of ParamsRef alone.
 pub mod Borrowed
 pub mod UriRefs

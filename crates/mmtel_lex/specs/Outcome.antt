@@ -1,4 +1,4 @@
--- What a reader's answer says beside its value.
+-- What the result of a reader says beside its value.
 use Rattle.std.specs.Prelude.{Ok, ◌≡◌, ◌⊎◌, Result, Err}
 use Rattle.mmtel_lex.specs.declared.faults.LexFault.{LexFault}
 use Rattle.mmtel_lex.specs.declared.faults.LexFault.TheVariants as lex
@@ -6,7 +6,7 @@ use Rattle.mmtel_lex.specs.declared.values.Uri.{Uri}
 use Rattle.mmtel_lex.specs.declared.faults.UriFault.{UriFault}
 use Rattle.mmtel_lex.specs.declared.faults.UriFault.TheVariants.{Malformed, Scheme, NoMemory}
 
--- this answer, unless memory ran out
+-- this result, unless memory ran out
 abbrev pub IsUnlessMemory : Result Uri UriFault → Result Uri UriFault → Type 0
 IsUnlessMemory r wanted = (r ≡ wanted) ⊎ (r ≡ Err NoMemory)
 
@@ -22,12 +22,12 @@ IsMalformedUri r = r ≡ Err Malformed
 abbrev pub IsMalformed : {V : Type 0} → Result V LexFault → Type 0
 IsMalformed r = r ≡ Err lex.Malformed
 
--- the bytes are at fault, and not memory
+-- the fault is of the bytes, not out of memory
 abbrev pub IsOfBytes : LexFault → Type 0
 IsOfBytes lex.Malformed = Unit {0}
 IsOfBytes lex.NoMemory = ⊥
 
--- the bytes are at fault, and not memory
+-- the fault is of the bytes, not out of memory
 abbrev pub IsUriOfBytes : UriFault → Type 0
 IsUriOfBytes Malformed = Unit {0}
 IsUriOfBytes Scheme = Unit {0}

@@ -1,15 +1,15 @@
--- Escaped bytes of a URI: a '%' and two hexadecimal digits, of either case, stand for the byte that these write (RFC 3261 §19.1.2 and §25.1: escaped; RFC 3986 §2.1).
+-- Escaped bytes of a URI: a '%' and two hexadecimal digits, of either case, represent the byte that these write (RFC 3261 §19.1.2 and §25.1: escaped; RFC 3986 §2.1).
 use Rattle.std.specs.Prelude.{◌≡◌, ℕ, ◌+◌, ◌*◌, nat_lt, false, Bool, List, [], ◌∷◌, ◌++◌, Option, Some, None, if◌then◌else◌, is_some, ◌&&◌}
 use Rattle.std.specs.Char.{digit_value}
 use Rattle.std.specs.Option.{option_map}
 use Rattle.mmtel_scan.specs.Chain.{◌>>=◌}
 use Rattle.mmtel_lex.specs.UriPlaces.{parts}
 
--- what a hexadecimal digit is worth
+-- the value of a hexadecimal digit
 abbrev pub hex_value : ℕ → Option ℕ
 hex_value b = if nat_lt (digit_value b) 16 then Some (digit_value b) else None
 
--- what stands behind a '%' says: the byte of the two digits, and behind it what follows them
+-- to what the text after a '%' decodes: the byte of the two digits, and then what follows them
 abbrev pub unescaped : List ℕ → Option (List ℕ)
 unescaped [] = None
 unescaped (a ∷ []) = None
@@ -18,7 +18,7 @@ unescaped (a ∷ b ∷ rest) = do
   low ← hex_value b
   Some ((high * 16 + low) ∷ rest)
 
--- what several say, one behind another; nothing where one of them says nothing
+-- to what several decode, one after another; nothing where one of them decodes to nothing
 abbrev pub all_unescaped : List (List ℕ) → Option (List ℕ)
 all_unescaped [] = Some []
 all_unescaped (part ∷ parts) = do
@@ -26,16 +26,16 @@ all_unescaped (part ∷ parts) = do
   more ← all_unescaped parts
   Some (here ++ more)
 
--- what stands before the first '%', as it is, and what each part behind a '%' says
+-- what comes before the first '%', as it is, and to what each part after a '%' decodes
 abbrev pub decoded_parts : List (List ℕ) → Option (List ℕ)
 decoded_parts [] = Some []
 decoded_parts (front ∷ parts) = option_map (λ t. front ++ t) (all_unescaped parts)
 
--- the bytes that the text stands for; none where a '%' is not followed by two hexadecimal digits
+-- the bytes to which the text decodes; none where a '%' is not followed by two hexadecimal digits
 unfoldable pub percent_decoded : List ℕ → Option (List ℕ)
 percent_decoded s = decoded_parts (parts 37 s)
 
--- ---- in the subject's words
+-- ---- in the words of the RFCs
 
 -- two hexadecimal digits come first
 abbrev pub begins_hex : List ℕ → Bool

@@ -1,6 +1,6 @@
--- What the readers answer on each list of bytes, as total functions: of a whole list (uri_of, name_addr_of, params_of), and of its front with what follows it (token_at,
+-- The results of the readers on each list of bytes, as total functions: of a whole list (uri_of, name_addr_of, params_of), and of a prefix with what follows it (token_at,
 -- text_at, all_params_at, host_at, port_at).
--- A layer above cites them where it needs "is readable" as a test that computes. What is read is said by Grammar, and the contracts of the readers of whole lists tie the two.
+-- A layer above cites them where it needs "is readable" as a computable test. What is read is defined by Grammar, and the contracts of the readers of whole lists tie the two.
 use Rattle.std.specs.Prelude.{◌≡◌, ℕ, zero, suc, List, [], ◌∷◌, ◌++◌, codes, is_none, ◌&&◌, ◌+◌, length, take, drop, Option, Some, None, Result, Ok, Err, nat_lt, ◌==◌}
 use Rattle.std.specs.Prelude.{Bool, false, if◌then◌else◌}
 use Rattle.mmtel_scan.specs.Chain.{◌>>=◌}
@@ -19,7 +19,7 @@ use Rattle.mmtel_lex.specs.declared.values.Uri.TheVariants.{Sip, Tel}
 use Rattle.std.specs.List.{list_any, list_all}
 use Rattle.std.specs.Str.{str_eq_ignore_ascii_case}
 
--- What a function returned, seen by view, is what reading gives, unless memory ran out.
+-- The view of what a function returned is what reading gives, unless memory ran out.
 abbrev pub Fails : {Y : Type 0} → LexFault → Option Y → Type 0
 Fails lex.Malformed read = read ≡ None
 Fails lex.NoMemory read = Unit {0}
@@ -28,7 +28,7 @@ abbrev pub Gives : {X Y : Type 0} → (X → Y) → Result X LexFault → Option
 Gives view (Ok x) read = read ≡ Some (view x)
 Gives view (Err e) read = Fails e read
 
--- the value, where nothing is left
+-- the value, where no bytes remain
 abbrev pub at_end : {A : Type 0} → A → List ℕ → Option A
 at_end x [] = Some x
 at_end x (b ∷ s) = None
@@ -37,7 +37,7 @@ at_end x (b ∷ s) = None
 unfoldable pub token_at : List ℕ → Option (List ℕ × List ℕ)
 token_at s = if length (run Token s) == 0 then None else Some (run Token s, after_run Token s)
 
--- a text in quotes or a token, and what follows it
+-- a quoted string or a token, and what follows it
 abbrev pub text_from : Option (List ℕ) → List ℕ → Option (List ℕ × List ℕ)
 text_from None s = token_at s
 text_from (Some t) s = closes false t >>= λ n. Some (34 ∷ (take n t ++ 34 ∷ []), drop (n + 1) t)
@@ -45,7 +45,7 @@ text_from (Some t) s = closes false t >>= λ n. Some (34 ∷ (take n t ++ 34 ∷
 unfoldable pub text_at : List ℕ → Option (List ℕ × List ℕ)
 text_at s = text_from (after_byte 34 s) s
 
--- the value behind a '=', if there is one
+-- the value after a '=', if there is one
 abbrev pub value_from : Option (List ℕ) → List ℕ → Option (Option (List ℕ) × List ℕ)
 value_from None s = Some (None, s)
 value_from (Some t) s = text_at t >>= λ v. Some (Some v.0, v.1)
@@ -53,7 +53,7 @@ value_from (Some t) s = text_at t >>= λ v. Some (Some v.0, v.1)
 unfoldable pub value_at : List ℕ → Option (Option (List ℕ) × List ℕ)
 value_at s = value_from (after_byte 61 s) s
 
--- a parameter, behind its ';'
+-- a parameter, after its ';'
 unfoldable pub param_at : List ℕ → Option (Param × List ℕ)
 param_at s = do
   n ← token_at s
@@ -68,7 +68,7 @@ next_params more (Some t) s = do
   others ← more first.1
   Some (first.0 ∷ others.0, others.1)
 
--- parameters, at most so many
+-- parameters, at most that many
 unfoldable pub params_at : ℕ → List ℕ → Option (List Param × List ℕ)
 params_at zero s = Some ([], s)
 params_at (suc n) s = next_params (λ r. params_at n r) (after_byte 59 s) s
@@ -120,7 +120,7 @@ headers_from (Some t) s = headers_of t
 unfoldable pub headers_at : List ℕ → Option (List ℕ)
 headers_at s = headers_from (after_byte 63 s) s
 
--- the parts behind 'sip:', one behind the other
+-- the parts after 'sip:', one after the other
 abbrev pub sip_parts : List ℕ → Option Uri
 sip_parts s = do
   u ← user_at s
@@ -130,7 +130,7 @@ sip_parts s = do
   hs ← headers_at ps.1
   Some (Sip u.0 h.0 p.0 ps.0 hs)
 
--- all of the bytes behind 'sip:', each of which is one of a URI
+-- all of the bytes after 'sip:', each of which is one of a URI
 unfoldable pub sip_of : List ℕ → Option Uri
 sip_of s = if list_all (in_class UriByte) s then sip_parts s else None
 
@@ -158,14 +158,14 @@ sign_of s = sign_from (after_byte 43 s) s
 unfoldable pub number_at : List ℕ → Option (List ℕ × List ℕ)
 number_at s = if list_any (in_class Digit) (run Phone (sign_of s).1) then Some ((sign_of s).0 ++ run Phone (sign_of s).1, after_run Phone (sign_of s).1) else None
 
--- the parts behind 'tel:', one behind the other
+-- the parts after 'tel:', one after the other
 abbrev pub tel_parts : List ℕ → Option Uri
 tel_parts s = do
   n ← number_at s
   ps ← all_params_at n.1
   at_end (Tel n.0 ps.0) ps.1
 
--- all of the bytes behind 'tel:', each of which is one of a URI
+-- all of the bytes after 'tel:', each of which is one of a URI
 unfoldable pub tel_of : List ℕ → Option Uri
 tel_of s = if list_all (in_class UriByte) s then tel_parts s else None
 
@@ -215,7 +215,7 @@ words_from s (Some u) = if length (run Blank s) == 0 then angle_of (trimmed Blan
 unfoldable pub words_of : List ℕ → Option NameAddr
 words_of s = words_from s (after_byte 60 (after_run Display s))
 
--- a display in quotes, blanks and a '<'
+-- a display name in quotes, blanks and a '<'
 unfoldable pub quoted_of : List ℕ → Option NameAddr
 quoted_of s = text_at s >>= λ d. after_byte 60 (after_run Blank d.1) >>= λ u. angle_of d.0 u
 

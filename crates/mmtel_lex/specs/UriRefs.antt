@@ -1,4 +1,4 @@
--- The URI that a borrowed one is, and what its reader answers.
+-- The URI that a borrowed one represents, and the result of its reader.
 use Rattle.std.specs.Prelude.{◌≡◌, Result, Ok, Err}
 use Rattle.std.specs.Option.{option_copied}
 use Rattle.mmtel_lex.specs.declared.faults.UriFault.{UriFault}
@@ -8,7 +8,7 @@ use Rattle.mmtel_lex.specs.declared.values.Uri.{Uri}
 use Rattle.mmtel_lex.specs.declared.values.Uri.TheVariants.{Sip, Tel}
 use Rattle.mmtel_lex.specs.Reading.{Refusal, Refuses}
 
--- the URI whose parts stand in bytes
+-- the URI whose parts are in the bytes
 abbrev pub uri_seen : UriRef → Uri
 uri_seen (refs.Sip user host port params headers) = Sip (option_copied user) host.now port params headers.now
 uri_seen (refs.Tel number params) = Tel number.now params

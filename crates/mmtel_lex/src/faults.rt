@@ -21,7 +21,7 @@ impl From<NoMemory> for LexFault {
     }
 }
 
-/// What a refused `List::push` hands back is let go, so that `?` works on it.
+/// The item that a refused `List::push` returns is dropped, so that `?` works on the result.
 impl<T: Drop> From<(T, NoMemory)> for LexFault {
     ghost from_gives = { λ _ e. e ≡ lex.NoMemory };
 

@@ -1,4 +1,4 @@
-//! Which URIs are of one identity.
+//! Which URIs name the same identity.
 ghost use Rattle.std.specs.Prelude.{List, ℕ, ◌≡◌, ◌∷◌, ◌↔◌, IsTrue, MatchOption, IfSome, length, ◌<◌, []};
 ghost use Rattle.std.specs.Option.{option_copied};
 ghost use Rattle.std.specs.Str.{str_to_ascii_lowercase};
@@ -11,7 +11,7 @@ use crate::params::param_value;
 use crate::values::{Param, Params, Uri};
 use mmtel_scan::{Class, Text, is_all};
 
-/// The host of a sip URI; None exactly for a tel URI. It takes no memory.
+/// The host of a sip URI; None exactly for a tel URI. It allocates nothing.
 pub fn domain(uri: &Uri) -> Option<&[u8]>
     ensures { option_copied result ≡ host_of uri.now }
 {
@@ -27,7 +27,7 @@ fn is_mark_byte(b: u8) -> bool
     b == b'-' || b == b'.' || b == b'(' || b == b')'
 }
 
-/// The first byte that is no mark, and what follows it.
+/// The first byte that is no visual separator, and what follows it.
 fn next_kept(bytes: &[u8]) -> Option<(u8, &[u8])>
     ensures parts { MatchOption result (reduced bytes.now ≡ []) (λ x. reduced bytes.now ≡ x.0 ∷ reduced x.1.now) }
     ensures shorter { IfSome result (λ x. length x.1.now < length bytes.now) }
@@ -42,7 +42,7 @@ fn next_kept(bytes: &[u8]) -> Option<(u8, &[u8])>
     None
 }
 
-/// Whether the numbers are equal without their marks.
+/// Whether the numbers are equal without their visual separators.
 fn same_number(a: &[u8], b: &[u8]) -> bool
     ensures { IsTrue result ↔ (reduced a.now ≡ reduced b.now) }
 {
@@ -99,7 +99,7 @@ fn is_plus_digits(bytes: &[u8]) -> bool
     }
 }
 
-/// Whether a sip URI with this user and these parameters stands for the number.
+/// Whether a sip URI with this user and these parameters represents the number.
 fn is_phone(user: &Option<Text>, params: &Params, number: &[u8]) -> bool
     ensures { IsTrue result ↔ IsPhone user.now params.now (reduced number.now) }
 {
@@ -145,10 +145,10 @@ fn are_same(a: &Uri, b: &Uri) -> bool
     }
 }
 
-/// Whether the URIs are of one identity. It takes no memory.
+/// Whether the URIs name the same identity. It allocates nothing.
 ///
 /// Two sip URIs are where their users are equal byte for byte and their hosts without case. Two tel URIs are where their numbers are equal without visual separators. A sip
-/// and a tel URI are where the sip URI's user is `+` and digits, its first parameter `user` says `phone`, and its user is the number without visual separators.
+/// and a tel URI are where the sip URI's user is `+` and digits, its first parameter `user` has the value `phone`, and its user is the number without visual separators.
 pub fn same_identity(a: &Uri, b: &Uri) -> bool
     ensures relation { IsTrue result ↔ IsSameIdentity a.now b.now }
     ensures tested { result ≡ is_same_identity a.now b.now }

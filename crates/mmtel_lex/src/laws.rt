@@ -1,4 +1,4 @@
-//! Laws of the definitions that the readers' contracts cite: each is the contract of a function that does nothing.
+//! Theorems about the definitions that the contracts of readers cite: each is the contract of a function that does nothing.
 ghost use Rattle.std.specs.Prelude.{◌≡◌, ◌==◌, ◌+◌, ◌*◌, ◌∷◌, ◌↔◌, ℕ, List, Option, Some, false, true};
 ghost use Rattle.std.specs.Option.{option_map};
 ghost use Rattle.std.specs.Str.{str_to_ascii_lowercase};
@@ -25,8 +25,8 @@ pub fn uris_are_unique()
     ensures not_foreign { (s : List ℕ) (u : Uri) → IsUri s u → IsForeign s → ⊥ }
 {}
 
-/// A URI has visible bytes alone, and of these no quote and no angle bracket, as it was read and as it is printed: so nobody puts a line, a blank or a quoted string into a
-/// message by one.
+/// A URI has visible bytes alone, and of these no quote and no angle bracket, as it was read and as it is printed: so a URI cannot put a line, a blank or a quoted string
+/// into a message.
 pub fn uris_are_visible()
     ensures text { (s : List ℕ) (u : Uri) → IsUri s u → IsAll UriByte s }
     ensures printed { (s : List ℕ) (u : Uri) → IsUri s u → IsAll UriByte (uri_text u) }
@@ -37,13 +37,13 @@ pub fn name_addrs_are_unique()
     ensures one { (s : List ℕ) (n m : NameAddr) → IsNameAddr s n → IsNameAddr s m → n ≡ m }
 {}
 
-/// Each URI is of one identity with itself, and which of two comes first does not count.
+/// Identity is reflexive and symmetric.
 pub fn identity_is_mutual()
     ensures reflexive { (u : Uri) → IsSameIdentity u u }
     ensures symmetric { (u v : Uri) → IsSameIdentity u v → IsSameIdentity v u }
 {}
 
-/// The test of identity is true exactly of the URIs that are of one identity.
+/// The test of identity is true exactly of the URIs that name the same identity.
 pub fn identity_is_tested()
     ensures exact { (u v : Uri) → is_same_identity u v ≡ true ↔ IsSameIdentity u v }
 {}
@@ -62,14 +62,14 @@ pub fn tel_identity_is_number()
         IsSameIdentity (Tel number params) (Tel other other_params) ↔ IsSameIdentity (Tel number2 params2) (Tel other other_params) }
 {}
 
-/// Between a sip and a tel URI only the user of the sip URI counts, whether its first parameter `user` says `phone`, and the digits of the tel URI.
+/// Between a sip and a tel URI identity depends only on the user of the sip URI, on whether its first parameter `user` has the value `phone`, and on the digits of the tel URI.
 pub fn phone_identity_is_user_and_number()
     ensures same { (user : Option (List ℕ)) (host host2 number number2 : List ℕ) (port port2 : Option ℕ) (params params2 tel_params tel_params2 : List Param)
         (headers headers2 : List ℕ) → has_user_phone params ≡ has_user_phone params2 → reduced number ≡ reduced number2 →
         IsSameIdentity (Sip user host port params headers) (Tel number tel_params) ↔ IsSameIdentity (Sip user host2 port2 params2 headers2) (Tel number2 tel_params2) }
 {}
 
-/// A byte that is no `%` stands for itself, and an escaped byte for the byte that its digits write; so a text without `%` stands for itself.
+/// A byte that is no `%` decodes to itself, and an escaped byte to the byte that its digits write; so a text without `%` decodes to itself.
 pub fn escapes_stand_for_their_byte()
     ensures plain { (s : List ℕ) → IsFree 37 s → percent_decoded s ≡ Some s }
     ensures other { (b : ℕ) (s : List ℕ) → (b == 37) ≡ false → percent_decoded (b ∷ s) ≡ option_map (λ t. b ∷ t) (percent_decoded s) }

@@ -1,5 +1,5 @@
-//! The grammars of SIP's parts: parameters, URIs and name-addrs (RFC 3261 §19.1, §20.10 and §25.1, RFC 3966 §3); which URIs are of one identity; where the parts of any URI
-//! stand, and its escaped bytes (RFC 3986 §2.1).
+//! The grammars of parts of SIP messages: parameters, URIs and name-addrs (RFC 3261 §19.1, §20.10 and §25.1, RFC 3966 §3); which URIs name the same identity; where the parts of
+//! any URI are, and its escaped bytes (RFC 3986 §2.1).
 #![tactic(auto)]
 
 mod faults;

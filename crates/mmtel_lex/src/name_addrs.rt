@@ -1,4 +1,4 @@
-//! Name-addrs: a display and a URI (RFC 3261 §20.10).
+//! Name-addrs: a display name and a URI (RFC 3261 §20.10).
 ghost use Rattle.std.specs.Prelude.{IfOk, Err, ◌≡◌, ◌⊎◌};
 ghost use Rattle.std.specs.Option.{option_copied};
 ghost use Rattle.mmtel_lex.specs.Grammar.{IsNameAddr};
@@ -14,14 +14,14 @@ use mmtel_scan::{Class, NoMemory, Text, skip_byte, split_run, trim_end};
 use std::alloc::Global;
 use std::marker::Model;
 
-/// A name-addr as it stands in bytes (RFC 3261 §20.10); contracts see the name-addr.
+/// A name-addr in place in the bytes (RFC 3261 §20.10); in contracts it is the name-addr.
 #[derive(Drop)]
 pub struct NameAddrRef<'a> {
-    /// The display as it was written, quotes included; no bytes where there is none.
+    /// The display name as it was written, quotes included; no bytes where there is none.
     pub display: &'a [u8],
     /// The bytes of the URI, whatever its scheme.
     pub uri: &'a [u8],
-    /// The parameters of the header that it stands in.
+    /// The parameters of the header field that it is in.
     pub params: ParamsRef<'a>,
 }
 
@@ -35,7 +35,7 @@ impl<'a> Model for NameAddrRef<'a> {
 
 impl<'a> NameAddrRef<'a> {
     /// The value of the first of its parameters of this name, which is compared without case (RFC 3261 §7.3.1); None where there is none of that name, or the first has no
-    /// value. It takes no memory.
+    /// value. It allocates nothing.
     pub fn param(&self, name: &[u8]) -> Option<&'a [u8]>
         ensures { option_copied result ≡ param_value name.now self.now.params }
     {
@@ -46,7 +46,7 @@ impl<'a> NameAddrRef<'a> {
     ///
     /// # Errors
     ///
-    /// Want of memory alone.
+    /// Out of memory only.
     pub fn owned(&self, alloc: Global) -> Result<NameAddr, NoMemory>
         ensures { IfOk result (λ name_addr. name_addr ≡ self.now) }
     {
@@ -104,7 +104,7 @@ fn bare(bytes: &[u8]) -> Option<NameAddrRef<'_>>
     }
 }
 
-/// A display of words or none and a URI in brackets, or a bare URI.
+/// A display name of words or none and a URI in brackets, or a bare URI.
 #[tactic(auto, unfolding(crate::specs::Reading::words_of))]
 fn in_words(bytes: &[u8]) -> Option<NameAddrRef<'_>>
     ensures { result ≡ words_of bytes.now }
@@ -122,7 +122,7 @@ fn in_words(bytes: &[u8]) -> Option<NameAddrRef<'_>>
     }
 }
 
-/// A display in quotes and a URI in brackets.
+/// A display name in quotes and a URI in brackets.
 #[tactic(auto, unfolding(crate::specs::Reading::quoted_of))]
 fn in_quotes(bytes: &[u8]) -> Option<NameAddrRef<'_>>
     ensures { result ≡ quoted_of bytes.now }
@@ -133,9 +133,9 @@ fn in_quotes(bytes: &[u8]) -> Option<NameAddrRef<'_>>
     angled(display, tail)
 }
 
-/// A name-addr as it stands in these bytes, all of which are read (RFC 3261 §20.10); None exactly where they are not of the grammar. It takes no memory.
+/// The name-addr that these bytes are, in place; all of the bytes are read (RFC 3261 §20.10). None exactly where they are not of the grammar. It allocates nothing.
 ///
-/// It is a display or none, `<`, a URI of any scheme, `>` and parameters, or a bare URI without `,`, `;` and `?` and parameters.
+/// It is a display name or none, `<`, a URI of any scheme, `>` and parameters, or a bare URI without `,`, `;` and `?` and parameters.
 #[tactic(auto, unfolding(crate::specs::Reading::name_addr_of))]
 pub fn name_addr_ref(bytes: &[u8]) -> Option<NameAddrRef<'_>>
     ensures exact { result ≡ name_addr_of bytes.now }
@@ -155,16 +155,16 @@ fn name_addr(alloc: Global, bytes: &[u8]) -> Result<NameAddr, LexFault>
     }
 }
 
-/// Reads a name-addr (RFC 3261 §20.10): a display or none, `<`, a URI of any scheme, `>` and parameters, or a bare URI without `,`, `;` and `?` and parameters; all of the
-/// bytes are read.
+/// Reads a name-addr (RFC 3261 §20.10): a display name or none, `<`, a URI of any scheme, `>` and parameters, or a bare URI without `,`, `;` and `?` and parameters; all of
+/// the bytes are read.
 ///
-/// The display keeps its bytes, quotes included, and the URI keeps its own.
+/// The display name keeps its bytes, quotes included, and the URI keeps its own.
 ///
 /// # Errors
 ///
 /// `Malformed` exactly where the bytes are not of the grammar. `NoMemory` where memory ran out.
 pub fn read_name_addr(alloc: Global, bytes: &[u8]) -> Result<NameAddr, LexFault>
-    // The answer is that of the total reading function.
+    // The result is that of the total reading function.
     ensures exact { Gives (λ x. x) result (name_addr_of bytes.now) }
     // What is read is what the bytes spell.
     ensures found { IfOk result (λ n. IsNameAddr bytes.now n) }

@@ -1,4 +1,4 @@
-//! Parameters as they stand in the bytes that they were read from (RFC 3261 §25.1). Reading and asking take no memory.
+//! Parameters in place in the bytes that they were read from (RFC 3261 §25.1). Reading and searching allocate nothing.
 ghost use Rattle.std.specs.Prelude.{◌≡◌, ◌≤◌, length, is_some, true, IfOk, IfSome};
 ghost use Rattle.std.specs.Option.{option_copied, option_map};
 ghost use Rattle.std.specs.Str.{str_eq_ignore_ascii_case};
@@ -13,7 +13,7 @@ use mmtel_scan::{NoMemory, Text, skip_byte};
 use std::alloc::Global;
 use std::marker::Model;
 
-/// A parameter as it stands in bytes; contracts see the parameter.
+/// A parameter in place in the bytes; in contracts it is the parameter.
 #[derive(Drop)]
 pub(crate) struct ParamRef<'a> {
     name: &'a [u8],
@@ -29,10 +29,10 @@ impl<'a> Model for ParamRef<'a> {
     ghost view = { λ p. record { name = p.name.now; value = option_copied p.value } };
 }
 
-/// Parameters as they stand in bytes; contracts see the list of them.
+/// Parameters in place in the bytes; in contracts they are the list of the parameters.
 #[derive(Drop)]
 pub struct ParamsRef<'a> {
-    /// The bytes that the parameters come first in, each behind its `;`.
+    /// The bytes, which begin with the parameters, each after its `;`.
     bytes: &'a [u8],
 }
 
@@ -84,7 +84,7 @@ impl<'a> ParamRef<'a> {
 
 impl<'a> ParamsRef<'a> {
     /// The value of the first parameter of the name, which is compared without case (RFC 3261 §7.3.1); None where there is none of that name, or the first has no value.
-    /// It takes no memory.
+    /// It allocates nothing.
     #[tactic(auto, using(crate::proofs::ParamsSeek::none_valued, crate::proofs::ParamsSeek::one_valued))]
     pub fn value(&self, name: &[u8]) -> Option<&'a [u8]>
         ensures { option_copied result ≡ param_value name.now self.now }
@@ -92,7 +92,7 @@ impl<'a> ParamsRef<'a> {
         first_in(self.bytes, name)?.value()
     }
 
-    /// Whether there is a parameter of the name, which is compared without case (RFC 3261 §7.3.1), with a value or without. It takes no memory.
+    /// Whether there is a parameter of the name, which is compared without case (RFC 3261 §7.3.1), with a value or without. It allocates nothing.
     pub fn has(&self, name: &[u8]) -> bool
         ensures { result ≡ has_param name.now self.now }
     {
@@ -103,7 +103,7 @@ impl<'a> ParamsRef<'a> {
     ///
     /// # Errors
     ///
-    /// Want of memory alone.
+    /// Out of memory only.
     pub fn owned(&self, alloc: Global) -> Result<Params, NoMemory>
         ensures { IfOk result (λ params. params ≡ self.now) }
     {
@@ -111,7 +111,7 @@ impl<'a> ParamsRef<'a> {
     }
 }
 
-/// A copy of the parameters at the front.
+/// A copy of the parameters at the start.
 fn copied(alloc: Global, bytes: &[u8]) -> Result<Params, NoMemory>
     requires { is_some (all_params_at bytes.now) ≡ true }
     ensures { IfOk result (λ params. params ≡ params_in bytes.now) }
@@ -123,7 +123,7 @@ fn copied(alloc: Global, bytes: &[u8]) -> Result<Params, NoMemory>
     }
 }
 
-/// The value behind a `=`, where one comes.
+/// The value after a `=`, where one comes.
 #[tactic(auto, unfolding(crate::specs::Reading::value_at))]
 fn value_ref(bytes: &[u8]) -> Option<(Option<&[u8]>, &[u8])>
     ensures exact { option_map (λ x. (option_copied x.0, x.1.now)) result ≡ value_at bytes.now }
@@ -149,7 +149,7 @@ pub(crate) fn param_ref(bytes: &[u8]) -> Option<(ParamRef<'_>, &[u8])>
     Some((ParamRef { name, value }, rest))
 }
 
-/// The parameters at the front, each behind its `;`, and what follows them; None exactly where a `;` comes that no parameter follows. It takes no memory.
+/// The parameters at the start, each after its `;`, and what follows them; None exactly where a `;` comes that no parameter follows. It allocates nothing.
 pub fn params_ref(bytes: &[u8]) -> Option<(ParamsRef<'_>, &[u8])>
     ensures exact { option_map (λ x. (x.0, x.1.now)) result ≡ all_params_at bytes.now }
 {
@@ -157,7 +157,7 @@ pub fn params_ref(bytes: &[u8]) -> Option<(ParamsRef<'_>, &[u8])>
     Some((ParamsRef { bytes }, rest))
 }
 
-/// What follows the parameters at the front.
+/// What follows the parameters at the start.
 fn after_params(bytes: &[u8]) -> Option<&[u8]>
     ensures { option_copied result ≡ option_map (λ x. x.1) (all_params_at bytes.now) }
 {
@@ -169,7 +169,7 @@ fn after_params(bytes: &[u8]) -> Option<&[u8]>
     Some(rest)
 }
 
-/// The first parameter of the name among those at the front.
+/// The first parameter of the name among those at the start.
 fn first_in<'a>(bytes: &'a [u8], name: &[u8]) -> Option<ParamRef<'a>>
     requires { is_some (all_params_at bytes.now) ≡ true }
     ensures { result ≡ first_param name.now (params_in bytes.now) }

@@ -13,7 +13,7 @@ use crate::values::{Param, Params};
 use mmtel_scan::{Class, List, Text, closing, skip_byte, split_run};
 use std::alloc::Global;
 
-/// A token at the front, and what follows it (RFC 3261 §25.1); None exactly where no byte of a token comes first. It takes no memory.
+/// A token at the start, and what follows it (RFC 3261 §25.1); None exactly where no byte of a token comes first. It allocates nothing.
 #[tactic(auto, unfolding(crate::specs::Reading::token_at))]
 pub fn token_ref(bytes: &[u8]) -> Option<(&[u8], &[u8])>
     ensures exact { option_map (λ x. (x.0.now, x.1.now)) result ≡ token_at bytes.now }
@@ -26,7 +26,7 @@ pub fn token_ref(bytes: &[u8]) -> Option<(&[u8], &[u8])>
     Some((front, rest))
 }
 
-/// A token at the front, copied, and what follows it (RFC 3261 §25.1).
+/// A token at the start, copied, and what follows it (RFC 3261 §25.1).
 ///
 /// # Errors
 ///
@@ -41,7 +41,7 @@ pub fn token(alloc: Global, bytes: &[u8]) -> Result<(Text, &[u8]), LexFault>
     }
 }
 
-/// A quoted string, its quotes included, or a token at the front, and what follows it (RFC 3261 §25.1); None exactly where neither comes first. It takes no memory.
+/// A quoted string, its quotes included, or a token at the start, and what follows it (RFC 3261 §25.1); None exactly where neither comes first. It allocates nothing.
 #[tactic(auto, unfolding(crate::specs::Reading::text_at))]
 pub fn text_ref(bytes: &[u8]) -> Option<(&[u8], &[u8])>
     ensures exact { option_map (λ x. (x.0.now, x.1.now)) result ≡ text_at bytes.now }
@@ -56,7 +56,7 @@ pub fn text_ref(bytes: &[u8]) -> Option<(&[u8], &[u8])>
     }
 }
 
-/// A quoted string, its quotes included, or a token at the front, copied, and what follows it (RFC 3261 §25.1).
+/// A quoted string, its quotes included, or a token at the start, copied, and what follows it (RFC 3261 §25.1).
 ///
 /// # Errors
 ///
@@ -82,7 +82,7 @@ fn param(alloc: Global, bytes: &[u8]) -> Result<(Param, &[u8]), LexFault>
     }
 }
 
-/// The parameters at the front, copied, and what follows them.
+/// The parameters at the start, copied, and what follows them.
 ///
 /// # Errors
 ///
@@ -116,7 +116,7 @@ fn value_bytes(value: &Option<Text>) -> Option<&[u8]>
 }
 
 /// The value of the first parameter of the name, which is compared without case (RFC 3261 §7.3.1); None where there is none of that name, or the first has no value. It
-/// takes no memory.
+/// allocates nothing.
 pub fn param_value<'a>(params: &'a [Param], name: &[u8]) -> Option<&'a [u8]>
     ensures { option_copied result ≡ param_value name.now params.now }
 {
@@ -141,13 +141,13 @@ fn all_params(alloc: Global, bytes: &[u8]) -> Result<Params, LexFault>
     }
 }
 
-/// Reads parameters, each behind its `;` (RFC 3261 §25.1: generic-param); all of the bytes are read.
+/// Reads parameters, each after its `;` (RFC 3261 §25.1: generic-param); all of the bytes are read.
 ///
 /// # Errors
 ///
 /// `Malformed` exactly where the bytes are not of the grammar. `NoMemory` where memory ran out.
 pub fn read_params(alloc: Global, bytes: &[u8]) -> Result<Params, LexFault>
-    // The answer is that of the total reading function.
+    // The result is that of the total reading function.
     ensures exact { Gives (λ x. x) result (params_of bytes.now) }
     // What is read is what the bytes spell.
     ensures found { IfOk result (λ ps. IsParams bytes.now ps) }

@@ -8,7 +8,7 @@ use crate::uri_places::first_part;
 use mmtel_scan::{NoMemory, Text};
 use std::alloc::Global;
 
-/// What a hexadecimal digit of either case is worth.
+/// The value of a hexadecimal digit of either case.
 fn hex_value(byte: u8) -> Option<u8>
     ensures { result ≡ hex_value byte }
 {
@@ -18,7 +18,7 @@ fn hex_value(byte: u8) -> Option<u8>
     }
 }
 
-/// What stands behind a `%`: the byte that its two digits write, and what follows them.
+/// What follows a `%`: the byte that its two digits write, and what comes after them.
 fn unescaped(part: &[u8]) -> Option<(u8, &[u8])>
     ensures { option_map (λ x. x.0 ∷ x.1.now) result ≡ unescaped part.now }
 {
@@ -32,7 +32,7 @@ fn unescaped(part: &[u8]) -> Option<(u8, &[u8])>
     }
 }
 
-/// Adds what stands behind a `%`; false where it is no escape.
+/// Appends what the text after a `%` decodes to; false where it is no escape.
 fn add_unescaped(alloc: Global, out: &mut Text, part: &[u8]) -> Result<bool, NoMemory>
     ensures { IfOk result (λ said. (if said then Some out.new else None) ≡ option_map (λ t. out.old ++ t) (unescaped part.now)) }
 {
@@ -46,7 +46,7 @@ fn add_unescaped(alloc: Global, out: &mut Text, part: &[u8]) -> Result<bool, NoM
     }
 }
 
-/// Adds what the parts say, each of which stands behind a `%`; false where one is no escape.
+/// Appends what the parts decode to, each of which follows a `%`; false where one is no escape.
 fn add_all_unescaped(alloc: Global, out: &mut Text, bytes: &[u8]) -> Result<bool, NoMemory>
     ensures { IfOk result (λ said. (if said then Some out.new else None) ≡ option_map (λ t. out.old ++ t) (all_unescaped (parts 37 bytes.now))) }
 {
@@ -77,12 +77,12 @@ fn decoded(alloc: Global, bytes: &[u8]) -> Result<Option<Text>, NoMemory>
     }
 }
 
-/// The bytes that a text of a URI stands for, each escaped byte in the place of its `%` and its two hexadecimal digits; None exactly where a `%` is not followed by two
+/// The bytes to which a text of a URI decodes, each escaped byte in the place of its `%` and its two hexadecimal digits; None exactly where a `%` is not followed by two
 /// such digits.
 ///
 /// # Errors
 ///
-/// Want of memory alone.
+/// Out of memory only.
 pub fn percent_decoded(alloc: Global, bytes: &[u8]) -> Result<Option<Text>, NoMemory>
     ensures text { IfOk result (λ t. t ≡ percent_decoded bytes.now) }
     // There are none exactly where a `%` is not followed by two hexadecimal digits.

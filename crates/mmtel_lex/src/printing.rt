@@ -26,7 +26,7 @@ fn add_param(alloc: Global, out: &mut Text, param: &Param) -> Result<(), NoMemor
     add_value(alloc, out, &param.value)
 }
 
-/// The text of parameters, each behind its `;`.
+/// The text of parameters, each after its `;`.
 fn params_text(alloc: Global, params: &[Param]) -> Result<Text, NoMemory>
     ensures { IfOk result (λ t. t ≡ params_text params.now) }
 {
@@ -37,11 +37,11 @@ fn params_text(alloc: Global, params: &[Param]) -> Result<Text, NoMemory>
     Ok(out)
 }
 
-/// Writes the text of parameters, each behind its `;`, behind the text.
+/// Appends the text of parameters, each after its `;`, to the text.
 ///
 /// # Errors
 ///
-/// Want of memory alone; the text is then as before.
+/// Out of memory only; the text is then as before.
 pub fn add_params(alloc: Global, out: &mut Text, params: &[Param]) -> Result<(), NoMemory>
     ensures text { OnOk result (out.new ≡ out.old ++ params_text params.now) }
     ensures refused { OnErr result (out.new ≡ out.old) }
@@ -120,7 +120,7 @@ fn printed(alloc: Global, uri: &Uri) -> Result<Text, NoMemory>
 ///
 /// # Errors
 ///
-/// Want of memory alone.
+/// Out of memory only.
 pub fn print_uri(alloc: Global, uri: &Uri) -> Result<Text, NoMemory>
     ensures text { IfOk result (λ t. t ≡ uri_text uri.now) }
     // A URI that some text spells is spelled by this one too.
@@ -160,11 +160,11 @@ fn printed_name_addr(alloc: Global, name_addr: &NameAddr) -> Result<Text, NoMemo
     Ok(out)
 }
 
-/// The text of a name-addr: `DISPLAY <URI>` and its parameters, with one blank behind the display, or `<URI>` and its parameters where there is no display.
+/// The text of a name-addr: `DISPLAY <URI>` and its parameters, with one blank after the display name, or `<URI>` and its parameters where there is no display name.
 ///
 /// # Errors
 ///
-/// Want of memory alone.
+/// Out of memory only.
 pub fn print_name_addr(alloc: Global, name_addr: &NameAddr) -> Result<Text, NoMemory>
     ensures text { IfOk result (λ t. t ≡ name_addr_text name_addr.now) }
     // A name-addr that some text spells is spelled by this one too.

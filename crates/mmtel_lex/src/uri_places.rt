@@ -1,4 +1,4 @@
-//! Where the parts of a URI stand, whatever its scheme (RFC 3261 §19.1.1).
+//! Where the parts of a URI are, whatever its scheme (RFC 3261 §19.1.1).
 ghost use Rattle.std.specs.Prelude.{◌≡◌, ◌∷◌, [], ◌<◌, ◌≤◌, length, IfSome, MatchOption, take, drop};
 ghost use Rattle.std.specs.List.{find};
 ghost use Rattle.std.specs.Option.{option_copied, option_map};
@@ -14,7 +14,7 @@ pub fn first_part(byte: u8, bytes: &[u8]) -> Option<(&[u8], &[u8])>
     part(byte, bytes)
 }
 
-/// What stands before the first such byte, or all; and what stands behind it, or nothing.
+/// What comes before the first such byte, or all; and what follows it, or nothing.
 pub fn cut(byte: u8, bytes: &[u8]) -> (&[u8], &[u8])
     ensures front { result.0.now ≡ before byte bytes.now }
     ensures back { result.1.now ≡ behind byte bytes.now }
@@ -33,7 +33,7 @@ pub fn is_named(name: &[u8], part: &[u8]) -> bool
     front.eq_ignore_ascii_case(name)
 }
 
-/// The URI cut behind its last `@`: what stands up to it, and the host with all that follows. Where there is no `@`, the first is empty.
+/// The URI split after its last `@`: what comes up to it, and the host with all that follows. Where there is no `@`, the first is empty.
 #[tactic(auto, unfolding(crate::specs::UriPlaces::user_part, crate::specs::UriPlaces::host_part))]
 pub fn split_user(uri: &[u8]) -> (&[u8], &[u8])
     ensures user { result.0.now ≡ user_part uri.now }
@@ -79,7 +79,7 @@ pub fn uri_param<'a>(uri: &'a [u8], name: &[u8]) -> Option<&'a [u8]>
     }
 }
 
-/// The first of the URI's headers of this name, with its `=` and its value where it has one, as it is escaped.
+/// The first of the URI's headers of this name, with its `=` and its value where it has one, in its escaped form.
 pub fn uri_header<'a>(uri: &'a [u8], name: &[u8]) -> Option<&'a [u8]>
     ensures found { option_copied result ≡ find (is_named name.now) (header_parts uri.now) }
 {

@@ -17,19 +17,19 @@ use crate::values::Uri;
 use mmtel_scan::{Class, NoMemory, Text, is_all, number_up_to, part, skip_byte, split_run};
 use std::alloc::Global;
 
-/// A URI of a scheme that the server knows, as it stands in bytes.
+/// A URI of a scheme that the server knows, in place in the bytes.
 #[derive(Drop)]
 pub enum UriRef<'a> {
     /// A sip URI (RFC 3261 §19.1.1).
     Sip {
-        /// What stands before the `@`, a password included; None where there is no `@`.
+        /// What comes before the `@`, a password included; None where there is no `@`.
         user: Option<&'a [u8]>,
         /// 1 to 255 bytes, in the case of letters in which they were written.
         host: &'a [u8],
         /// 1 to 65535.
         port: Option<u16>,
         params: ParamsRef<'a>,
-        /// What stands behind the `?`; no bytes where there is no `?`.
+        /// What follows the `?`; no bytes where there is no `?`.
         headers: &'a [u8],
     },
     /// A tel URI (RFC 3966 §3).
@@ -60,8 +60,8 @@ fn user(bytes: &[u8]) -> Option<(Option<&[u8]>, &[u8])>
     }
 }
 
-/// The host at the front, and what follows it: letters, digits, `-` and `.`, 1 to 255 bytes; None exactly where no byte of a host comes first, or more than 255 do. It takes
-/// no memory.
+/// The host with which the bytes begin, and what follows it: letters, digits, `-` and `.`, 1 to 255 bytes; None exactly where no byte of a host comes first, or more than 255 do.
+/// It allocates nothing.
 #[tactic(auto, unfolding(crate::specs::Reading::host_at))]
 pub fn host_ref(bytes: &[u8]) -> Option<(&[u8], &[u8])>
     ensures exact { option_map (λ x. (x.0.now, x.1.now)) result ≡ host_at bytes.now }
@@ -73,7 +73,7 @@ pub fn host_ref(bytes: &[u8]) -> Option<(&[u8], &[u8])>
     Some((front, rest))
 }
 
-/// The host at the front, copied, and what follows it: letters, digits, `-` and `.`, 1 to 255 bytes.
+/// The host with which the bytes begin, copied, and what follows it: letters, digits, `-` and `.`, 1 to 255 bytes.
 ///
 /// # Errors
 ///
@@ -98,8 +98,8 @@ fn port_number(digits: &[u8]) -> Option<u16>
     }
 }
 
-/// The port behind a `:` at the front, 1 to 65535, and what follows it; no port where no `:` comes first. None exactly where a `:` comes that the digits of such a number do
-/// not follow. It takes no memory.
+/// The port after a `:` at the start, 1 to 65535, and what follows it; no port where no `:` comes first. None exactly where a `:` comes that is not followed by the digits
+/// of such a number. It allocates nothing.
 #[tactic(auto, unfolding(crate::specs::Reading::port_at))]
 pub fn port_ref(bytes: &[u8]) -> Option<(Option<u16>, &[u8])>
     ensures exact { option_map (λ x. (x.0, x.1.now)) result ≡ port_at bytes.now }
@@ -114,14 +114,14 @@ pub fn port_ref(bytes: &[u8]) -> Option<(Option<u16>, &[u8])>
     }
 }
 
-/// The port behind a `:` at the front, 1 to 65535, and what follows it; no port where no `:` comes first. It takes no memory.
+/// The port after a `:` at the start, 1 to 65535, and what follows it; no port where no `:` comes first. It allocates nothing.
 ///
 /// # Errors
 ///
-/// `Malformed` exactly where a `:` comes that the digits of such a number do not follow.
+/// `Malformed` exactly where a `:` comes that is not followed by the digits of such a number.
 pub fn port(bytes: &[u8]) -> Result<(Option<u16>, &[u8]), LexFault>
     ensures exact { Gives (λ x. (x.0, x.1.now)) result (port_at bytes.now) }
-    // Memory is never the fault.
+    // The fault is never out of memory.
     ensures of_bytes { IfErr result (λ e. IsOfBytes e) }
 {
     match port_ref(bytes) {
@@ -130,7 +130,7 @@ pub fn port(bytes: &[u8]) -> Result<(Option<u16>, &[u8]), LexFault>
     }
 }
 
-/// The bytes behind a `?`: one or more, and nothing else.
+/// The bytes after a `?`: one or more, and nothing else.
 #[tactic(auto, unfolding(crate::specs::Reading::headers_of))]
 fn header_bytes(bytes: &[u8]) -> Option<&[u8]>
     ensures { option_copied result ≡ headers_of bytes.now }
@@ -156,7 +156,7 @@ fn headers(bytes: &[u8]) -> Option<&[u8]>
     }
 }
 
-/// The parts behind `sip:`, one behind the other.
+/// The parts after `sip:`, one after the other.
 fn sip_parts(bytes: &[u8]) -> Option<UriRef<'_>>
     ensures { option_map uri_seen result ≡ sip_parts bytes.now }
 {
@@ -174,7 +174,7 @@ fn sip_parts(bytes: &[u8]) -> Option<UriRef<'_>>
     })
 }
 
-/// All of the bytes behind `sip:`, each of which is one of a URI.
+/// All of the bytes after `sip:`, each of which is one of a URI.
 #[tactic(auto, unfolding(crate::specs::Reading::sip_of))]
 fn sip(bytes: &[u8]) -> Option<UriRef<'_>>
     ensures { option_map uri_seen result ≡ sip_of bytes.now }
@@ -207,7 +207,7 @@ fn is_named(name: &[u8], wanted: &[u8]) -> bool
     name.eq_ignore_ascii_case(wanted)
 }
 
-/// The bytes behind a `+`, or all.
+/// The bytes after a `+`, or all.
 fn after_sign(bytes: &[u8]) -> &[u8]
     ensures rest { result.now ≡ (sign_of bytes.now).1 }
     ensures shorter { length result.now ≤ length bytes.now }
@@ -236,7 +236,7 @@ fn phone(bytes: &[u8]) -> Option<(&[u8], &[u8])>
     Some(bytes.split_at(bytes.len() - rest.len()))
 }
 
-/// The parts behind `tel:`, one behind the other.
+/// The parts after `tel:`, one after the other.
 fn tel_parts(bytes: &[u8]) -> Option<UriRef<'_>>
     ensures { option_map uri_seen result ≡ tel_parts bytes.now }
 {
@@ -249,7 +249,7 @@ fn tel_parts(bytes: &[u8]) -> Option<UriRef<'_>>
     }
 }
 
-/// All of the bytes behind `tel:`, each of which is one of a URI.
+/// All of the bytes after `tel:`, each of which is one of a URI.
 #[tactic(auto, unfolding(crate::specs::Reading::tel_of))]
 fn tel(bytes: &[u8]) -> Option<UriRef<'_>>
     ensures { option_map uri_seen result ≡ tel_of bytes.now }
@@ -261,7 +261,7 @@ fn tel(bytes: &[u8]) -> Option<UriRef<'_>>
     }
 }
 
-/// The URI, or that its bytes are malformed.
+/// The URI, or the fault that its bytes are malformed.
 fn or_malformed(read: Option<UriRef<'_>>) -> Result<UriRef<'_>, UriFault>
     ensures exact { Sees result (or_malformed (option_map uri_seen read.entry)) }
     ensures of_bytes { IfErr result (λ e. IsUriOfBytes e) }
@@ -272,16 +272,16 @@ fn or_malformed(read: Option<UriRef<'_>>) -> Result<UriRef<'_>, UriFault>
     }
 }
 
-/// A URI of the scheme `sip` or `tel` as it stands in these bytes, all of which are read (RFC 3261 §19.1.1, RFC 3966 §3). It takes no memory.
+/// The URI of the scheme `sip` or `tel` that these bytes are, in place; all of them are read (RFC 3261 §19.1.1, RFC 3966 §3). It allocates nothing.
 ///
 /// # Errors
 ///
 /// `Malformed` exactly where the bytes are neither of the grammar nor of another scheme. `Scheme` exactly where they begin with another scheme.
 #[tactic(auto, unfolding(crate::specs::Reading::uri_of))]
 pub fn uri_ref(bytes: &[u8]) -> Result<UriRef<'_>, UriFault>
-    // The answer is that of the total reading function.
+    // The result is that of the total reading function.
     ensures exact { Sees result (uri_of bytes.now) }
-    // Memory is never the fault.
+    // The fault is never out of memory.
     ensures of_bytes { IfErr result (λ e. IsUriOfBytes e) }
 {
     match scheme(bytes) {
@@ -303,7 +303,7 @@ impl<'a> UriRef<'a> {
     ///
     /// # Errors
     ///
-    /// Want of memory alone.
+    /// Out of memory only.
     pub fn owned(&self, alloc: Global) -> Result<Uri, NoMemory>
         ensures { IfOk result (λ uri. uri ≡ uri_seen self.now) }
     {
@@ -355,16 +355,16 @@ fn uri(alloc: Global, bytes: &[u8]) -> Result<Uri, UriFault>
 /// `Malformed` exactly where the bytes are neither of the grammar nor of another scheme. `Scheme` exactly where they begin with another scheme. `NoMemory` where memory ran
 /// out.
 pub fn read_uri(alloc: Global, bytes: &[u8]) -> Result<Uri, UriFault>
-    // The answer is that of the total reading function.
+    // The result is that of the total reading function.
     ensures exact { Answers result (uri_of bytes.now) }
     // What is read is what the bytes spell.
     ensures found { IfOk result (λ u. IsUri bytes.now u) }
     // What the bytes spell is read.
     ensures only { (u : Uri) → IsUri bytes.now u → IsUnlessMemory result (Ok u) }
-    // The scheme is refused exactly where the bytes begin with another one.
+    // The fault is the scheme exactly where the bytes begin with another one.
     ensures scheme { result ≡ Err UriFault.Scheme → IsForeign bytes.now }
     ensures foreign { IsForeign bytes.now → IsUnlessMemory result (Err UriFault.Scheme) }
-    // The bytes are malformed exactly where they are of neither.
+    // The bytes are malformed exactly where they are neither of the grammar nor of another scheme.
     ensures malformed { IsMalformedUri result → IsNoUri bytes.now }
     ensures refused { IsNoUri bytes.now → IsMalformedUri result ⊎ (result ≡ Err UriFault.NoMemory) }
 {

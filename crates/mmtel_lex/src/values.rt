@@ -19,14 +19,14 @@ pub type Params = List<Param>;
 pub enum Uri {
     /// A sip URI (RFC 3261 §19.1.1).
     Sip {
-        /// What stands before the `@`, a password included; None where there is no `@`.
+        /// What comes before the `@`, a password included; None where there is no `@`.
         user: Option<Text>,
         /// 1 to 255 bytes, in the case of letters in which they were written.
         host: Text,
         /// 1 to 65535.
         port: Option<u16>,
         params: Params,
-        /// What stands behind the `?`; no bytes where there is no `?`.
+        /// What follows the `?`; no bytes where there is no `?`.
         headers: Text,
     },
     /// A tel URI (RFC 3966 §3).
@@ -37,10 +37,10 @@ pub enum Uri {
     },
 }
 
-/// A display and a URI (RFC 3261 §20.10), with the parameters of the header that they stand in.
+/// A display name and a URI (RFC 3261 §20.10), with the parameters of the header field that they are in.
 #[derive(Drop)]
 pub struct NameAddr {
-    /// The display as it was written, quotes included; no bytes where there is none.
+    /// The display name as it was written, quotes included; no bytes where there is none.
     pub display: Text,
     /// The bytes of the URI, whatever its scheme.
     pub uri: Text,

@@ -1,4 +1,4 @@
--- The last of the numbers, by its place.
+-- The last of the numbers, by its index.
 use Rattle.std.proofs.Common.{◌≡◌, ◌+◌, ◌-◌, ◌<◌, ℕ, suc, List, [], ◌∷◌, length, get_or, slice_set, arith, refl, ap}
 use Rattle.mmtel_link.specs.Told.{last_or_none, more_of_last}
 

@@ -2,7 +2,7 @@
 use Rattle.std.specs.Prelude.{◌≡◌, ℕ, Bool}
 use Rattle.mmtel_link.specs.Told.{Ear, Given, LinkCalls, called, fails_next}
 
--- what it hears and is given, its calls, and the counts of its faults of taking in and of giving out
+-- its inputs and outputs, its calls, and the counts of its arrival and delivery faults
 pub record Line : Type 0 where
   pub ear : Ear
   pub given : Given
@@ -10,6 +10,6 @@ pub record Line : Type 0 where
   pub taking : ℕ
   pub giving : ℕ
 
--- a call that has begun: it is counted; whether it fails by its number
+-- a call at its start: it is counted; whether it fails by its number
 abbrev pub Begins : Line → Line → Bool → Type 0
 Begins before after fails = (fails ≡ fails_next before.calls) × (after ≡ record before { calls = called before.calls })

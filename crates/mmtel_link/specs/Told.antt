@@ -1,4 +1,4 @@
--- What a link tells, and what each of its calls makes of it. What is not told is absent, before and after.
+-- What is known of a link's inputs and outputs, and the effect of each of its calls. What is not known is absent, before and after.
 use Rattle.std.specs.Prelude.{◌≡◌, ◌+◌, ℕ, Bool, true, false, List, [], ◌∷◌, ◌++◌, length, take, drop, min, if◌then◌else◌, Some, None, Ok, Err, OnOk, OnErr, IsErrOf, slice_get}
 use Rattle.std.specs.declared.option.Option.{Option}
 use Rattle.std.specs.declared.result.Result.{Result}
@@ -15,9 +15,9 @@ use Rattle.mmtel_link.specs.declared.links.SendFault.TheVariants as fault
 use Rattle.mmtel_link.specs.declared.events.Sent.{Sent}
 use Rattle.mmtel_link.specs.declared.events.Replied.{Replied}
 
--- ---- what it hears
+-- ---- inputs
 
--- the events that come, for each that came so far how many of its bytes were read, and whether reading the last one's has ended before their end
+-- all events, for each that was received so far how many of its bytes were read, and whether reading the last one ended before the end of its bytes
 pub record Ear : Type 0 where
   pub events : List Event
   pub reads : List ℕ
@@ -34,15 +34,15 @@ heard_of [] reads = []
 heard_of (e ∷ events) [] = []
 heard_of (e ∷ events) (n ∷ reads) = cut n e ∷ heard_of events reads
 
--- what was heard so far
+-- the events received so far
 abbrev pub heard : Ear → List Event
 heard ear = heard_of ear.events ear.reads
 
--- what comes next
+-- the next event
 abbrev pub coming : Ear → Option Event
 coming ear = slice_get ear.events (length ear.reads)
 
--- one event more has come
+-- one event more was received
 abbrev pub came : Ear → Ear
 came ear = record ear { reads = ear.reads ++ 0 ∷ []; over = false }
 
@@ -62,16 +62,16 @@ more_of_last k [] = []
 more_of_last k (n ∷ []) = (n + k) ∷ []
 more_of_last k (n ∷ m ∷ reads) = n ∷ more_of_last k (m ∷ reads)
 
--- the event that came last
+-- the event that was received last
 abbrev pub current : List Event → List ℕ → Option Event
 current events [] = None
 current events (n ∷ reads) = slice_get events (length reads)
 
--- the bytes of the connection that are still to be read
+-- the bytes of the connection that have not been read yet
 abbrev pub unread : Ear → List ℕ
 unread ear = if ear.over then [] else drop (last_or_none ear.reads) (web_bytes (current ear.events ear.reads))
 
--- the answer is what comes
+-- the result is the next event
 abbrev pub IsArrival : Option Event → Arrival → Type 0
 IsArrival next (arrival.Datagram from at bytes) = next ≡ Some (event.Datagram from at bytes)
 IsArrival next (arrival.Web at) = (bytes : List ℕ) × (next ≡ Some (event.Web at bytes))
@@ -79,7 +79,7 @@ IsArrival next (arrival.Quiet at) = next ≡ Some (event.Quiet at)
 IsArrival next arrival.Closed = next ≡ None
 IsArrival next arrival.NoMemory = Unit {0}
 
--- and it has come then
+-- and it is then received
 abbrev pub ear_after : Ear → Arrival → Ear
 ear_after ear (arrival.Datagram from at bytes) = came ear
 ear_after ear (arrival.Web at) = came ear
@@ -95,7 +95,7 @@ abbrev pub NextTold : Option Ear → Option Ear → Result Arrival Failed → Ty
 NextTold None after result = after ≡ None
 NextTold (Some ear) after result = NextOf ear after result
 
--- a read gives as much as there is and fits; one that fails ends the connection
+-- a read returns as many bytes as there are and fit; one that fails ends the connection
 abbrev pub ReadOf : Ear → Option Ear → List ℕ → List ℕ → Result ℕ Failed → Type 0
 ReadOf ear after room filled (Ok n) =
     (n ≡ min (length room) (length (unread ear))) × (take n filled ≡ take n (unread ear))
@@ -106,9 +106,9 @@ abbrev pub ReadTold : Option Ear → Option Ear → List ℕ → List ℕ → Re
 ReadTold None after room filled result = after ≡ None
 ReadTold (Some ear) after room filled result = ReadOf ear after room filled result
 
--- ---- what it is given
+-- ---- outputs
 
--- the offers and the replies on connections, each with whether it was lost
+-- the datagrams and the replies on connections, each with whether it was lost
 pub record Given : Type 0 where
   pub offers : List Sent
   pub replies : List Replied
@@ -119,7 +119,7 @@ with_offer to bytes lost given = record given { offers = given.offers ++ record 
 abbrev pub with_reply : List ℕ → Bool → Given → Given
 with_reply bytes lost given = record given { replies = given.replies ++ record { text = bytes; lost = lost } ∷ [] }
 
--- one more is given, by the change that tells whether it was lost; for want of memory none
+-- one more is recorded, by the change for one that was lost or was not; none where memory runs out
 abbrev pub GivesOf : Given → Option Given → (Bool → Given → Given) → Result (Unit {0}) SendFault → Type 0
 GivesOf given after change (Ok x) = after ≡ Some (change false given)
 GivesOf given after change (Err fault.Failed) = after ≡ Some (change true given)
@@ -143,7 +143,7 @@ fails_next calls = fails_by_number calls.failing calls.calls
 abbrev pub called : LinkCalls → LinkCalls
 called calls = record calls { calls = next_number calls.calls }
 
--- a call of taking in fails exactly where its number says so, and is counted
+-- a call for input fails exactly where its number is one of those that fail, and is counted
 abbrev pub IsCall : {T : Type 0} → Option LinkCalls → Option LinkCalls → Result T Failed → Type 0
 IsCall None after result = after ≡ None
 IsCall (Some calls) after result =
@@ -157,7 +157,7 @@ IsBind (Some calls) after sip web result =
     × OnErr result (after ≡ Some (called calls))
     × OnErr result (fails_next calls ≡ true) × OnOk result (fails_next calls ≡ false)
 
--- the same for a call of giving out: what is lost is told too, which takes memory, so want of memory may come in the place of a failure
+-- the same for a call for output: what is lost is recorded too, which allocates, so it may run out of memory where it would have failed
 abbrev pub IsGiving : {T : Type 0} → Option LinkCalls → Option LinkCalls → Result T SendFault → Type 0
 IsGiving None after result = after ≡ None
 IsGiving (Some calls) after result =

@@ -27,56 +27,56 @@ impl From<NoMemory> for SendFault {
     }
 }
 
-/// What came.
+/// What was received.
 #[derive(Debug, Drop)]
 pub enum Arrival {
     /// A datagram.
     Datagram {
         /// Where it came from.
         from: Addr,
-        /// When it came.
+        /// When it was received.
         at: Moment,
         /// Its bytes.
         bytes: Text,
     },
-    /// A web connection, which is read until the next call of `next`.
+    /// A web connection, which can be read until the next call of `next`.
     Web {
-        /// When it came.
+        /// When it was received.
         at: Moment,
     },
-    /// Nothing, until this moment.
+    /// A tick: nothing was received until this moment.
     Quiet {
         /// The moment.
         at: Moment,
     },
-    /// Nothing, and nothing will.
+    /// The link is closed: nothing will be received.
     Closed,
     /// Memory ran out.
     NoMemory,
 }
 
-/// Where datagrams and web connections come from, and where datagrams go, with two counts of faults: of taking in (`bind`, `next`) and of giving out (the others).
+/// Where datagrams and web connections come from, and where datagrams go, with two counts of faults: of arrival (`bind`, `next`) and of delivery (the others).
 pub trait Link {
-    /// What it has heard, where that is told.
+    /// The events received, where they are known.
     ghost ear: { Self → Option Ear };
 
-    /// What it was given, where that is told.
+    /// The outputs, where they are known.
     ghost given: { Self → Option Given };
 
-    /// The addresses bound last, the number of calls so far and the numbers of those that fail, where that is told.
+    /// The addresses bound last, the number of calls so far and the numbers of those that fail, where they are known.
     ghost calls: { Self → Option LinkCalls };
 
-    /// How many calls of taking in failed. It never falls, and stays at the greatest u64.
+    /// The count of arrival faults: how many calls of `bind` and `next` failed. It never decreases, and remains at the greatest u64.
     ghost taking: { Self → ℕ };
 
-    /// How many calls of giving out failed. It never falls, and stays at the greatest u64.
+    /// The count of delivery faults: how many of the other calls failed. It never decreases, and remains at the greatest u64.
     ghost giving: { Self → ℕ };
 
-    /// Takes the addresses for datagrams and for web connections.
+    /// Binds the addresses for datagrams and for web connections.
     ///
     /// # Errors
     ///
-    /// `Failed` only where the count of taking in rose in this call.
+    /// `Failed` only where the count of arrival faults rose in this call.
     fn bind(&mut self, sip: Addr, web: Addr) -> Result<(), Failed>
         ensures heard { ear self.new ≡ ear self.old }
         ensures given { given self.new ≡ given self.old }
@@ -84,11 +84,11 @@ pub trait Link {
         ensures giving { giving self.new ≡ giving self.old }
         ensures cause { HasCause (taking self.old) (taking self.new) result };
 
-    /// What comes next. A web connection that came before is ended.
+    /// The next event. A web connection that was received before is closed.
     ///
     /// # Errors
     ///
-    /// `Failed` only where the count of taking in rose in this call.
+    /// `Failed` only where the count of arrival faults rose in this call.
     fn next(&mut self, alloc: Global) -> Result<Arrival, Failed>
         ensures heard { NextTold (ear self.old) (ear self.new) result }
         ensures given { given self.new ≡ given self.old }
@@ -96,11 +96,11 @@ pub trait Link {
         ensures giving { giving self.new ≡ giving self.old }
         ensures cause { HasCause (taking self.old) (taking self.new) result };
 
-    /// Reads of the connection that came last into the front of the buffer; 0 bytes exactly at its end.
+    /// Reads of the connection that was received last into the front of the buffer; 0 bytes exactly at its end.
     ///
     /// # Errors
     ///
-    /// `Failed` only where the count of giving out rose in this call. It ends the connection.
+    /// `Failed` only where the count of delivery faults rose in this call. It ends the connection.
     fn web_read(&mut self, buf: &mut [u8]) -> Result<usize, Failed>
         requires room { 0 < length buf.old }
         ensures within { IfOk result (λ n. n ≤ length buf.new) }
@@ -110,11 +110,11 @@ pub trait Link {
         ensures taking { taking self.new ≡ taking self.old }
         ensures cause { HasCause (giving self.old) (giving self.new) result };
 
-    /// Replies on the connection that came last.
+    /// Replies on the connection that was received last.
     ///
     /// # Errors
     ///
-    /// `Failed` only where the count of giving out rose in this call: the reply is lost.
+    /// `Failed` only where the count of delivery faults rose in this call: the reply is lost.
     fn web_reply(&mut self, alloc: Global, bytes: &[u8]) -> Result<(), SendFault>
         ensures heard { ear self.new ≡ ear self.old }
         ensures given { GivesTold (given self.old) (given self.new) (with_reply bytes.now) result }
@@ -126,7 +126,7 @@ pub trait Link {
     ///
     /// # Errors
     ///
-    /// `Failed` only where the count of giving out rose in this call: the datagram is lost.
+    /// `Failed` only where the count of delivery faults rose in this call: the datagram is lost.
     fn send(&mut self, alloc: Global, to: Addr, bytes: &[u8]) -> Result<(), SendFault>
         ensures heard { ear self.new ≡ ear self.old }
         ensures given { GivesTold (given self.old) (given self.new) (with_offer to bytes.now) result }

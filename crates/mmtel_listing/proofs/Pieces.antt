@@ -39,7 +39,7 @@ cut_first after_cr (b ∷ c ∷ s) filled =
       | inr n ↦ rw n (ap (onto_first b) (cut_first (b == 13) (c ∷ s) (omega arith)))
     ]
 
--- ---- the loop that looks for the end of the first piece
+-- ---- the loop that searches for the end of the first piece
 
 abbrev pub Goes : ℕ → ℕ → Bool → List ℕ → Type 0
 Goes total i after_cr s = total ≡ i + piece_len after_cr (drop i s)
@@ -60,6 +60,6 @@ runs_out total i after_cr s e so_far =
     let here : total ≡ i + 0 = rw none at so_far in
     omega arith
 
--- what a piece is, by the length that was found
+-- the first piece, by the length that was found
 pub first_of : (s : List ℕ) (n : ℕ) → 0 < length s → piece_len false s ≡ n → cut false s ≡ take n s ∷ cut false (drop n s)
 first_of s n filled e = rw (← e) (cut_first false s filled)

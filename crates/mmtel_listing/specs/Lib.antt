@@ -1,4 +1,4 @@
--- What public clauses cite, which a user of the crate has to believe.
+-- Definitions that public contracts cite: a user of the crate has to trust them.
 pub mod Listing
 
--- What private functions alone cite: nothing.
+-- Definitions that only private functions cite: none.

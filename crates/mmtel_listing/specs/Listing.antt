@@ -1,4 +1,4 @@
--- The listing of what a run offered: this project's own format, the one of scripts with `to` in place of `peer`.
+-- The listing of the outputs of a run: this project's own format, the one of scripts with `to` in place of `peer`.
 use Rattle.std.specs.Prelude.{ℕ, Bool, false, ◌&&◌, nat_le, nat_lt, ◌==◌, if◌then◌else◌, List, [], ◌∷◌, ◌++◌, ◌+◌, ◌-◌, ◌/◌, ◌%◌, length, take, drop, Option, Some, None}
 use Rattle.std.specs.Prelude.{codes, decimal}
 use Rattle.std.specs.List.{list_all, flat_map, onto_first}
@@ -6,20 +6,20 @@ use Rattle.std.specs.Str.{bytes_eq}
 use Rattle.mmtel_outside.specs.declared.events.Offer.{Offer}
 use Rattle.mmtel_outside.specs.declared.events.Offer.TheVariants.{To, Web}
 
--- bytes cut behind each CRLF; the flag says that a CR came just before
+-- bytes split after each CRLF; the flag says that a CR came directly before
 abbrev pub cut : Bool → List ℕ → List (List ℕ)
 cut after_cr [] = []
 cut after_cr (b ∷ s) = if after_cr && b == 10 then (b ∷ []) ∷ cut false s else onto_first b (cut (b == 13) s)
 
--- the pieces of a text: each that a CRLF ends, with that CRLF, and what is left behind the last one
+-- the pieces of a text: each that a CRLF ends, with that CRLF, and what remains after the last one
 abbrev pub pieces_of : List ℕ → List (List ℕ)
 pieces_of s = cut false s
 
--- what stands before a CRLF at the end
+-- what precedes a CRLF at the end
 abbrev pub before_crlf : List ℕ → Option (List ℕ)
 before_crlf piece = if nat_le 2 (length piece) && bytes_eq (drop (length piece - 2) piece) (codes "\r\n") then Some (take (length piece - 2) piece) else None
 
--- a byte that stands for itself: one of 32 to 126
+-- a byte that is written as itself: one of 32 to 126
 abbrev pub is_plain : ℕ → Bool
 is_plain b = nat_le 32 b && nat_le b 126
 
@@ -46,7 +46,7 @@ line_before None piece = marked_line (codes "+") piece piece
 abbrev pub piece_line : List ℕ → List ℕ
 piece_line piece = line_before (before_crlf piece) piece
 
--- the lines of the bytes that were offered
+-- the lines of the bytes of an output
 abbrev pub data_lines : List ℕ → List ℕ
 data_lines bytes = flat_map piece_line (pieces_of bytes)
 

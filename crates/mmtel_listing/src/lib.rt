@@ -1,4 +1,4 @@
-//! The listing of what a run offered.
+//! The listing of the outputs of a run.
 #![tactic(auto)]
 
 mod listings;

@@ -1,4 +1,4 @@
-//! The listing of what a run offered.
+//! The listing of the outputs of a run.
 ghost use Rattle.std.specs.Prelude.{◌≡◌, ◌≤◌, ◌<◌, ◌++◌, ◌∷◌, length, take, drop, decimal, codes, IfOk, OnOk};
 ghost use Rattle.std.specs.Option.{option_copied};
 ghost use Rattle.std.specs.List.{list_all};
@@ -70,7 +70,7 @@ fn add_marked_line(
     out.push(alloc, b"\n")
 }
 
-/// What stands before the CRLF at the end of a piece, where there is one.
+/// What precedes the CRLF at the end of a piece, where there is one.
 fn without_crlf(piece: &[u8]) -> Option<&[u8]>
     ensures { option_copied result ≡ before_crlf piece.now }
 {
@@ -138,16 +138,16 @@ fn add_offer(alloc: Global, out: &mut Text, offer: &Offer) -> Result<(), NoMemor
     }
 }
 
-/// The listing of the offers, in their order.
+/// The listing of the outputs, in their order.
 ///
 /// Each begins with a line `at M to N` or `at M web`, where `M` is its moment in milliseconds since 1970-01-01T00:00:00Z and `N` the number of
-/// a peer. Its bytes follow: each piece that a CRLF ends as a line of `|` and the piece, and what is left behind the last CRLF, if anything, as a line of `+`
+/// a peer. Its bytes follow: each piece that a CRLF ends as a line of `|` and the piece, and what remains after the last CRLF, if anything, as a line of `+`
 /// and those bytes. A piece with a byte outside 32 to 126 is a line of `x` and its bytes, the CRLF included, as pairs of hexadecimal digits. Each line of the
 /// listing ends with LF.
 ///
 /// # Errors
 ///
-/// Want of memory alone.
+/// Out of memory only.
 pub fn listing(alloc: Global, offers: &List<Offer>) -> Result<Text, NoMemory>
     ensures text { IfOk result (λ text. text ≡ listing_of offers.now) }
 {

@@ -68,7 +68,7 @@ named_uri : (o : Option NameAddr) → uri_named o ≡ uri_or_none (option_map (�
 named_uri None = refl
 named_uri (Some n) = refl
 
--- a value that can be read is nobody's once it is hidden
+-- a value that parses is anonymous once it is hidden
 hidden_named : (b : Bool) (v : List ℕ) (n : NameAddr) → b ≡ true → name_addr_of v ≡ Some n → uri_named (name_addr_of (hide_if b v)) ≡ anonymous
 hidden_named true v n e read = named_uri (name_addr_of (hidden_value v)) ∙ (ap uri_or_none (hidden_uris v) ∙ ap (λ (o : Option NameAddr). uri_or_none (option_map (λ u. anonymous) (option_map (λ n. n.uri) o))) read)
 hidden_named false v n e read = absurd cc
@@ -105,7 +105,7 @@ dialogs p peer ls tag e =
 
 -- ---- two messages
 
--- what does not see what is private is the same of both
+-- what does not depend on what is private is the same of both
 seen_alike : {B : Type 0} (f : List Line → B) → ((p : Places) (ls : List Line) → f (masked_lines p ls) ≡ f ls) → (p q : Places) (m n : Message Start) → masked p m ≡ masked q n → f m.lines ≡ f n.lines
 seen_alike f law p q m n e = sym (law (places_in m.start p) m.lines) ∙ (ap (λ (x : Message Start). f x.lines) e ∙ law (places_in n.start q) n.lines)
 

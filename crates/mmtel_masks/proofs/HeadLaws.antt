@@ -22,7 +22,7 @@ use Rattle.mmtel_trust.proofs.HeardLaws.{call_id_kept, cseq_kept, via_kept}
 use Rattle.mmtel_trust.proofs.Kept.{first-masked, from_value, named-masked, to_value}
 use Rattle.mmtel_masks.specs.Heads.{AlikeHaveOneHead, HeardAlikeHaveOneHead, LinesKeepTheirHead, MessagesKeepTheirHead, message_of, of_lines}
 
--- ---- the tag of a party whose display and URI are hidden
+-- ---- the tag of a party whose display name and URI are hidden
 
 head_changed : (f : List ℕ → List ℕ) (ls : List Line) → head_value (map (with_value f) ls) ≡ option_map f (head_value ls)
 head_changed f [] = refl
@@ -68,7 +68,7 @@ call-masked p ls =
       only_kept (codes "CSeq") (masked_lines p ls) ls (named-masked p (codes "CSeq") ls (cseq_kept p)),
     ) refl
 
--- where heads rest on what is read of them
+-- where heads depend only on what is read of them
 module _ (fields : HeadsRestOnFields) where
   pub lines_keep : LinesKeepTheirHead
   lines_keep p start ls body other = fields (of_lines start (masked_lines p ls) body) (of_lines start ls other) (record {

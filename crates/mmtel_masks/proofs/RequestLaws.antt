@@ -1,4 +1,4 @@
--- What is asked of a peer for a masked sender.
+-- What is sent to a peer on behalf of a masked sender.
 use Rattle.std.proofs.Common.{◌≡◌, ℕ, List, [], ◌∷◌, ◌++◌, refl, sym, ap, ◌∙◌, Bool, true, false, not, ◌&&◌, codes, cond}
 use Rattle.std.specs.Prelude.{decimal, length}
 use Rattle.mmtel_history.specs.HistoryInfo.{masked_list}
@@ -23,7 +23,7 @@ use Rattle.mmtel_masks.proofs.ResponseLaws.{later, same_if, unseen}
 
 -- ---- what an untrusted peer is shown
 
--- of lines of which it is shown what it is shown of the masked ones
+-- of lines of which it is shown the same as of the masked ones
 shown_if : (f : Facing) (h k : List Entry) (m n : Message Start) (ls ks : List Line) → m.start ≡ n.start → ls ≡ ks
     → ((row : List Line) → passed f false row ls ≡ passed f false row m.lines) → ((row : List Line) → passed f false row ks ≡ passed f false row n.lines)
     → masked_list f.mask_all h ≡ masked_list f.mask_all k → shown_lines f false h m.start m.lines ≡ shown_lines f false k n.start n.lines
@@ -109,7 +109,7 @@ shown_named d number method given xs ys name other x y =
     (unseen name (C xs) (C ys) (xs ++ tail) (no_contact name method (bringing xs given) other) (no_contact name method (bringing ys given) other)
     ∙ later name (C ys) (xs ++ tail) (ys ++ tail) (unseen name xs ys tail x y)))
 
--- where heads rest on lines of five names
+-- where heads depend only on lines of five names
 module _ (five : HeadsRestOnFiveNames) where
   pub shown_head : ForeignLinesHaveNoHead
   shown_head d number method given xs ys x y = (five (numbered d number method (bringing xs given)) (numbered d number method (bringing ys given)) (record {
@@ -125,7 +125,7 @@ module _ (five : HeadsRestOnFiveNames) where
   shown_heads f g b c h k m n d number method given =
       shown_head d number method given (shown_lines f b h m.start m.lines) (shown_lines g c k n.start n.lines) (foreign f b h m) (foreign g c k n)
 
-  -- of attempts with one From
+  -- of attempts with the same From
   attempt_heads : (f : Facing) (b c : Bool) (h k : List Entry) (tag : List ℕ) (m n : Message Start) (d : Dialogue) (number : ℕ) (method : List ℕ) (given : Given)
       → attempt_from f.restricted tag m.lines ≡ attempt_from f.restricted tag n.lines
       → head_of (attempt f b h tag m d number method given) ≡ head_of (attempt f c k tag n d number method given)

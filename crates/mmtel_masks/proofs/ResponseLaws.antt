@@ -1,4 +1,4 @@
--- The response to a masked request is that to the request, but for From.
+-- The response to a masked request is that to the request, except for From.
 use Rattle.std.proofs.Common.{◌≡◌, ℕ, List, [], ◌∷◌, ◌++◌, refl, sym, ap, ◌∙◌, Bool, true, false, not, ◌||◌, Option, Some, None, codes, cond, map}
 use Rattle.std.specs.Prelude.{decimal, filter, length}
 use Rattle.std.specs.List.{list_all}
@@ -44,14 +44,14 @@ to_kept p e = rw e refl
 pub request_to : (p : Places) (start : Start) → is_request start ≡ true → (places_in start p).to ≡ false
 request_to p start e = rw e refl
 
--- a response sees the lines of six names of its request
+-- a response depends on the lines of six names of its request
 by_names : (start : Start) (ls ks : List Line) (r : Reply) → named (codes "Via") ls ≡ named (codes "Via") ks → named (codes "From") ls ≡ named (codes "From") ks → named (codes "To") ls ≡ named (codes "To") ks
     → named (codes "Call-ID") ls ≡ named (codes "Call-ID") ks → named (codes "CSeq") ls ≡ named (codes "CSeq") ks → named (codes "Record-Route") ls
     ≡ named (codes "Record-Route") ks → response start ls r ≡ response start ks r
 unfolding response heard_lines added_lines via_lines party_lines call_lines route_lines
 by_names start ls ks r via from to id cseq way = rw (via, from, to, id, cseq, way) refl
 
--- of two masks of a request that hide From alike one response is made
+-- two masks of a request that hide From in the same way give the same response
 alike_masks : (p q : Places) (start : Start) (ls : List Line) (r : Reply) → p.to ≡ false → q.to ≡ false → p.from ≡ q.from → response start (masked_lines p ls) r ≡ response start (masked_lines q ls) r
 alike_masks p q start ls r a b same =
     by_names start (masked_lines p ls) (masked_lines q ls) r
@@ -83,7 +83,7 @@ equal p q m n r e a b same =
     ∙ (ap (λ (x : Message Start). response x.start x.lines r) same
     ∙ stays (places_in n.start q) n.start n.lines r (request_to q n.start (ap (λ (x : Message Start). is_request x.start) (sym same) ∙ e)) b)
 
--- ---- masking at From alone
+-- ---- masking of From alone
 
 abbrev is_from : HeaderKind → Bool
 is_from From = true
@@ -149,7 +149,7 @@ lines_stay b (l ∷ ls) e =
     let each = or_false (is_line (codes "From") l) (has_line (codes "From") ls) e in
     rw (line_stays b l.0 l.1 each.0, lines_stay b ls each.1) refl
 
--- a line of this name is none of From
+-- a line of this name is no From
 apart : (name : List ℕ) (l : Line) → is_from (kind_of name) ≡ false → is_line name l ≡ true → (v : List ℕ) (b : Bool) → masked_line (from_alone b) (l.0, v) ≡ (l.0, v) ∷ []
 unfolding masked_line
 apart name l never is v b = rw (alone_value b (kind_of l.0) v (ap is_from (kind_like l.0 name is) ∙ never)) refl
@@ -176,7 +176,7 @@ never_to : is_from (kind_of (codes "To")) ≡ false
 unfolding kind_of
 never_to = refl
 
--- ---- the parts of a response, masked at From
+-- ---- the parts of a response, with From masked
 
 vias_stay : (b : Bool) (source : Option Addr) (ls : List Line) → masked_lines (from_alone b) (completed_lines source (named (codes "Via") ls)) ≡ completed_lines source (named (codes "Via") ls)
 vias_stay b None ls = kept_stay b (codes "Via") ls (via_kept (from_alone b))
@@ -251,7 +251,7 @@ added_masked b start ls r none =
     (two (from_alone b) (contact_lines r.code start r.contact) (own_lines r.passed r.named r.body) (contact_lines r.code start r.contact)
     (own_lines r.passed r.named r.body) (contacts b r.code start r.contact) (owns b r none))
 
--- a response starts with a status: To of it is private nowhere, and Contact where it redirects or not
+-- a response starts with a status: its To is private nowhere, and its Contact where it redirects or not
 places_of_status : (b : Bool) (code : ℕ) (phrase : List ℕ) → places_in (Status code phrase) (from_alone b) ≡ from_alone b
 places_of_status b code phrase = rw (same_if (redirects (Status code phrase)) false) refl
 
@@ -268,7 +268,7 @@ response_masked b start ls r none =
 pub are_masked : AreMasked
 are_masked p start ls r e none = see_from_alone p start ls r e ∙ sym (response_masked p.from start ls r none)
 
--- ---- one head
+-- ---- the same head
 
 -- the response, with these lines in the place of From
 abbrev with_from : Start → List Line → Reply → List Line → List Line
@@ -314,7 +314,7 @@ later name us xs ys e =
     let P : Line → Bool = λ l. is_line name l in
     filter-append P us xs ∙ (ap (λ (l : List Line). filter P us ++ l) e ∙ sym (filter-append P us ys))
 
--- such lines are not seen by their names
+-- such lines do not matter for look-ups by those names
 pub unseen : (name : List ℕ) (xs ys us : List Line) → named name xs ≡ [] → named name ys ≡ [] → named name (xs ++ us) ≡ named name (ys ++ us)
 unseen name xs ys us x y =
     let P : Line → Bool = λ l. is_line name l in
@@ -334,10 +334,10 @@ response_starts : (start : Start) (ls : List Line) (r : Reply) → (response sta
 unfolding response
 response_starts start ls r = refl
 
--- ---- heads, where they are seen through masks and rest on lines of five names
+-- ---- heads, where they do not depend on masks and depend only on lines of five names
 
 module _ (keep : LinesKeepTheirHead) (five : HeadsRestOnFiveNames) where
-  -- messages whose lines are equal when masked have one head
+  -- messages whose lines are equal when masked have the same head
   same_head : (p : Places) (start : Start) (xs ys : List Line) (body : List ℕ) → masked_lines p xs ≡ masked_lines p ys → head_of (of_lines start xs body) ≡ head_of (of_lines start ys body)
   same_head p start xs ys body e = sym (keep p start xs body body) ∙ (ap (λ (l : List Line). head_of (of_lines start l body)) e ∙ keep p start ys body body)
 

@@ -1,4 +1,4 @@
--- They compute: first what is left of a message, and then what is read of it, field by field; where a value stands alone, nothing parts it.
+-- They compute: first what remains of a message, and then what is read of it, field by field; where a value stands alone, it is not split.
 use Rattle.std.proofs.Common.{◌≡◌, ◌+◌, ◌++◌, ◌∙◌, ap, ℕ, List, [], ◌∷◌, refl, codes, map, Option, Some, None, inl, inr}
 use Rattle.std.specs.Option.{option_map}
 use Rattle.std.proofs.lemmas.Bool.{cases_Bool}
@@ -27,7 +27,7 @@ use Rattle.mmtel_trust.specs.Mask.{MarkedEntries, hidden, hidden_value, masked, 
 use Rattle.mmtel_types.specs.declared.sides.Side.TheVariants.{Caller}
 use Rattle.mmtel_masks.specs.Worked.{HeadsOfInvites, MaskedInvites, RemotesOfInvites, erin_at, head_with_tag, nobodys, of_frank, restricted, unrestricted}
 
--- ---- what is left
+-- ---- what remains
 
 erin_masked : masked opening restricted ≡ nobodys (codes "a")
 unfolding Scanning.closes masked_line kind_of hidden hidden_value served_value is_marked_value masked_value_text Reading.name_addr_of Reading.words_of Reading.quoted_of Reading.angle_of Reading.bare_of Reading.all_params_at Reading.params_at Reading.param_at Reading.token_at Reading.value_at Reading.text_at Classes.in_class Scanning.run Scanning.after_run Scanning.trimmed Scanning.parted
@@ -160,7 +160,7 @@ heads = record {
   shown = ap (λ (m : Message Start). head_of m) shown_masked ∙ shown_head;
 }
 
--- ---- who speaks
+-- ---- the sender
 
 remote_by : (ls : List Line) (r : Remote) → tag_in (codes "From") ls ≡ r.tag → contact_uri ls ≡ r.target → route_set Caller ls ≡ r.routes → remote_of Caller ls ≡ r
 remote_by ls r one two three = rw (one, two, three) refl

@@ -1,5 +1,5 @@
--- What a leg reads of a message without its private places (RFC 3261 §12.1.1, §12.1.2, §12.2.1.1): the tags, the route set and the numbers are never private, and the
--- target is where Contact is.
+-- What a leg reads of a message without its private places (RFC 3261 §12.1.1, §12.1.2, §12.2.1.1): the tags, the route set and the numbers are never private, and the target is
+-- private where Contact is.
 use Rattle.std.specs.Prelude.{◌≡◌, true, false, ℕ, List, Some, codes}
 use Rattle.mmtel_lex.specs.Reading.{name_addr_of}
 use Rattle.mmtel_lex.specs.declared.values.NameAddr.{NameAddr}
@@ -27,11 +27,11 @@ RoutesStay = (p : Places) (side : Side) (ls : List Line) → route_set side (mas
 abbrev pub NumbersStay : Type 0
 NumbersStay = (p : Places) (ls : List Line) → number_in (masked_lines p ls) ≡ number_in ls
 
--- who speaks, with another target
+-- the sender, with another target
 abbrev pub aiming_at : List ℕ → Remote → Remote
 aiming_at target r = record r { target = target }
 
--- of who speaks the target alone may differ
+-- of the sender the target alone may differ
 abbrev pub RemotesDifferInTarget : Type 0
 RemotesDifferInTarget = (p : Places) (side : Side) (ls : List Line) → remote_of side (masked_lines p ls) ≡ aiming_at (contact_uri (masked_lines p ls)) (remote_of side ls)
 
@@ -39,29 +39,29 @@ RemotesDifferInTarget = (p : Places) (side : Side) (ls : List Line) → remote_o
 abbrev pub ContactDecides : Type 0
 ContactDecides = (p : Places) (ls : List Line) → p.contact ≡ false → contact_uri (masked_lines p ls) ≡ contact_uri ls
 
--- and is nobody where it is, the first Contact can be read, and each masked line has one value
+-- and is anonymous where it is, the first Contact parses, and each masked line has one value
 abbrev pub TargetsAreNobodys : Type 0
 TargetsAreNobodys = (p : Places) (ls : List Line) (v : List ℕ) (n : NameAddr) → p.contact ≡ true → StandsOneALine (codes "Contact") (masked_lines p ls) →
     first_value (codes "Contact") ls ≡ Some v → name_addr_of v ≡ Some n → contact_uri (masked_lines p ls) ≡ anonymous
 
 -- ---- a caller's dialog
 
--- the dialog with this as the other side's name
+-- the dialog with this as the value of the other side
 abbrev pub facing_whom : List ℕ → Dialogue → Dialogue
 facing_whom remote d = record d { remote = remote }
 
--- the dialog of an INVITE differs in who called alone, which is hidden where From is private
+-- the dialog of an INVITE differs in the caller's value alone, which is hidden where From is private
 abbrev pub DialogsDifferInRemote : Type 0
 DialogsDifferInRemote = (p : Places) (peer : Peer) (ls : List Line) (tag : List ℕ) → p.to ≡ false →
     taken peer (masked_lines p ls) tag ≡ facing_whom (hide_if p.from (field (codes "From") ls)) (taken peer ls tag)
 
 -- ---- of two messages that are equal when masked, each by its own places
 
--- Contact is private in neither, where they start so
+-- Contact is private in neither, where their start line is this one
 abbrev pub ContactIsPublic : Places → Places → Start → Type 0
 ContactIsPublic p q start = ((places_in start p).contact ≡ false) × ((places_in start q).contact ≡ false)
 
--- the same is read of who speaks, but for the target; that too where Contact is private in neither
+-- the same is read of the sender, except for the target; that too where Contact is private in neither
 pub record TellAlike (p q : Places) (side : Side) (m n : Message Start) : Type 0 where
   pub tag : tag_in (field_of side) m.lines ≡ tag_in (field_of side) n.lines
   pub routes : route_set side m.lines ≡ route_set side n.lines
@@ -71,7 +71,7 @@ pub record TellAlike (p q : Places) (side : Side) (m n : Message Start) : Type 0
 abbrev pub AlikeSpeakersHaveOneName : Type 0
 AlikeSpeakersHaveOneName = (p q : Places) (side : Side) (m n : Message Start) → masked p m ≡ masked q n → TellAlike p q side m n
 
--- the dialogs of two such INVITEs differ in who called alone
+-- the dialogs of two such INVITEs differ in the caller's value alone
 abbrev pub AlikeDialogsDifferInRemote : Type 0
 AlikeDialogsDifferInRemote = (p q : Places) (m n : Message Start) (peer : Peer) (tag : List ℕ) → is_request m.start ≡ true → masked p m ≡ masked q n →
     facing_whom (field (codes "From") n.lines) (taken peer m.lines tag) ≡ taken peer n.lines tag

@@ -15,18 +15,18 @@ MessagesKeepTheirHead = (p : Places) (m : Message Start) → head_of (masked p m
 abbrev pub of_lines : Start → List Line → List ℕ → Message Start
 of_lines start ls body = record { start = start; lines = ls; body = body }
 
--- so have lines that are masked by any places, as those of a response may be in a request, and with any body
+-- so have lines that are masked by any places, such as those of a response in a request, and with any body
 abbrev pub LinesKeepTheirHead : Type 0
 LinesKeepTheirHead = (p : Places) (start : Start) (ls : List Line) (body other : List ℕ) → head_of (of_lines start (masked_lines p ls) body) ≡ head_of (of_lines start ls other)
 
--- two messages that are equal when masked, each by its own places, have one head
+-- two messages that are equal when masked, each by its own places, have the same head
 abbrev pub AlikeHaveOneHead : Type 0
 AlikeHaveOneHead = (p q : Places) (m n : Message Start) → masked p m ≡ masked q n → head_of m ≡ head_of n
 
--- the message that was heard
+-- the message that was received
 abbrev pub message_of : HeardMessage → Message Start
 message_of m = of_lines m.start m.lines m.body
 
--- and so have two that are equal when masked as they were heard
+-- and so have two whose parsed forms are equal when masked
 abbrev pub HeardAlikeHaveOneHead : Type 0
 HeardAlikeHaveOneHead = (p q : Places) (m n : HeardMessage) → hide p m ≡ hide q n → head_of (message_of m) ≡ head_of (message_of n)

@@ -1,4 +1,4 @@
--- What the laws, which are public, say.
+-- What the theorems, which are public, state.
 pub mod Heads
 pub mod Responses
 pub mod Dialogs

@@ -1,4 +1,4 @@
--- A worked INVITE (RFC 3261 §8.1.1), with a wish for privacy (RFC 3323 §4.2) and without: what transactions and legs read of it, masked and not.
+-- A worked INVITE (RFC 3261 §8.1.1), with a request for privacy (RFC 3323 §4.2) and without: what transactions and legs read of it, masked and not.
 use Rattle.std.specs.Prelude.{◌≡◌, true, ℕ, List, [], ◌∷◌, ◌++◌, Some, codes}
 use Rattle.mmtel_leg.specs.Dialogues.{number_in}
 use Rattle.mmtel_leg.specs.Remotes.{remote_of}
@@ -26,25 +26,25 @@ invite_of from contact further = record {
   body = [];
 }
 
--- the wish that nobody is told the identity, and no body
+-- the request for privacy of the identity, and no body
 abbrev pub private_lines : List Line
 private_lines = (codes "Privacy", codes "id") ∷ (codes "Content-Length", codes "0") ∷ []
 
 abbrev pub identity_of_erin : Line
 identity_of_erin = (codes "P-Asserted-Identity", codes "<sip:erin@other.example>")
 
--- Erin's, where she wishes so, and where not
+-- Erin's INVITE, where she requests privacy, and where not
 abbrev pub restricted : Message Start
 restricted = invite_of (codes "\"Erin\" <sip:erin@other.example>;tag=a") (codes "<sip:erin@127.0.0.1:5071>") (identity_of_erin ∷ private_lines)
 
 abbrev pub unrestricted : Message Start
 unrestricted = invite_of (codes "\"Erin\" <sip:erin@other.example>;tag=a") (codes "<sip:erin@127.0.0.1:5071>") (identity_of_erin ∷ (codes "Content-Length", codes "0") ∷ [])
 
--- nobody's, with this tag
+-- the anonymous INVITE, with this tag
 abbrev pub nobodys : List ℕ → Message Start
 nobodys tag = invite_of (codes "<sip:anonymous@anonymous.invalid>;tag=" ++ tag) (codes "<sip:anonymous@anonymous.invalid>") private_lines
 
--- Frank's, with this tag, where he wishes so
+-- Frank's INVITE, with this tag, where he requests privacy
 abbrev pub of_frank : List ℕ → Message Start
 of_frank tag = invite_of (codes "\"Frank\" <sip:frank@other.example>;tag=" ++ tag) (codes "<sip:frank@127.0.0.1:5071>")
     ((codes "P-Asserted-Identity", codes "<sip:frank@other.example>") ∷ private_lines)
@@ -62,14 +62,14 @@ head_with_tag tag = record {
   number = 7;
 }
 
--- what is left of them: of the restricted ones nobody's INVITE, and of the unrestricted one all
+-- what remains of them: of the restricted ones the anonymous INVITE, and of the unrestricted one everything
 pub record MaskedInvites : Type 0 where
   pub of_erin : masked opening restricted ≡ nobodys (codes "a")
   pub of_another : masked opening (of_frank (codes "a")) ≡ nobodys (codes "a")
   pub of_another_tag : masked opening (of_frank (codes "b")) ≡ nobodys (codes "b")
   pub of_unrestricted : masked (only MarkedEntries) unrestricted ≡ unrestricted
 
--- the INVITE and the masked one have one head; another tag is seen
+-- the INVITE and the masked one have the same head; another tag is seen
 pub record HeadsOfInvites : Type 0 where
   pub received : head_of restricted ≡ head_with_tag (codes "a")
   pub hidden : head_of (masked opening restricted) ≡ head_with_tag (codes "a")
@@ -79,7 +79,7 @@ pub record HeadsOfInvites : Type 0 where
 abbrev pub erin_at : List ℕ → Remote
 erin_at target = record { tag = codes "a"; target = target; routes = [] }
 
--- a leg reads tag and number of the masked INVITE, and nobody in the place of the target; nothing is hidden of the unrestricted one
+-- a leg reads tag and number of the masked INVITE, and the anonymous URI as the target; nothing is hidden of the unrestricted one
 pub record RemotesOfInvites : Type 0 where
   pub of_restricted : remote_of Caller (masked opening restricted).lines ≡ erin_at (codes "sip:anonymous@anonymous.invalid")
   pub number : number_in (masked opening restricted).lines ≡ Some 7

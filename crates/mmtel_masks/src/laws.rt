@@ -1,4 +1,4 @@
-//! Laws of masked messages: each is the contract of a function that does nothing.
+//! Theorems about masked messages: each is the contract of a function that does nothing.
 ghost use Rattle.mmtel_masks.specs.Dialogs.{AlikeDialogsDifferInRemote, AlikeSpeakersHaveOneName, ContactDecides, DialogsDifferInRemote, NumbersStay};
 ghost use Rattle.mmtel_masks.specs.Dialogs.{RemotesDifferInTarget, RoutesStay, TagsStay, TargetsAreNobodys};
 ghost use Rattle.mmtel_masks.specs.Heads.{AlikeHaveOneHead, HeardAlikeHaveOneHead, LinesKeepTheirHead, MessagesKeepTheirHead};
@@ -9,8 +9,8 @@ ghost use Rattle.mmtel_masks.specs.Worked.{HeadsOfInvites, MaskedInvites, Remote
 
 use mmtel_transaction::laws::heads_rest_on_five_names;
 
-/// What transactions read of a message rests on none of its private places, whichever these are:
-/// so two messages that are equal when masked, each by its own places, have one head (RFC 3261 §17.1.3, §17.2.3).
+/// What transactions read of a message depends on none of its private places, whichever these are: so two messages that are equal when masked, each by its own places, have the
+/// same head (RFC 3261 §17.1.3, §17.2.3).
 pub fn heads_see_no_private_place()
     ensures messages { MessagesKeepTheirHead }
     ensures lines { LinesKeepTheirHead }
@@ -20,8 +20,8 @@ pub fn heads_see_no_private_place()
     heads_rest_on_five_names();
 }
 
-/// What the server answers to a masked request is what it answers to the request, masked: of the private places From alone is in it (RFC 3261 §8.2.6.2).
-/// So responses to requests that are equal when masked have one head, and are equal where From is not private.
+/// The server's response to a masked request is its response to the request, masked: From is the only private place in it (RFC 3261 §8.2.6.2). So responses to requests that are
+/// equal when masked have the same head, and are equal where From is not private.
 pub fn responses_are_masked()
     ensures see_from { SeeFromAlone }
     ensures masked { AreMasked }
@@ -32,8 +32,8 @@ pub fn responses_are_masked()
     heads_rest_on_five_names();
 }
 
-/// The names of a dialog, the way to the other side and its numbers are read of masked lines as of the lines, whatever is private;
-/// the target is nobody where Contact is private, and stays where it is not (RFC 3261 §12.1.1, §12.1.2, §12.2.1.1).
+/// The identifiers of a dialog, the route to the other side and its numbers are read from masked lines as from the lines, whatever is private; the target is anonymous where
+/// Contact is private, and stays where it is not (RFC 3261 §12.1.1, §12.1.2, §12.2.1.1).
 pub fn dialogs_keep_their_names()
     ensures tags { TagsStay }
     ensures routes { RoutesStay }
@@ -46,9 +46,8 @@ pub fn dialogs_keep_their_names()
     ensures taken_alike { AlikeDialogsDifferInRemote }
 {}
 
-/// What the server asks of a peer for a restricted sender:
-/// an untrusted peer gets the same request of messages that are equal when masked, and a trusted one a request of the same head.
-/// Where only entries of History-Info are private it is so of any sender (RFC 3323 §4.1, RFC 3325 §7, RFC 7044 §10.1).
+/// The requests that the server sends to a peer on behalf of a restricted sender: an untrusted peer gets the same request from messages that are equal when masked, and a trusted
+/// one a request of the same head. Where only entries of History-Info are private this holds of any sender (RFC 3323 §4.1, RFC 3325 §7, RFC 7044 §10.1).
 pub fn requests_hide_their_sender()
     ensures attempts { AttemptsAreHidden }
     ensures relayed { RelayedAreHidden }
@@ -61,7 +60,7 @@ pub fn requests_hide_their_sender()
     heads_rest_on_five_names();
 }
 
-/// An INVITE with and without a wish for privacy computes: what is left of it when it is masked, its head, and what a leg reads of it.
+/// A worked INVITE, with and without a request for privacy, computes: what remains of it when it is masked, its head, and what a leg reads of it.
 pub fn rows_compute()
     ensures masked { MaskedInvites }
     ensures heads { HeadsOfInvites }

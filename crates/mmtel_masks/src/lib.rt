@@ -1,4 +1,5 @@
-//! What the layers above the header table read and build of a message without its private places: laws alone. Two runs whose messages are equal when masked go on alike by these.
+//! What the layers above the header table read and build of a message without its private places: theorems alone. By these, two runs whose messages are equal when masked
+//! continue in the same way.
 #![tactic(auto)]
 
 mod laws;

@@ -1,4 +1,4 @@
--- Which request a message answers, by what its five fields say.
+-- To which request a message belongs, by what its five fields say.
 use Rattle.std.proofs.Common.{◌≡◌, ◌==◌, Bool, true, false, ℕ, List, [], ◌∷◌, length, map, Option, Some, None, refl, sym, ap, subst, ◌∙◌, codes}
 use Rattle.std.specs.Bool.{OnFalse}
 use Rattle.std.specs.Option.{option_map, unwrap_or}
@@ -48,7 +48,7 @@ known_branch ls said v is first alone filled =
     ∙ given
     ∙ sym (branch_at ls v first ∙ ap (λ (o : Option Via). o >>= λ w. param_value (codes "branch") w.params) read)
 
--- the same where the line is looked at
+-- the same, with a test of the line's value
 pub known_if : (b : Bool) (branch v : List ℕ) → (length branch == 0) ≡ false → OnFalse b (values_of v ≡ v ∷ []) → OnFalse b ((ls : List Line) (said : Identifiers) → identifiers_in ls ≡ Some said → said.branch ≡ branch → first_value (codes "Via") ls ≡ Some v → Some branch ≡ first_branch ls)
 known_if true branch v filled alone = tt
 known_if false branch v filled alone = λ ls said is same first.

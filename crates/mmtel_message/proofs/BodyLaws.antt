@@ -1,4 +1,4 @@
--- Bytes behind a body whose length is said do not matter.
+-- Bytes after a body whose length is given do not matter.
 use Rattle.std.proofs.Common.{◌≡◌, false, ℕ, zero, suc, ◌+◌, ◌≤◌, List, [], ◌∷◌, ◌++◌, length, take, drop, Option, Some, None, Ok, refl, sym, ap, subst, ◌∙◌, inl, inr, map, arith, codes, nat_lt}
 use Rattle.std.specs.Prelude.{is_none}
 use Rattle.std.proofs.lemmas.Bool.{cases_Bool}
@@ -131,7 +131,7 @@ by_head s x v m (Some n) is e there =
     let fits = break_fits s n is in
     rw (break_more s x n is, take_more n s x (omega arith), drop_more (n + 4) s x (omega arith)) (by_lines (unfolded (split (take n s))) (drop (n + 4) s) x v m e there)
 
--- bytes behind the body
+-- bytes after the body
 pub more_bytes : (s x v : List ℕ) (m : Message Start) → reads s ≡ Ok m → first_value (codes "Content-Length") m.lines ≡ Some v → length (s ++ x) ≤ 16384 → reads (s ++ x) ≡ Ok m
 more_bytes s x v m e there le =
     let small : nat_lt limit (length s) ≡ false = grind (arith, nat_tests, le, length-append s x) in

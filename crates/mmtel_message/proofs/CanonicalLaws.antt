@@ -31,7 +31,7 @@ use Rattle.mmtel_message.proofs.ValueLaws.{parts_is_cons, parts_closed, merged_v
 use Rattle.mmtel_message.proofs.ExpansionLaws.{Line, Clean, line_named, not_false, named_by, NeedsWords, has_more}
 use Rattle.mmtel_message.proofs.WalkLaws.{first_named, head_value}
 
--- ---- Privacy's words
+-- ---- the words of Privacy
 
 put_append : (b : ℕ) (p : List ℕ) (ps qs : List (List ℕ)) → put_byte b ((p ∷ ps) ++ qs) ≡ put_byte b (p ∷ ps) ++ qs
 put_append b p ps qs = refl
@@ -99,7 +99,7 @@ none_of : (X n : List ℕ) (vs : List (List ℕ)) → is_line X (n, []) ≡ fals
 none_of X n [] e = refl
 none_of X n (v ∷ vs) e = rw e (none_of X n vs e)
 
--- a line of another name has lines of other names in its place
+-- a line of another name is replaced by lines of other names
 pub named_other : (X p a : List ℕ) (B : List Line) (h : Line) → is_line X h ≡ false → named X (lines_for p a B h) ≡ []
 named_other X p a B h e =
     elim (cases_Bool (length h.0 == 0)) [
@@ -116,7 +116,7 @@ named_other X p a B h e =
       ]
     ]
 
--- names whose lines stand as they are
+-- names whose lines are not changed by expansion
 abbrev IsPlainName : List ℕ → Type 0
 IsPlainName X = (p a : List ℕ) (B : List Line) (h : Line) → (length h.0 == 0) ≡ false → is_line X h ≡ true → lines_for p a B h ≡ h ∷ []
 
@@ -217,7 +217,7 @@ once before there text = if before then [] else if there then text ∷ [] else [
 pub texts_over : (X : List ℕ) (N R : List Line) → line_texts X (N ++ R) ≡ line_texts X N ++ line_texts X R
 texts_over X N R = ap (λ (x : List Line). map (λ (l : Line). l.1) x) (filter-append (λ (l : Line). is_line X l) N R) ∙ map-append (λ (l : Line). l.1) (named X N) (named X R)
 
--- a name whose first line has this text, and further ones nothing
+-- a name whose first line is replaced by this text, and further ones by nothing
 abbrev IsOnce : List ℕ → List ℕ → List ℕ → List ℕ → Type 0
 IsOnce X p a text = (B : List Line) (h : Line) → (length h.0 == 0) ≡ false → is_line X h ≡ true → line_texts X (lines_for p a B h) ≡ (if has_line X B then [] else text ∷ [])
 
@@ -263,7 +263,7 @@ no_texts X (h ∷ hs) e =
       | inr n ↦ rw n (no_texts X hs (rw n at e))
     ]
 
--- merged lines are merged no further
+-- merged lines are not changed by merging
 merged_kept : (k : Mode) (c d : ℕ) (blanks X p a : List ℕ) (start : Start) (five : Five) (room : ℕ) (hs : List Line) → base k ≡ k → is_parting k c ≡ true → IsAll Blank blanks → IsOnce X p a (merged_text k (d ∷ []) (c ∷ blanks) (line_texts X hs)) → Clean start five room [] hs → merged_text k (d ∷ []) (c ∷ blanks) (line_texts X (expanded_from p a [] hs)) ≡ merged_text k (d ∷ []) (c ∷ blanks) (line_texts X hs)
 merged_kept k c d blanks X p a start five room hs is f each once_is e =
     let t : List ℕ = merged_text k (d ∷ []) (c ∷ blanks) (line_texts X hs) in
@@ -289,7 +289,7 @@ pub allow_kept : (start : Start) (five : Five) (room : ℕ) (hs : List Line) →
 allow_kept start five room hs e =
     merged_kept Plain 44 44 (32 ∷ []) (codes "Allow") (privacy_text hs) (allow_text hs) start five room hs refl refl blank_space (allow_once (privacy_text hs) (allow_text hs)) e
 
--- expanded lines are expanded no further
+-- expanded lines are not changed by expansion
 pub expanded_again : (start : Start) (five : Five) (room : ℕ) (hs : List Line) → Clean start five room [] hs → expanded_from (privacy_text hs) (allow_text hs) [] (expanded hs) ≡ expanded hs → expanded (expanded hs) ≡ expanded hs
 expanded_again start five room hs e same = rw (privacy_kept start five room hs e, allow_kept start five room hs e) same
 
@@ -314,12 +314,12 @@ body_by rest (Some v) = body_cut rest v (number_of (length rest) v) refl
 pub body_again : (hs ls : List Line) (rest : List ℕ) → first_value (codes "Content-Length") ls ≡ first_value (codes "Content-Length") hs → body_of ls (body_of hs rest) ≡ body_of hs rest
 body_again hs ls rest e = rw e (body_by rest (first_value (codes "Content-Length") hs))
 
--- ---- the room behind the head: that of the body alone
+-- ---- the bytes after the head: those of the body alone
 
 other_room : (start : Start) (five : Five) (room less : ℕ) (B : List Line) (h : Line) → is_line (codes "Content-Length") h ≡ false → line_fault start five room B h ≡ line_fault start five less B h
 other_room start five room less B h n = rw n refl
 
--- what Content-Length says fits
+-- the value of Content-Length is at most the number of bytes after the head
 abbrev pub Fits : ℕ → Option (List ℕ) → Type 0
 Fits less None = Unit {0}
 Fits less (Some v) = is_none (number_of less v) ≡ false
@@ -335,7 +335,7 @@ length_twice start five room B h named y has e =
     let f : true ≡ false = rw (named, q, has) at e in
     absurd cc
 
--- what is asked of the lines behind those before: nothing where Content-Length came
+-- what must hold of the lines that follow those before: nothing where Content-Length was among these
 abbrev FitsBehind : ℕ → Bool → List Line → Type 0
 FitsBehind less true hs = Unit {0}
 FitsBehind less false hs = Fits less (first_value (codes "Content-Length") hs)
@@ -403,7 +403,7 @@ fits_body : (rest : List ℕ) (o : Option (List ℕ)) → Fits (length rest) o �
 fits_body rest None f = tt
 fits_body rest (Some v) f = cut_fits rest v (number_of (length rest) v) refl f
 
--- nothing is wrong where the body alone stands behind the head
+-- nothing is wrong where only the body follows the head
 pub body_clean : (start : Start) (five : Five) (hs : List Line) (rest : List ℕ) → Clean start five (length rest) [] hs → Clean start five (length (body_of hs rest)) [] hs
 body_clean start five hs rest e =
     room_clean start five (length rest) (length (body_of hs rest)) [] hs (fits_body rest (first_value (codes "Content-Length") hs) (first_length start five (length rest) [] hs refl e)) e

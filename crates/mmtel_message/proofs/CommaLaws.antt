@@ -1,4 +1,4 @@
--- The bytes that part values.
+-- The bytes that separate values.
 use Rattle.std.proofs.Common.{◌≡◌, ◌==◌, true, false, ℕ, suc, ◌+◌, ◌<◌, List, [], ◌∷◌, ◌++◌, length, take, drop, get_or, Option, Some, None, refl, sym, ap, subst, ◌∙◌, arith, drop-cons, add-one, inl, inr, append_assoc, map}
 use Rattle.std.proofs.lemmas.List.{drop_all}
 use Rattle.std.specs.Option.{option_map}
@@ -31,7 +31,7 @@ pub never : (m : Mode) (total : Option ℕ) (i : ℕ) (s : List ℕ) → i ≡ l
 unfolding parting
 never m total i s e so_far = rw (drop_all i s (omega arith)) at so_far
 
--- ---- a text without the byte that may part
+-- ---- a text without the byte that may separate
 
 separator_after : (m : Mode) (b : ℕ) → separator (mode_after m b) ≡ separator m
 separator_after Plain b =
@@ -70,7 +70,7 @@ lacks_byte x s none k less =
       | inr n ↦ n
     ]
 
--- nothing parts a text in which that byte does not stand
+-- nothing separates in a text in which that byte does not occur
 pub no_parting : (m : Mode) (s : List ℕ) → Nowhere (Passes (is_byte (separator m)) s) 0 (length s) → parting m s ≡ None
 no_parting m s none = lacking m s (lacks_byte (separator m) s none)
 

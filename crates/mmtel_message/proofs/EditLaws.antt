@@ -80,7 +80,7 @@ there name (l ∷ ls) n e =
           omega (arith, there name ls p.0 p.1, p.2)
     ]
 
--- ---- numbers with dots
+-- ---- numbers separated by dots
 
 pub dot_over : (total : Bool) (i : ℕ) (s : List ℕ) (d e : Bool) → i < length s → dotted_step d (get_or s i 0) ≡ Some e → total ≡ is_dotted d (drop i s) → total ≡ is_dotted e (drop (i + 1) s)
 unfolding is_dotted

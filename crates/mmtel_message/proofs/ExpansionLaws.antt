@@ -1,4 +1,4 @@
--- A message in which nothing is wrong is expanded to one in which nothing is wrong, and which is expanded no further.
+-- A message in which nothing is wrong is expanded to one in which nothing is wrong, and which expansion does not change.
 use Rattle.std.proofs.Common.{◌≡◌, ◌==◌, ◌&&◌, ◌||◌, not, ◌⊎◌, Bool, true, false, ℕ, ◌+◌, List, [], ◌∷◌, ◌++◌, length, None, refl, sym, ap, subst, ◌∙◌, inl, inr, map, arith, append-nil, append_assoc, codes, nat_lt}
 use Rattle.std.proofs.lemmas.Bool.{cases_Bool}
 use Rattle.std.proofs.lemmas.Bool.Decides.{nat_tests}
@@ -41,7 +41,7 @@ or_left false b e = (refl, e)
 
 -- ---- names without case
 
--- a line's name is the name but for case
+-- a line's name is the name up to case
 pub line_named : (name : List ℕ) (h : Line) → is_line name h ≡ true → str_to_ascii_lowercase h.0 ≡ str_to_ascii_lowercase name
 line_named name h e = (bytes_eq-Decides (str_to_ascii_lowercase h.0) (str_to_ascii_lowercase name)).0 e
 
@@ -84,7 +84,7 @@ from_append p a B (x ∷ N) R =
     let same : (B ++ x ∷ []) ++ N ≡ B ++ x ∷ N = append_assoc B (x ∷ []) N in
     rw (more, same) (sym (append_assoc (lines_for p a B x) (expanded_from p a (B ++ x ∷ []) N) (expanded_from p a (B ++ x ∷ N) R)))
 
--- ---- lines that say the same of what stands behind them
+-- ---- lines that have the same effect on the lines that follow
 
 pub record Rel (B B' : List Line) : Type 0 where
   pub has : (X : List ℕ) → has_line X B' ≡ has_line X B
@@ -102,7 +102,7 @@ hist_none B h n = hist_more B (h ∷ []) ∙ rw n (append-nil (values_named Plai
 has_other : (X : List ℕ) (B : List Line) (h : Line) → is_line X h ≡ false → has_line X B ≡ has_line X (B ++ h ∷ [])
 has_other X B h n = or_false (has_line X B) ∙ sym (has_more X B h ∙ ap (λ (b : Bool). has_line X B || b) n)
 
--- a line of a name that is there already
+-- a line of a name that already occurs
 dropped_has : (X P : List ℕ) (B : List Line) (h : Line) → is_line P h ≡ true → has_line P B ≡ true → has_line X B ≡ has_line X (B ++ h ∷ [])
 dropped_has X P B h e f =
     elim (cases_Bool (is_line X h)) [
@@ -116,7 +116,7 @@ dropped_has X P B h e f =
 renamed_has : (X : List ℕ) (B B' : List Line) (h : Line) (text : List ℕ) → Rel B B' → has_line X (B' ++ (h.0, text) ∷ []) ≡ has_line X (B ++ h ∷ [])
 renamed_has X B B' h text rel = has_more X B' (h.0, text) ∙ (ap (λ (b : Bool). b || is_line X h) (rel.has X) ∙ sym (has_more X B h))
 
--- ---- a line and those in its place
+-- ---- a line and those that replace it
 
 pub record Kept (start : Start) (five : Five) (room : ℕ) (p a : List ℕ) (B B' : List Line) (h : Line) : Type 0 where
   pub clean : Clean start five room B' (lines_for p a B h)
@@ -131,7 +131,7 @@ kept_as start five room p a B B' h N e k =
     let k' : KeptAs start five room p a B B' h (lines_for p a B h) = subst (λ (x : List Line). KeptAs start five room p a B B' h x) (sym e) k in
     record { clean = k'.0; same = k'.1; rel = k'.2 }
 
--- nothing stands for a line of Privacy or Allow behind the first
+-- a line of Privacy or Allow after the first is replaced by nothing
 kept_none : (start : Start) (five : Five) (room : ℕ) (p a : List ℕ) (B B' : List Line) (h : Line) (P : List ℕ) → Rel B B' → is_line P h ≡ true → has_line P B ≡ true → is_line (codes "History-Info") h ≡ false → KeptAs start five room p a B B' h []
 unfolding expanded_from
 kept_none start five room p a B B' h P rel e f n =
@@ -144,7 +144,7 @@ kept_none start five room p a B B' h P rel e f n =
       },
     )
 
--- one line of the same name stands for a line
+-- a line is replaced by one line of the same name
 kept_one : (start : Start) (five : Five) (room : ℕ) (p a : List ℕ) (B B' : List Line) (h : Line) (text : List ℕ) → Rel B B' → line_fault start five room B' (h.0, text) ≡ false → lines_for p a B' (h.0, text) ≡ (h.0, text) ∷ [] → is_line (codes "History-Info") h ≡ false → KeptAs start five room p a B B' h ((h.0, text) ∷ [])
 unfolding expanded_from
 kept_one start five room p a B B' h text rel clean same n = (
@@ -192,7 +192,7 @@ kept_allow start five room p a B B' h rel named other e =
           (kept_one start five room p a B B' h a rel (allow_clean start five room B' h.0 a named q) (rw (named, other, e, fresh') refl) n)
     ]
 
--- ---- the values of a listed name, one a line
+-- ---- the values of a listed name, one per line
 
 abbrev pub AllOf : (List ℕ → Type 0) → List (List ℕ) → Type 0
 AllOf P [] = Unit {0}
@@ -246,7 +246,7 @@ listed_has X B B' h rel =
     let mine : has_line X (lines_of h.0 (values_of h.1)) ≡ is_line X h = rw c.2 (has_lines X h.0 (trim c.0) (map trim c.1)) in
     list_any-append (λ (l : Line). is_line X l) B' (lines_of h.0 (values_of h.1)) ∙ rw (mine, rel.has X, has_more X B h) refl
 
--- a listed name whose values are looked at one by one
+-- a listed name whose values are checked one by one
 run_clean : (start : Start) (five : Five) (room : ℕ) (n : List ℕ) (P : List ℕ → Type 0) → ((B : List Line) (v : List ℕ) → P v → line_fault start five room B (n, v) ≡ false) → (vs : List (List ℕ)) → AllOf P vs → (B : List Line) → Clean start five room B (lines_of n vs)
 run_clean start five room n P one [] each B = tt
 run_clean start five room n P one (v ∷ vs) each B = (one B v each.0, run_clean start five room n P one vs each.1 (B ++ (n, v) ∷ []))
@@ -264,7 +264,7 @@ readable_each (v ∷ vs) each e =
     let both = and_true (is_readable v) (are_readable vs) e in
     ((each.0, both.0), readable_each vs each.1 both.1)
 
--- Via: only the first of all is looked at
+-- Via: only the first of all values is checked
 via_behind : (start : Start) (five : Five) (room : ℕ) (n : List ℕ) (vs : List (List ℕ)) (B : List Line) → (length n == 0) ≡ false → str_to_ascii_lowercase n ≡ codes "via" → has_line (codes "Via") B ≡ true → Clean start five room B (lines_of n vs)
 via_behind start five room n [] B named q has = tt
 via_behind start five room n (v ∷ vs) B named q has =
@@ -272,7 +272,7 @@ via_behind start five room n (v ∷ vs) B named q has =
     let none : (is_request start && false) ≡ false = (elim (cases_Bool (is_request start)) [ inl y ↦ rw y refl | inr z ↦ rw z refl ]) in
     (rw (named, q, has, none) refl, via_behind start five room n vs (B ++ (n, v) ∷ []) named q more)
 
--- History-Info: the values before count
+-- History-Info: the values before are counted too
 entries_clean : (start : Start) (five : Five) (room : ℕ) (n : List ℕ) (vs : List (List ℕ)) (B : List Line) → (length n == 0) ≡ false → str_to_ascii_lowercase n ≡ codes "history-info" → AllOf IsSingle vs → are_entries vs ≡ true → nat_lt 32 (length (values_named Plain (codes "History-Info") B) + length vs) ≡ false → Clean start five room B (lines_of n vs)
 entries_clean start five room n [] B named q each e few = tt
 entries_clean start five room n (v ∷ vs) B named q each e few =
@@ -321,7 +321,7 @@ via_parts false false cookie e = inr refl
 via_one : (start : Start) (five : Five) (room : ℕ) (B : List Line) (n v : List ℕ) → (length n == 0) ≡ false → str_to_ascii_lowercase n ≡ codes "via" → (is_request start && not (has_line (codes "Via") B) && not (is_cookie (param_value (codes "branch") five.via.params))) ≡ false → line_fault start five room B (n, v) ≡ false
 via_one start five room B n v named q e = rw (named, q, e) refl
 
--- Via: the first value of all is looked at
+-- Via: the first value of all is checked
 via_clean : (start : Start) (five : Five) (room : ℕ) (n : List ℕ) (vs : List (List ℕ)) (B : List Line) → (length n == 0) ≡ false → str_to_ascii_lowercase n ≡ codes "via" → (is_request start && not (has_line (codes "Via") B) && not (is_cookie (param_value (codes "branch") five.via.params))) ≡ false → Clean start five room B (lines_of n vs)
 via_clean start five room n [] B named q e = tt
 via_clean start five room n (v ∷ vs) B named q e =
@@ -339,7 +339,7 @@ option_one : (start : Start) (five : Five) (room : ℕ) (B : List Line) (n v : L
 option_one start five room B n v named (inl q) = rw (named, q) refl
 option_one start five room B n v named (inr q) = rw (named, q) refl
 
--- the names whose values stand one a line
+-- the names whose values are written one per line
 data ListedName (h : Line) : Type 0 where
   via : str_to_ascii_lowercase h.0 ≡ codes "via" → ListedName h
   route : str_to_ascii_lowercase h.0 ≡ codes "route" → ListedName h

@@ -23,7 +23,7 @@ part_some m (b ∷ s) =
       | inr n ↦ rw n (put_some b (parts (mode_after m b) s))
     ]
 
--- behind a part that is followed by more there is another one
+-- after a part that is followed by more there is another one
 pub more_parts : (p : List ℕ → Bool) (s part t : List ℕ) → parts Plain s ≡ part ∷ parts Plain t → (length (values_of s) == 1 && list_all p (values_of s)) ≡ false
 more_parts p s part t e =
     let some : 0 < length (parts Plain t) = part_some Plain t in

@@ -1,4 +1,4 @@
--- A line whose name has another length than a name adds nothing to what was found of that name.
+-- A line whose name has another length than a given name adds nothing to what was found of the given name.
 use Rattle.std.proofs.Common.{◌≡◌, ◌≢◌, ◌==◌, if◌then◌else◌, ℕ, List, ◌∷◌, length, Option, Some, None, refl, sym, ap, ◌∙◌}
 use Rattle.std.proofs.lemmas.List.Sums.{length-filter}
 use Rattle.std.specs.Prelude.{count_by}

@@ -1,4 +1,4 @@
--- A line that is read on: a front that has no blank at its end, a gap, and the piece that was read last.
+-- A line that others continue: a prefix that has no blank at its end, a gap, and the piece that was read last.
 use Rattle.std.proofs.Common.{◌≡◌, ◌==◌, ◌<◌, ◌≤◌, Bool, true, false, ℕ, List, [], ◌∷◌, ◌++◌, length, map, take, drop, reverse, Option, Some, None, refl, sym, ap, subst, ◌∙◌, arith, append_assoc, inl, inr}
 use Rattle.std.proofs.lemmas.List.{append-nil, map-append, reverse-append, length-reverse, length-take, nil_from_length}
 use Rattle.std.proofs.lemmas.Bool.{cases_Bool}
@@ -28,7 +28,7 @@ nothing_kept front gap piece gap_in ends e =
     let behind : trimmed Blank (front ++ (gap ++ piece)) ≡ front = trimmed_again Blank front (gap ++ piece) (all_append Blank gap piece gap_in piece_in) ends in
     sym (rw (append_assoc front gap piece) behind)
 
--- no blank is last where none is last in the part behind, and that part is not empty
+-- no blank is last where none is last in the second part, and that part is not empty
 stops_append : (k : Class) (a b : List ℕ) → 0 < length b → Stops k b → Stops k (b ++ a)
 stops_append k a [] pos stops = absurd (omega arith)
 stops_append k a (c ∷ b) pos stops = stops
@@ -37,7 +37,7 @@ stops_behind : (k : Class) (a b : List ℕ) → 0 < length b → Stops k (revers
 stops_behind k a b pos stops =
     rw (reverse-append a b) (stops_append k (reverse a) (reverse b) (rw (length-reverse b) pos) stops)
 
--- what is kept of the piece is added, and what stands before it stays
+-- the trimmed piece is appended, and what comes before it stays
 pub some_kept : (before piece : List ℕ) → 0 < length (trimmed Blank piece) → before ++ trimmed Blank piece ≡ trimmed Blank (before ++ piece)
 some_kept before piece pos =
     let takes : Trims Blank piece (trimmed Blank piece) = trimmed_takes Blank piece in
@@ -47,7 +47,7 @@ some_kept before piece pos =
 
 -- ---- lines that continue
 
--- a line's first byte is the first of what it is the first line of
+-- the first byte of a text is the first byte of its first line
 abbrev first_blank : List (List ℕ) → Bool
 first_blank [] = false
 first_blank (l ∷ ls) = starts_blank l
@@ -69,7 +69,7 @@ unfolding split
 split_blank [] line others e = ap (λ (l : List (List ℕ)). first_blank l) (sym e)
 split_blank (b ∷ s) line others e = put_blank b (split s) line others e
 
--- a line that is read on, where these lines follow
+-- a line that others continue, where these lines follow
 pub record ReadsOn (total : List (List ℕ)) (front gap piece : List ℕ) (rest : List (List ℕ)) : Type 0 where
   pub lines : total ≡ unfolded_from (front ++ gap ++ piece) rest
   pub gap_in : IsAll Blank gap
@@ -95,7 +95,7 @@ new_line current s blank =
     let p = split_is_cons s in
     rw (p.2, split_blank s p.0 p.1 p.2 ∙ blank) refl
 
--- a line that nothing continues is whole
+-- a line that nothing continues is complete
 pub stands_alone : (current s : List ℕ) (next : Option ℕ) → continues s next ≡ false → unfolded_from current (rest_at s next) ≡ current ∷ unfolded (rest_at s next)
 unfolding unfolded_from
 stands_alone current s None e = refl

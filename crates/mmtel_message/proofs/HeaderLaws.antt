@@ -1,4 +1,4 @@
--- A header line as it is scanned: the name, the blanks, the colon, and where the value stands.
+-- A header line as it is scanned: the name, the blanks, the colon, and the place of the value.
 use Rattle.std.proofs.Common.{◌≡◌, ◌==◌, ◌&&◌, ◌||◌, not, Bool, true, false, ℕ, suc, ◌-◌, ◌<◌, List, [], ◌∷◌, length, take, drop, get_or, Option, Some, None, refl, sym, ap, inl, inr, ◌∙◌, arith}
 use Rattle.std.proofs.lemmas.Bool.{cases_Bool}
 use Rattle.std.proofs.lemmas.List.{take_rest}
@@ -43,7 +43,7 @@ bad_byte s k less here = list_all_at is_value_byte s k 0 less (byte_by (get_or s
 
 -- ---- the value of a header line
 
--- what follows the colon begins as far before the end as it is long
+-- what follows the colon begins as many bytes before the end as it is long
 behind_colon : (line name rest tail : List ℕ) → name ≡ after_run Token line → rest ≡ after_run Blank name → Some tail ≡ after_byte 58 rest → drop (length line - length tail) line ≡ tail
 behind_colon line name rest tail name_is rest_is colon =
     let named : Ends line name = rw name_is (ends_run Token line) in

@@ -1,4 +1,4 @@
--- Lines as they are held: fronts of them, and edits, first among those that were received and then among those that were added.
+-- Lines as they are held: prefixes of them, and edits, first among the received lines and then among the added ones.
 use Rattle.std.proofs.Common.{◌≡◌, ℕ, zero, suc, slice_set, inl, inr, ◌+◌, ◌-◌, ◌≤◌, ◌<◌, not, List, [], ◌∷◌, ◌++◌, length, take, drop, filter, Some, None, refl, sym, ap, subst, get_or, slice_get, drop-cons, take-suc, add-one, append-nil, ◌∙◌, arith}
 use Rattle.std.proofs.lemmas.Option.{slice_get_within, unwrap_or-slice_get}
 use Rattle.std.proofs.lemmas.Bool.{cases_Bool}
@@ -16,13 +16,13 @@ use Rattle.mmtel_message.specs.Message.{Line, dropped, is_line, named, replaced}
 use Rattle.mmtel_message.specs.declared.held.HeldValue.{HeldValue}
 use Rattle.mmtel_message.specs.declared.held.HeldValue.TheVariants.{Edited}
 
--- a front of the lines that were received is a front of all
+-- a prefix of the received lines is a prefix of all
 pub front_within : (s : List ℕ) (hs : List (List ℕ × HeldValue)) (added : List Line) (n : ℕ) → n ≤ length hs → lines_of s (take n hs) [] ≡ take n (lines_of s hs added)
 front_within s hs added n le =
     let long : n ≤ length (held_lines s hs) = subst (λ (k : ℕ). n ≤ k) (sym (length-map hs (λ h. held_line s h))) le in
     append-nil (held_lines s (take n hs)) ∙ sym (take-append-le n (held_lines s hs) added long ∙ take-map (λ h. held_line s h) n hs)
 
--- a front with all of them
+-- a prefix that contains all of the received lines
 pub front_beyond : (s : List ℕ) (hs : List (List ℕ × HeldValue)) (added : List Line) (n : ℕ) → length hs ≤ n → lines_of s hs (take (n - length hs) added) ≡ take n (lines_of s hs added)
 front_beyond s hs added n le =
     let many : length (held_lines s hs) + (n - length hs) ≡ n = rw (length-map hs (λ h. held_line s h)) (omega arith) in
@@ -33,11 +33,11 @@ here ls i x e =
     let found : unwrap_or (slice_get ls i) x ≡ get_or ls i x = unwrap_or-slice_get ls i x in
     rw e at found
 
--- the line at a place comes first of those from there on
+-- the line at a place is the first of those from there on
 pub first_from : (ls : List Line) (i : ℕ) (x : Line) → slice_get ls i ≡ Some x → drop i ls ≡ x ∷ drop (i + 1) ls
 first_from ls i x e = rw (add-one, drop-cons ls i x (slice_get_within ls i x e), sym (here ls i x e)) refl
 
--- and last of those up to there
+-- and the last of those up to there
 pub last_to : (ls : List Line) (i : ℕ) (x : Line) → slice_get ls i ≡ Some x → take (i + 1) ls ≡ take i ls ++ x ∷ []
 last_to ls i x e = rw (add-one, take-suc ls i x (slice_get_within ls i x e), sym (here ls i x e)) refl
 
@@ -63,7 +63,7 @@ named_held s name (h ∷ hs) =
       | inr n ↦ rw n (named_held s name hs)
     ]
 
--- the lines of a name from a place on: those among the lines received, then those among the lines added
+-- the lines of a name from a place on: those among the received lines, then those among the added lines
 named_parted : (s name : List ℕ) (hs : List (List ℕ × HeldValue)) (added : List Line) (n : ℕ) → named name (drop n (lines_of s hs added)) ≡ held_lines s (filter (λ h. str_eq_ignore_ascii_case h.0 name) (drop n hs)) ++ named name (drop (n - length hs) added)
 named_parted s name hs added n =
     let many : length (held_lines s hs) ≡ length hs = length-map hs (λ h. held_line s h) in
@@ -74,7 +74,7 @@ named_parted s name hs added n =
     ∙ filter-append (λ l. is_line name l) (held_lines s (drop n hs)) (drop (n - length hs) added)
     ∙ ap (λ (ls : List Line). ls ++ named name (drop (n - length hs) added)) (named_held s name (drop n hs))
 
--- the next one is among the lines received
+-- the next one is among the received lines
 pub next_received : (s name : List ℕ) (hs : List (List ℕ × HeldValue)) (added : List Line) (from : ℕ) (h : List ℕ × HeldValue) (after : ℕ) → from < after → after ≤ length hs → filter (λ x. str_eq_ignore_ascii_case x.0 name) (drop from hs) ≡ h ∷ filter (λ x. str_eq_ignore_ascii_case x.0 name) (drop after hs) → named name (drop from (lines_of s hs added)) ≡ held_line s h ∷ named name (drop after (lines_of s hs added))
 next_received s name hs added from h after later within found =
     let same : from - length hs ≡ after - length hs = omega arith in
@@ -86,14 +86,14 @@ next_received s name hs added from h after later within found =
 none_received : (s name : List ℕ) (hs : List (List ℕ × HeldValue)) (added : List Line) (from : ℕ) → filter (λ x. str_eq_ignore_ascii_case x.0 name) (drop from hs) ≡ [] → named name (drop from (lines_of s hs added)) ≡ named name (drop (from - length hs) added)
 none_received s name hs added from none = named_parted s name hs added from ∙ ap (λ (xs : List (List ℕ × HeldValue)). held_lines s xs ++ named name (drop (from - length hs) added)) none
 
--- behind those received stand those added
+-- the added lines follow the received ones
 behind_received : (s name : List ℕ) (hs : List (List ℕ × HeldValue)) (added : List Line) (n : ℕ) → named name (drop (length hs + n) (lines_of s hs added)) ≡ named name (drop n added)
 behind_received s name hs added n =
     let rest : length hs + n - length hs ≡ n = omega arith in
     none_received s name hs added (length hs + n) (ap (λ (xs : List (List ℕ × HeldValue)). filter (λ x. str_eq_ignore_ascii_case x.0 name) xs) (drop_all (length hs + n) hs (omega arith)))
     ∙ ap (λ (k : ℕ). named name (drop k added)) rest
 
--- the next one is among the lines added
+-- the next one is among the added lines
 pub next_added : (s name : List ℕ) (hs : List (List ℕ × HeldValue)) (added : List Line) (from : ℕ) (l : Line) (after : ℕ) → filter (λ x. str_eq_ignore_ascii_case x.0 name) (drop from hs) ≡ [] → named name (drop (from - length hs) added) ≡ l ∷ named name (drop after added) → named name (drop from (lines_of s hs added)) ≡ l ∷ named name (drop (length hs + after) (lines_of s hs added))
 next_added s name hs added from l after none found =
     none_received s name hs added from none ∙ found ∙ ap (λ (ls : List Line). l ∷ ls) (sym (behind_received s name hs added after))
@@ -112,12 +112,12 @@ dropped_held s name (h ∷ hs) =
       | inr n ↦ rw n (ap (λ (ls : List Line). held_line s h ∷ ls) (dropped_held s name hs))
     ]
 
--- without the lines of a name: those received and those added are each without
+-- without the lines of a name: the received and the added lines, each without them
 pub dropped_lines : (s name : List ℕ) (hs : List (List ℕ × HeldValue)) (added : List Line) → lines_of s (filter (λ h. not (str_eq_ignore_ascii_case h.0 name)) hs) (dropped name added) ≡ dropped name (lines_of s hs added)
 dropped_lines s name hs added =
     ap (λ (ls : List Line). ls ++ dropped name added) (dropped_held s name hs) ∙ sym (filter-append (λ l. not (is_line name l)) (held_lines s hs) added)
 
--- the first line of a name, among those received
+-- the first line of a name, among the received lines
 place_held : (s name : List ℕ) (hs : List (List ℕ × HeldValue)) → position (λ l. is_line name l) (held_lines s hs) ≡ position (λ h. str_eq_ignore_ascii_case h.0 name) hs
 place_held s name [] = refl
 place_held s name (h ∷ hs) =
@@ -153,7 +153,7 @@ set_held s [] n h = refl
 set_held s (x ∷ hs) zero h = refl
 set_held s (x ∷ hs) (suc n) h = ap (λ (ls : List Line). held_line s x ∷ ls) (set_held s hs n h)
 
--- a line of the name among those received is replaced, and further ones go
+-- a line of the name among the received lines is replaced, and further ones are removed
 pub set_received : (s name value : List ℕ) (hs : List (List ℕ × HeldValue)) (added : List Line) (n : ℕ) → position (λ h. str_eq_ignore_ascii_case h.0 name) hs ≡ Some n → lines_of s (take (n + 1) (slice_set hs n (name, Edited value)) ++ filter (λ h. not (str_eq_ignore_ascii_case h.0 name)) (drop (n + 1) (slice_set hs n (name, Edited value)))) (dropped name added) ≡ replaced name value (lines_of s hs added)
 set_received s name value hs added n e =
     let at_line : position (λ l. is_line name l) (held_lines s hs) ≡ Some n = place_held s name hs ∙ e in
@@ -167,6 +167,6 @@ set_received s name value hs added n e =
     ∙ (rw (front, back) refl ∙ set_there name value (held_lines s hs) n (there name (held_lines s hs) n at_line) at_line) in
     ap (λ (ls : List Line). ls ++ dropped name added) whole ∙ sym (replaced_within name value (held_lines s hs) added n at_line)
 
--- where none of those received has the name, those added are looked at
+-- where none of the received lines has the name, the added ones are searched
 pub set_behind : (s name value : List ℕ) (hs : List (List ℕ × HeldValue)) (added : List Line) → position (λ h. str_eq_ignore_ascii_case h.0 name) hs ≡ None → lines_of s hs (replaced name value added) ≡ replaced name value (lines_of s hs added)
 set_behind s name value hs added e = sym (replaced_behind name value (held_lines s hs) added (place_held s name hs ∙ e))

@@ -1,4 +1,4 @@
--- What the five fields of a message say stays what they say when its lines are expanded, where nothing is wrong with it; and what is read then.
+-- What the five fields of a message say does not change when its lines are expanded, where nothing is wrong with it; and what is read then.
 use Rattle.std.proofs.Common.{◌≡◌, false, ℕ, List, [], length, Some, None, Ok, refl, sym, ap, nat_lt, ◌∙◌}
 use Rattle.std.specs.Option.{option_map}
 use Rattle.mmtel_message.specs.Message.{Line}
@@ -19,7 +19,7 @@ still_said start five room hs is faultless =
     let o = absent_parts start hs (fault_from start five room [] hs) f.1 in
     ap (λ o. option_map identifiers_of o) (five_kept (privacy_text hs) (allow_text hs) start five room hs (clean_from start five room [] hs o.0) ∙ is)
 
--- the same of the lines as they were looked at
+-- the same for the lines as they were read
 pub said_of_read : (start : Start) (five : Five) (room : ℕ) (ls hs : List Line) (ids : Identifiers) → ls ≡ hs → Some five ≡ five_at ls → None ≡ first_fault start five room ls → ids ≡ identifiers_of five → identifiers_in (expanded hs) ≡ Some ids
 said_of_read start five room ls hs ids same is faultless e =
     let five_is : five_at hs ≡ Some five = ap five_at (sym same) ∙ sym is in

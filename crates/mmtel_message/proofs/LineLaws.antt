@@ -129,7 +129,7 @@ split_some (b ∷ t) n e =
           split_later b t p.0 n other p.2 (split_some t p.0 p.1)
     ]
 
--- what is left of a slice
+-- the rest of a slice
 pub whole_rest : (s : List ℕ) (i : ℕ) → i ≤ length s → take (length s - i) (drop i s) ≡ drop i s
 whole_rest s i le = take_all (length s - i) (drop i s) (let cut : length (drop i s) ≡ length s - i = length-drop i s in omega arith)
 
@@ -153,7 +153,7 @@ no_return k s i lt e =
     let one : drop i s ≡ get_or s i 0 ∷ drop (i + 1) s = rw (add-one, drop-cons s i 0) refl in
     rw one (no_return_first k (get_or s i 0) (drop (i + 1) s) e)
 
--- no end stands before the first CR of what is left
+-- no line end occurs before the first CR of the rest
 pub skips : (k : Break) (total : Option ℕ) (i n : ℕ) (s : List ℕ) → i + n ≤ length s → Nowhere (Passes (is_byte 13) (take (length s - i) (drop i s))) 0 n → Goes total k i s → Goes total k (i + n) s
 skips k total i zero s le none so_far = rw add-zero so_far
 skips k total i (suc n) s le none so_far =

@@ -57,7 +57,7 @@ or_fixed : (o : Option (List ℕ)) (other : List ℕ) → ((m : List ℕ) → o 
 or_fixed None other found rest = rest refl
 or_fixed (Some m) other found rest = found m refl
 
--- what a name that is a token is spelled as
+-- the spelling of a name that is a token
 pub long_fixed : (n : List ℕ) → IsToken n → IsFixed (long_name n)
 unfolding in_class
 long_fixed n token =

@@ -1,4 +1,4 @@
--- The values of a text as places of it, and lines whose values are places.
+-- The values of a text as places in it, and lines whose values are places.
 use Rattle.std.proofs.Common.{◌≡◌, ◌≢◌, ◌==◌, ◌||◌, Bool, true, false, inl, inr, codes, ℕ, ◌+◌, ◌-◌, ◌≤◌, ◌<◌, List, [], ◌∷◌, ◌++◌, length, map, take, drop, get_or, Some, None, refl, sym, ap, ◌∙◌, arith, append_assoc, append-nil, add-one, drop-cons, take-suc, take_all}
 use Rattle.std.proofs.lemmas.List.{length-append, length-take, take-append-drop, take_rest, take_at, drop_at, drop-drop, drop_all, map-append, length-map}
 use Rattle.std.proofs.lemmas.Bool.{cases_Bool}
@@ -88,7 +88,7 @@ held_all privacy allow s ls out i whole e so_far = (rw (drop_all i ls (omega ari
 trim_nil : trim [] ≡ []
 trim_nil = ap (λ (l : List ℕ). trimmed Blank l) (after_run_nil Blank) ∙ trimmed_again Blank [] [] refl tt
 
--- no texts are merged to none
+-- merging no texts gives none
 pub merged_none : (m : Mode) (parting between : List ℕ) → merged_text m parting between [] ≡ []
 unfolding parts
 merged_none m parting between = ap (λ (l : List ℕ). trim (l ++ [])) trim_nil ∙ trim_nil
@@ -98,9 +98,9 @@ merged_none m parting between = ap (λ (l : List ℕ). trim (l ++ [])) trim_nil 
 pub listed_lines : (privacy allow : List ℕ) (before : List Line) (h : Line) → (length h.0 == 0) ≡ false → is_line (codes "Privacy") h ≡ false → is_line (codes "Allow") h ≡ false → is_listed h ≡ true → lines_for privacy allow before h ≡ map (λ v. (h.0, v)) (values_of h.1)
 listed_lines privacy allow before h named x y l = rw (named, x, y, l) refl
 
--- ---- lines that stand as they are held
+-- ---- lines that are unchanged in the canonical text
 
--- a text that is its first value whole, with none behind it
+-- a text that is its first value, with none after it
 pub one_value : (s : List ℕ) (p : Span) (after : Option ℕ) → values_in Plain (drop 0 s) ≡ at_place s p ∷ values_from Plain s after → is_some after ≡ false → length s ≤ p.len → p.from + p.len ≤ length s → values_of s ≡ s ∷ []
 one_value s p (Some n) values none long within = absurd cc
 one_value s p None values none long within =
@@ -119,7 +119,7 @@ listed_stands false name value v e named x y l one = λ privacy allow before.
     let single : values_of value ≡ value ∷ [] = ap (λ (w : List ℕ). values_of w) (sym e) ∙ one ∙ ap (λ (w : List ℕ). w ∷ []) e in
     listed_lines privacy allow before (name, value) named x y l ∙ ap (λ (vs : List (List ℕ)). map (λ w. (name, w)) vs) single
 
--- one more line that stands
+-- one more unchanged line
 pub stood_over : (privacy allow s : List ℕ) (ls : List (List ℕ × HeldValue)) (i : ℕ) (x : List ℕ × HeldValue) (whole : List Line) → i < length ls → x ≡ get_or ls i x → lines_for privacy allow (held_lines s (take i ls)) (held_line s x) ≡ held_line s x ∷ [] → whole ≡ held_lines s (take i ls) ++ expanded_from privacy allow (held_lines s (take i ls)) (held_lines s (drop i ls)) → whole ≡ held_lines s (take (i + 1) ls) ++ expanded_from privacy allow (held_lines s (take (i + 1) ls)) (held_lines s (drop (i + 1) ls))
 stood_over privacy allow s ls i x whole lt at_i stands so_far =
     let more : take i ls ++ x ∷ [] ≡ take (i + 1) ls = rw (add-one, take-suc ls i x lt, sym at_i) refl in

@@ -1,4 +1,4 @@
--- Places among bytes: places within a place, and what stands behind a front.
+-- Places among bytes: places within a place, and what follows a prefix.
 use Rattle.std.proofs.Common.{◌≡◌, ℕ, ◌+◌, ◌-◌, ◌≤◌, List, [], ◌∷◌, ◌++◌, length, take, drop, Some, sym, ap, ◌∙◌, arith, append_assoc}
 use Rattle.std.proofs.lemmas.List.{length-append, length-take, take-take, drop-take, drop-drop, drop_at}
 use Rattle.mmtel_scan.specs.declared.classes.Class.{Class}
@@ -10,14 +10,14 @@ use Rattle.mmtel_message.specs.declared.held.Span.{Span}
 
 -- ---- a place within a place
 
--- what stands within a front of the bytes stands at the same place among all
+-- what is within a prefix of the bytes is at the same place among all
 pub within_front : (s : List ℕ) (n from len : ℕ) → from + len ≤ n → take len (drop from (take n s)) ≡ take len (drop from s)
 within_front s n from len le =
     let parts : from + (n - from) ≡ n = omega arith in
     let cut : drop from (take n s) ≡ take (n - from) (drop from s) = rw parts at (drop-take from (n - from) s) in
     rw cut (take-take len (n - from) (drop from s) (omega arith))
 
--- the place of a part of what stands at a place
+-- the place of a part of what is at a place
 abbrev pub part_place : Span → Span → Span
 part_place p part = record { from = p.from + part.from; len = part.len }
 
@@ -31,7 +31,7 @@ part_at s p part le =
     let moved : drop part.from (drop p.from s) ≡ drop (p.from + part.from) s = drop-drop part.from p.from s in
     sym (inner ∙ ap (λ (l : List ℕ). take part.len l) moved)
 
--- ---- what stands behind a front
+-- ---- what follows a prefix
 
 pub record Ends (s r : List ℕ) : Type 0 where
   pub front : List ℕ
@@ -43,7 +43,7 @@ ends_behind s r t a b = record { front = a.front ++ b.front; whole = a.whole ∙
 pub ends_run : (k : Class) (s : List ℕ) → Ends s (after_run k s)
 ends_run k s = record { front = run k s; whole = run_whole k s }
 
--- what is left begins as far before the end as it is long
+-- the rest begins as many bytes before the end as it is long
 pub ends_at : (s r : List ℕ) → Ends s r → drop (length s - length r) s ≡ r
 ends_at s r e =
     let len : length s ≡ length e.front + length r = ap (λ (l : List ℕ). length l) e.whole ∙ length-append e.front r in

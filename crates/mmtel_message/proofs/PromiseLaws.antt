@@ -1,4 +1,4 @@
--- What each message that was read keeps to.
+-- What holds of each message that was read.
 use Rattle.std.proofs.Common.{◌≡◌, ◌==◌, ◌&&◌, ◌||◌, not, cond, Bool, true, false, ℕ, ◌<◌, ◌≤◌, List, [], ◌∷◌, ◌++◌, length, take, Option, Some, None, Ok, refl, sym, ap, subst, ◌∙◌, inl, inr, map, arith, append-nil, codes, count_by, length-take, nat_lt}
 use Rattle.std.specs.Prelude.{is_none, is_some}
 use Rattle.std.proofs.lemmas.Bool.{cases_Bool}
@@ -56,7 +56,7 @@ is_some_by : {A : Type 0} (o : Option A) → is_none o ≡ false → is_some o �
 is_some_by None e = absurd cc
 is_some_by (Some x) e = refl
 
--- ---- where the five fields stand, in any lines that have them
+-- ---- where the five fields are, in any lines that have them
 
 equal_one : (n : ℕ) → (n == 1) ≡ true → n ≡ 1
 equal_one n e = grind (arith, nat_tests)
@@ -160,7 +160,7 @@ texts_hold p X start five room each B (h ∷ hs) e =
       | inr n ↦ rw n more
     ]
 
--- what holds of each text holds of the first
+-- what holds for each text holds for the first
 pub first_holds : (p : List ℕ → Bool) (X v : List ℕ) (ls : List Line) → list_all p (line_texts X ls) ≡ true → first_value X ls ≡ Some v → p v ≡ true
 first_holds p X v [] e there = absurd cc
 first_holds p X v (l ∷ ls) e there =
@@ -171,7 +171,7 @@ first_holds p X v (l ∷ ls) e there =
       | inr n ↦ first_holds p X v ls (rw n at e) (rw n at there)
     ]
 
--- ---- names that stand once
+-- ---- names that occur once
 
 abbrev IsOnce : List ℕ → Start → Five → ℕ → Type 0
 IsOnce X start five room = (B : List Line) (h : Line) → line_fault start five room B h ≡ false → is_line X h ≡ true → has_line X B ≡ false
@@ -184,7 +184,7 @@ none_more X start five room once B (h ∷ hs) there e =
       | inr n ↦ rw n (none_more X start five room once (B ++ h ∷ []) hs (has_more X B h ∙ rw there refl) e.1)
     ]
 
--- behind the first there is none
+-- after the first there is none
 none_behind : (X : List ℕ) (start : Start) (five : Five) (room : ℕ) → IsOnce X start five room → (B : List Line) (h : Line) (hs : List Line) → is_line X h ≡ true → Clean start five room (B ++ h ∷ []) hs → has_line X hs ≡ false
 none_behind X start five room once B h hs y e =
     none_more X start five room once (B ++ h ∷ []) hs (has_more X B h ∙ rw y (or_true (has_line X B))) e
@@ -332,7 +332,7 @@ read_branch s m five e request found =
 pub read_target : (s : List ℕ) (m : Message Start) (method uri : List ℕ) → reads s ≡ Ok m → m.start ≡ Request method uri → is_malformed (uri_of uri) ≡ false
 read_target s m method uri e is = subst (λ (x : Start). start_fault x ≡ false) is (clean_read s m e).target
 
--- ---- hops
+-- ---- Max-Forwards
 
 hops_parts : (start : Start) (five : Five) (room : ℕ) (B : List Line) (h : Line) → is_request start ≡ true → line_fault start five room B h ≡ false → is_line (codes "Max-Forwards") h ≡ true → (has_line (codes "Max-Forwards") B ≡ false) × (is_none (number_of 255 h.1) ≡ false)
 hops_parts start five room B h request e y =
@@ -394,7 +394,7 @@ read_contact s m e invite =
     let there : has_line (codes "Contact") m.lines ≡ true = not_false (has_line (codes "Contact") m.lines) (rw invite at c.contact) in
     contact_from m.start c.five (length m.body) [] m.lines invite there c.clean
 
--- ---- one value a line
+-- ---- one value per line
 
 record OfLines (m : Message Start) : Type 0 where
   received : List Line
@@ -431,7 +431,7 @@ of_read s m e =
       | inr n ↦ of_bytes s m (first_break Head s) (rw n at e)
     ]
 
--- a line of the name is parted into its values
+-- a line of the name is split into its values
 abbrev IsParted : List ℕ → Type 0
 IsParted X = (h : Line) → is_line X h ≡ true → (is_line (codes "Privacy") h ≡ false) × (is_line (codes "Allow") h ≡ false) × (is_listed h ≡ true)
 

@@ -43,7 +43,7 @@ use Rattle.mmtel_message.proofs.CanonicalLaws.{needs_words, five_kept, length_ke
 abbrev Header : Type 0
 Header = List ℕ × List ℕ
 
--- ---- no line end stands within a line
+-- ---- no line end occurs within a line
 
 shorter : (b : ℕ) (a x : List ℕ) → crlf (b ∷ (a ++ x)) ≡ false → crlf (b ∷ a) ≡ false
 shorter b [] x e = and_false (b == 13)
@@ -223,7 +223,7 @@ joined_text between (v ∷ vs) e f =
     let both = and_true (list_all is_value_byte v) (are_texts vs) f in
     more_text v (flat_map (λ w. between ++ w) vs) both.0 (tail_texts between vs e both.1)
 
--- a value that may stand in a canonical line
+-- a value that may occur in a canonical line
 abbrev IsValueText : List ℕ → Type 0
 IsValueText s = (trim s ≡ s) × IsText s
 

@@ -84,7 +84,7 @@ completed_all (Some source) (l ∷ ls) =
       | inr n ↦ rw n (completed_all (Some source) ls)
     ]
 
--- ---- what the server adds has none of the request's names
+-- ---- what the server adds has none of the request's five names
 
 -- the names that none of the server's own lines has
 record IsHeard (X : List ℕ) : Type 0 where
@@ -127,7 +127,7 @@ added_none X start ls r is none =
     let own : List Line = own_lines r.passed r.named r.body in
     rw (cut X routes (contact ++ own), cut X contact own, routes_none X r.code start ls is.route, contact_none X r.code start r.contact is.contact, own_none X r is.length none) refl
 
--- ---- what is as received
+-- ---- the lines that are as received
 
 abbrev heard_parts : List ℕ → Option Addr → List ℕ → List Line → List Line
 heard_parts X source tag ls =
@@ -269,7 +269,7 @@ response_five start ls r five can is =
       (five_parts ls five is.five_in).1,
     ) refl
 
--- ---- a response that says no way to the server
+-- ---- a response without a Contact of the server
 
 over : (code : ℕ) → 300 ≤ code → (nat_le code 299 ≡ false) × ((code == 200) ≡ false) × ((code == 202) ≡ false)
 over code le = (grind (arith, nat_tests), grind (arith, nat_tests), grind (arith, nat_tests))

@@ -56,7 +56,7 @@ pub whole_rest : (b : ℕ) (r : List ℕ) → IsWhole (b ∷ r) → IsWhole r
 unfolding first_break
 whole_rest b r e = unmapped (first_break Line r) (rw (not_here b r e) at e)
 
--- no line end arises where a line meets what does not begin with LF
+-- no line end arises where a line is followed by what does not begin with LF
 pub not_longer : (b : ℕ) (r t : List ℕ) → crlf (b ∷ r) ≡ false → starts 10 t ≡ false → crlf (b ∷ (r ++ t)) ≡ false
 not_longer b [] t e f = rw f (and_false (b == 13))
 not_longer b (c ∷ r) t e f = e
@@ -236,7 +236,7 @@ past (x ∷ a) body = let four : suc (length a) + 4 ≡ suc (length a + 4) = ome
 abbrev pub after_lines : List ℕ → List (List ℕ) → Read
 after_lines rest ls = after_head (head_in_lines ls) rest
 
--- bytes that are these lines and this body are read of the lines, each with those that continue it
+-- bytes that are these lines and this body are read from the lines, each with those that continue it
 pub reads_folded : (first : List ℕ) (rs : List (List ℕ)) (body : List ℕ) → IsWhole first → AreWhole rs → length (datagram first rs body) ≤ 16384 → reads (datagram first rs body) ≡ after_lines body (unfolded_from first rs)
 reads_folded first rs body e each le =
     let head : List ℕ = first ++ tail_text rs in

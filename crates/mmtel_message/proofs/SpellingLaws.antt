@@ -1,4 +1,4 @@
--- What is read alike.
+-- Which datagrams are read with the same result.
 use Rattle.std.proofs.Common.{◌≡◌, ◌≢◌, ◌==◌, cond, ◌⊎◌, true, false, ℕ, ◌<◌, ◌≤◌, List, [], ◌∷◌, ◌++◌, length, Option, Some, None, refl, sym, ap, subst, ◌∙◌, inl, inr, map, arith, append-nil, codes}
 use Rattle.std.proofs.lemmas.List.{map-append}
 use Rattle.std.proofs.lemmas.Bool.{cases_Bool}
@@ -41,7 +41,7 @@ or_same : (o : Option (List ℕ)) (x y m : List ℕ) → (x ≡ y) ⊎ (y ≡ m)
 or_same None x y m e = e
 or_same (Some z) x y m e = inl refl
 
--- names that differ in case alone are spelled alike, unless this server knows them not
+-- names that differ in case alone have the same spelling, unless this server does not know them
 pub same_spelling : (n m : List ℕ) → str_to_ascii_lowercase n ≡ str_to_ascii_lowercase m → (long_name n ≡ long_name m) ⊎ (long_name m ≡ m)
 same_spelling n m e =
     rw (same_forms compact_forms n m e, same_forms more_compact_forms n m e, same_names routing_names n m e, same_names content_names n m e, same_names caller_names n m e, same_names network_names n m e)
@@ -75,7 +75,7 @@ trim_front (x ∷ b) s each =
 abbrev line_with : List ℕ → List ℕ → List ℕ × List ℕ
 line_with name value = or_unnamed (cond (list_all is_value_byte value) (Some (name, value)) None)
 
--- what a line says, whatever blanks stand around its colon and its value
+-- what a line says, whatever blanks are around its colon and its value
 line_says : (n a b v c : List ℕ) → IsToken n → IsAll Blank a → IsAll Blank b → IsAll Blank c → header_line (n ++ (a ++ (58 ∷ (b ++ (v ++ c))))) ≡ line_with (long_name n) (trim v)
 unfolding header_at
 line_says n a b v c token ea eb ec =
@@ -96,7 +96,7 @@ same_line n m a b c v tn tm e ea eb ec =
 
 -- ---- datagrams
 
--- of datagrams that differ in one line that says the same, the same is read
+-- datagrams that differ in one line, which says the same in both, are read with the same result
 pub same_reading : (first : List ℕ) (xs ys : List (List ℕ)) (r q body : List ℕ) → header_line r ≡ header_line q → IsWhole first → AreWhole (xs ++ r ∷ ys) → AreUnfolded (xs ++ r ∷ ys) → AreWhole (xs ++ q ∷ ys) → AreUnfolded (xs ++ q ∷ ys) → length (datagram first (xs ++ r ∷ ys) body) ≤ 16384 → length (datagram first (xs ++ q ∷ ys) body) ≤ 16384 → reads (datagram first (xs ++ r ∷ ys) body) ≡ reads (datagram first (xs ++ q ∷ ys) body)
 same_reading first xs ys r q body e whole rw_ ru qw qu rl ql =
     let lines : map header_line (xs ++ r ∷ ys) ≡ map header_line (xs ++ q ∷ ys) = map-append header_line xs (r ∷ ys) ∙ (ap (λ (l : List ℕ × List ℕ). map header_line xs ++ l ∷ map header_line ys) e ∙ sym (map-append header_line xs (q ∷ ys))) in

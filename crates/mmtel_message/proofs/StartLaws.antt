@@ -1,4 +1,4 @@
--- A start line that is read is written as it was.
+-- A start line that was read is written as it was.
 use Rattle.std.proofs.Common.{◌≡◌, ◌==◌, nat_lt, true, false, cond, ℕ, ◌+◌, ◌*◌, ◌-◌, ◌/◌, ◌%◌, ◌≤◌, List, [], ◌∷◌, ◌++◌, length, take, drop, Option, Some, None, refl, sym, ap, subst, ◌∙◌, arith, codes}
 use Rattle.std.proofs.lemmas.List.{take-append-drop}
 use Rattle.std.proofs.lemmas.Fmt.{decimal_digit, decimal_step}
@@ -29,7 +29,7 @@ use Rattle.mmtel_message.specs.declared.messages.Start.TheVariants.{Request, Sta
 abbrev value_by : ℕ → ℕ → ℕ → ℕ
 value_by a b c = ((a - 48) * 10 + (b - 48)) * 10 + (c - 48)
 
--- a number of three digits that is not below 100 is written by them
+-- a number of three digits that is not below 100 is written by those digits
 three_digits : (a b c : ℕ) → IsDigit a → IsDigit b → IsDigit c → 100 ≤ value_by a b c → decimal (value_by a b c) ≡ a ∷ b ∷ c ∷ []
 three_digits a b c x y z le =
     let n : ℕ = value_by a b c in
@@ -108,7 +108,7 @@ text_from : (o : Option (List ℕ)) (line : List ℕ) (s : Start) → after_text
 text_from None line s is e = request_text line s e
 text_from (Some t) line s is e = status_text t s e ∙ sym (after_text_whole (codes "SIP/2.0 ") line t is)
 
--- the text of a start line is the line that it was read of
+-- the text of a start line is the line that it was read from
 pub text_again : (line : List ℕ) (s : Start) → start_at line ≡ Some s → start_text s ≡ line
 unfolding start_at
 text_again line s e = text_from (after_text (codes "SIP/2.0 ") line) line s refl e

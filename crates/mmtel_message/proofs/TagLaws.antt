@@ -1,4 +1,4 @@
--- A From or To value with a tag behind it is read as what it was, with that tag.
+-- A From or To value with a tag after it is read as the original value, with that tag.
 use Rattle.std.proofs.Common.{false, ◌≡◌, ◌⊎◌, ℕ, List, [], ◌∷◌, ◌++◌, Some, refl, sym, ap, ◌∙◌, inl, inr, arith, append-nil, append_assoc, codes, None}
 use Rattle.std.proofs.lemmas.Bool.{cases_Bool}
 use Rattle.std.specs.List.{list_any}
@@ -76,7 +76,7 @@ to_reads (b ∷ tag) value n e (inr is) =
       | inr none ↦ rw (e, none) (tagged_reads value n (b ∷ tag) e (inl is))
     ]
 
--- where no parameter is a tag, none is found, and one that is put behind them is the one that is found
+-- where no parameter is a tag, none is found, and one that is put after them is the one that is found
 pub none_found : (ps : List Param) → list_any is_tag ps ≡ false → param_value (codes "tag") ps ≡ None
 none_found [] none = refl
 none_found (p ∷ ps) none =

@@ -1,4 +1,4 @@
--- Values that were parted are parted no further, and are parted again where they are joined.
+-- Values that were split are split no further, and are the same values again after they are joined and split.
 use Rattle.std.proofs.Common.{◌≡◌, ◌==◌, ◌&&◌, Bool, true, false, ℕ, List, [], ◌∷◌, ◌++◌, None, refl, sym, ap, subst, ◌∙◌, inl, inr, map, arith, append-nil, append_assoc}
 use Rattle.std.proofs.lemmas.List.Folds.{list_all-append}
 use Rattle.std.proofs.lemmas.Bool.{cases_Bool}
@@ -36,7 +36,7 @@ not_parting Escaped b e = refl
 not_parting Angle b e = refl
 not_parting Words b e = (blank_is b e).5
 
--- a blank leaves the mode between values as it is
+-- a blank keeps the mode between values
 stays : (k : Mode) (b : ℕ) → base k ≡ k → in_class Blank b ≡ true → mode_after k b ≡ k
 stays Plain b is e = let x = blank_is b e in rw (x.0, x.1) refl
 stays Quoted b is e = absurd cc
@@ -44,7 +44,7 @@ stays Escaped b is e = absurd cc
 stays Angle b is e = absurd cc
 stays Words b is e = refl
 
--- and does not lead into it
+-- and does not lead to it from another mode
 came : (m k : Mode) (b : ℕ) → base k ≡ k → in_class Blank b ≡ true → mode_after m b ≡ k → m ≡ k
 came Plain k b is e f = let x = blank_is b e in rw (x.0, x.1) at f
 came Quoted k b is e f = let x = blank_is b e in rw (x.0, x.3) at f
@@ -75,7 +75,7 @@ begun (b ∷ t) back stops each =
     let whole : q ++ back ≡ trimmed Blank q ++ (tt.back ++ back) = ap (λ (x : List ℕ). x ++ back) tt.whole ∙ append_assoc (trimmed Blank q) tt.back back in
     rw (stays_so, whole) (trimmed_again Blank (trimmed Blank q) (tt.back ++ back) (all_blank tt.back back tt.back_in each) tt.ends)
 
--- further blanks behind a text are trimmed away
+-- further blanks after a text are trimmed away
 pub trim_more : (p back : List ℕ) → IsAll Blank back → trim (p ++ back) ≡ trim p
 trim_more p back each =
     let r : List ℕ = run Blank p in
@@ -102,7 +102,7 @@ trim_again p =
     let ended : trimmed Blank f ≡ f = (ap (λ (s : List ℕ). trimmed Blank s) (sym (append-nil f)) ∙ trimmed_again Blank f [] refl t.ends) in
     rw front ended
 
--- what a text is of its trimmed one
+-- a text is its trimmed text with blanks around it
 pub record Around (p : List ℕ) : Type 0 where
   pub front : List ℕ
   pub back : List ℕ
@@ -121,7 +121,7 @@ around p =
       back_in = t.back_in;
     }
 
--- ---- the mode behind a text
+-- ---- the mode after a text
 
 abbrev pub ends : Mode → List ℕ → Mode
 ends m [] = m
@@ -143,9 +143,9 @@ ends_came m k (b ∷ a) is each e =
     let both = and_true (in_class Blank b) (list_all (in_class Blank) a) each in
     came m k b is both.0 (ends_came (mode_after m b) k a is both.1 e)
 
--- ---- nothing in a part parts
+-- ---- nothing within a part separates
 
--- a front of what holds nothing that parts
+-- a prefix of a text in which nothing separates
 front_whole : (m : Mode) (a x : List ℕ) → parting m (a ++ x) ≡ None → parting m a ≡ None
 unfolding parting
 front_whole m [] x e = refl
@@ -180,7 +180,7 @@ trim_ends k p is e =
 pub value_again : (k : Mode) (p : List ℕ) → base k ≡ k → parting k p ≡ None → values_in k (trim p) ≡ trim p ∷ []
 value_again k p is e = rw (parts_none k (trim p) (trim_whole k p is e), trim_again p) refl
 
--- ---- the parts of a text: nothing in one parts, and all but the last end where a value ends
+-- ---- the parts of a text: nothing within one separates, and each but the last ends where a value ends
 
 abbrev pub ClosedBefore : Mode → List ℕ → List (List ℕ) → Type 0
 ClosedBefore m p [] = Unit {0}
@@ -264,7 +264,7 @@ values_led k (b ∷ a) s is each =
     let both = and_true (in_class Blank b) (list_all (in_class Blank) a) each in
     led_blank k b (a ++ s) is both.0 ∙ values_led k a s is both.1
 
--- the parts before the last, and the last, to which what follows is added
+-- the parts before the last, and the last, to which the text that follows is added
 record LastLonger (m : Mode) (s back : List ℕ) : Type 0 where
   begin : List (List ℕ)
   last : List ℕ
@@ -349,7 +349,7 @@ merged_values k c d blanks texts is f each =
     let p = parts_is_cons k whole in
     values_trim k (joined_by (c ∷ blanks) (values_in k whole)) is ∙ by_cons k c blanks (trim p.0) (map trim p.1) (values_in k whole) is f each (are_values k whole is) (rw p.2 refl)
 
--- a text that is merged stays so
+-- a merged text is not changed by merging
 pub merged_again : (k : Mode) (c d : ℕ) (blanks : List ℕ) (texts : List (List ℕ)) → base k ≡ k → is_parting k c ≡ true → IsAll Blank blanks → merged_text k (d ∷ []) (c ∷ blanks) (merged_text k (d ∷ []) (c ∷ blanks) texts ∷ []) ≡ merged_text k (d ∷ []) (c ∷ blanks) texts
 merged_again k c d blanks texts is f each =
     rw (append-nil (merged_text k (d ∷ []) (c ∷ blanks) texts), merged_values k c d blanks texts is f each) refl

@@ -1,4 +1,4 @@
--- A Via value that is completed is read as the Via that it is, with the port and the address.
+-- A Via value that is completed is read as the original Via, with the port and the address.
 use Rattle.std.proofs.Common.{◌≡◌, ◌==◌, ◌&&◌, ◌<◌, ◌-◌, ◌^◌, not, nat_lt, Bool, true, false, ℕ, List, [], ◌∷◌, ◌++◌, length, take, get_or, reverse, Option, Some, None, refl, sym, ap, subst, ◌∙◌, inl, inr, arith, append-nil, append_assoc, codes, decimal}
 use Rattle.std.specs.Prelude.{IfSome, is_none}
 use Rattle.std.proofs.lemmas.Bool.{cases_Bool}
@@ -109,7 +109,7 @@ are_sourced source (p ∷ ps) is are =
       | inr n ↦ rw n (port_param source.port p is.port are.0, more)
     ]
 
--- ---- bytes that neither part values nor begin what is in quotes or brackets
+-- ---- bytes that neither separate values nor open quotes or brackets
 
 abbrev is_plain : ℕ → Bool
 is_plain b = not (b == 44) && (not (b == 34) && not (b == 60))
@@ -136,7 +136,7 @@ plain_by k more (b ∷ s) each =
     let both = and_true (in_class k b) (list_all (in_class k) s) each in
     rw (more b both.0, plain_by k more s both.1) refl
 
--- one value, behind which another may begin
+-- one value, after which another may begin
 abbrev IsClosed : List ℕ → Type 0
 IsClosed s = (parting Plain s ≡ None) × (ends Plain s ≡ Plain)
 
@@ -169,7 +169,7 @@ closed_plain (b ∷ s) each =
     let more = closed_plain s both.1 in
     (rw (not_so (b == 44) first.0, not_so (b == 34) rest.0, not_so (b == 60) rest.1, more.0) refl, rw (not_so (b == 34) rest.0, not_so (b == 60) rest.1) more.1)
 
--- where a byte between quotes stands
+-- where a byte is that comes between quotes
 abbrev mode_of : Bool → Mode
 mode_of true = Escaped
 mode_of false = Quoted
@@ -277,7 +277,7 @@ bare_is s starts stops =
 
 -- ---- a port
 
--- the text that a port was read of, or none
+-- the text that a port was read from, or none
 record PortText (p : Option ℕ) : Type 0 where
   text : List ℕ
   plain : list_all is_plain text ≡ true
@@ -511,7 +511,7 @@ completed_reads source value via is e =
       | inr n ↦ rw (e, n) again
     ]
 
--- ---- what names the transaction stays
+-- ---- what identifies the transaction stays
 
 branch_kept : (source : Addr) (ps : List Param) → param_value (codes "branch") (sourced_params source ps) ≡ param_value (codes "branch") ps
 branch_kept source [] = refl

@@ -1,4 +1,4 @@
--- A walk over the lines of a message: what it has made so far, and what one more line adds; and what is found of a name by its lines.
+-- A pass over the lines of a message: what it has produced so far, and what one more line adds; and what is found of a name among the lines.
 use Rattle.std.proofs.Common.{◌≡◌, ℕ, ◌+◌, Bool, true, false, List, [], ◌∷◌, ◌++◌, Option, Some, None, take, map, refl, sym, ap, inl, inr, append-nil, append_assoc, ◌∙◌}
 use Rattle.std.proofs.lemmas.Bool.{cases_Bool}
 use Rattle.std.proofs.lemmas.List.{map-append}
@@ -7,7 +7,7 @@ use Rattle.std.specs.Prelude.{MatchOption, is_some}
 use Rattle.mmtel_message.specs.Message.{Line, first_value, has_line, is_line, named}
 use Rattle.mmtel_message.specs.Responses.{to_line}
 
--- what is made of the parts of a list, one behind another
+-- what is produced from the parts of a list, one after another
 pub grows : {A B : Type 0} (f : List A → List B) → ((xs ys : List A) → f (xs ++ ys) ≡ f xs ++ f ys) → (xs : List A) (i : ℕ) (x : A) (before out new : List B) → take (i + 1) xs ≡ take i xs ++ x ∷ [] → out ≡ before ++ f (take i xs) → new ≡ out ++ f (x ∷ []) → new ≡ before ++ f (take (i + 1) xs)
 grows {A} {B} f parted xs i x before out new last so_far made =
     made ∙ ap (λ (o : List B). o ++ f (x ∷ [])) so_far ∙ append_assoc before (f (take i xs)) (f (x ∷ [])) ∙ ap (λ (l : List B). before ++ l) (sym (ap f last ∙ parted (take i xs) (x ∷ [])))
@@ -23,7 +23,7 @@ pub to_lines_grow : (tag name : List ℕ) (ls : List Line) (i : ℕ) (x : Line) 
 to_lines_grow tag name ls i x before out new last so_far made =
     grows (λ (l : List Line). to_lines tag name l) (to_lines_parted tag name) ls i x before out new last so_far made
 
--- ---- what is found of a name by its lines
+-- ---- what is found of a name among the lines
 
 abbrev pub head_value : List Line → Option (List ℕ)
 head_value [] = None

@@ -1,4 +1,4 @@
--- How the server names itself in what it sends: its Via and its Contact (RFC 3261 §8.1.1.7, §8.1.1.8).
+-- How the server names itself in the messages that it sends: its Via and its Contact (RFC 3261 §8.1.1.7, §8.1.1.8).
 use Rattle.std.specs.Prelude.{List, ℕ, ◌∷◌, ◌++◌, codes, decimal, get_or}
 use Rattle.mmtel_types.specs.declared.addrs.Addr.{Addr}
 
@@ -10,7 +10,7 @@ ip_text ip = decimal (get_or ip 0 0) ++ (46 ∷ (decimal (get_or ip 1 0) ++ (46 
 abbrev pub addr_text : Addr → List ℕ
 addr_text addr = ip_text addr.ip ++ 58 ∷ decimal addr.port
 
--- Via, its branch with the cookie before it (§8.1.1.7)
+-- Via, its branch with the magic cookie before it (§8.1.1.7)
 abbrev pub via_text : Addr → List ℕ → List ℕ
 via_text sip branch = codes "SIP/2.0/UDP " ++ (addr_text sip ++ (codes ";branch=z9hG4bK" ++ branch))
 

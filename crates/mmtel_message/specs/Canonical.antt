@@ -1,4 +1,4 @@
--- Messages whose canonical text is read as they are: what a message that was read is, and what one that is built has to be.
+-- Canonical messages, whose text is read as the same message: what holds of each message that was read, and what one that is built has to satisfy.
 use Rattle.std.specs.Prelude.{◌≡◌, ◌≤◌, Some, None, ℕ, true, false, List, [], ◌∷◌, length}
 use Rattle.std.specs.List.{list_all}
 use Rattle.mmtel_lex.specs.Grammar.{IsToken}
@@ -27,7 +27,7 @@ abbrev pub AreCanonicalLines : List (List ℕ × List ℕ) → Type 0
 AreCanonicalLines [] = Unit {0}
 AreCanonicalLines (l ∷ ls) = IsCanonicalLine l × AreCanonicalLines ls
 
--- a start line whose text is one line and is read as it is
+-- a start line whose text is one line and is read as the same start line
 pub record IsCanonicalStart (s : Start) : Type 0 where
   pub again : start_at (start_text s) ≡ Some s
   pub one_line : first_break Line (start_text s) ≡ None
@@ -39,7 +39,7 @@ pub record IsFaultless (m : Message Start) : Type 0 where
   pub five_in : five_at m.lines ≡ Some five
   pub faultless : first_fault m.start five (length m.body) m.lines ≡ None
 
--- one value a line, and a body as long as Content-Length says, where that is there
+-- one value per line, and a body as long as Content-Length says, where that field is present
 pub record IsCanonical (m : Message Start) : Type 0 where
   pub start_in : IsCanonicalStart m.start
   pub lines_in : AreCanonicalLines m.lines

@@ -17,16 +17,16 @@ text_of (l ∷ ls) = l ++ tail_text ls
 abbrev pub datagram : List ℕ → List (List ℕ) → List ℕ → List ℕ
 datagram first rs body = (first ++ tail_text rs) ++ (13 ∷ 10 ∷ 13 ∷ 10 ∷ body)
 
--- no line end inside
+-- no line end within
 abbrev pub IsWhole : List ℕ → Type 0
 IsWhole r = first_break Line r ≡ None
 
--- lines without a line end inside
+-- lines without a line end within
 abbrev pub AreApart : List (List ℕ) → Type 0
 AreApart [] = Unit {0}
 AreApart (r ∷ rs) = IsWhole r × AreApart rs
 
--- lines with a byte and without a line end inside; one that begins with a blank continues the one before
+-- lines that are not empty and have no line end within; one that begins with a blank continues the one before
 abbrev pub AreWhole : List (List ℕ) → Type 0
 AreWhole [] = Unit {0}
 AreWhole (r ∷ rs) = (IsWhole r × (0 < length r)) × AreWhole rs

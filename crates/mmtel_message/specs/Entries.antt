@@ -1,4 +1,4 @@
--- What a value of History-Info is (RFC 7044 §5): a name-addr whose first parameter `index` has an index-val, that is numbers with dots between them.
+-- What a value of History-Info is (RFC 7044 §5): a name-addr whose first parameter `index` has an index-val, that is numbers separated by dots.
 use Rattle.std.specs.Prelude.{Option, Some, None, ◌==◌, ◌&&◌, if◌then◌else◌, ℕ, Bool, true, false, List, [], ◌∷◌, codes}
 use Rattle.std.specs.List.{list_all}
 use Rattle.mmtel_scan.specs.Classes.{is_digit}
@@ -14,17 +14,17 @@ abbrev pub goes_on : (Bool → Bool) → Option Bool → Bool
 goes_on more None = false
 goes_on more (Some digit) = more digit
 
--- an index-val, or the rest of one: numbers with dots between them; the flag says that a digit came just before
+-- an index-val, or the rest of one: numbers separated by dots; the flag says that a digit came just before
 unfoldable pub is_dotted : Bool → List ℕ → Bool
 is_dotted digit [] = digit
 is_dotted digit (b ∷ s) = goes_on (λ d. is_dotted d s) (dotted_step digit b)
 
--- the value of a parameter, where it is there and has one, is an index-val
+-- the parameter is present and has a value, which is an index-val
 abbrev pub is_place : Option (List ℕ) → Bool
 is_place None = false
 is_place (Some v) = is_dotted false v
 
--- the first parameter `index` says a place
+-- the first parameter `index` is a place in History-Info
 abbrev pub is_indexed : Option NameAddr → Bool
 is_indexed None = false
 is_indexed (Some n) = is_place (param_value (codes "index") n.params)

@@ -1,4 +1,4 @@
--- The header lines of a canonical text: one value of a listed name a line, the words of Privacy on one line with ';' between them, the methods of Allow on one line with
+-- The header lines of a canonical text: the values of a listed name one per line, the words of Privacy on one line with ';' between them, the methods of Allow on one line with
 -- commas (RFC 3261 §7.3.1).
 use Rattle.std.specs.Prelude.{◌==◌, if◌then◌else◌, ℕ, Bool, List, [], ◌∷◌, ◌++◌, length, codes, map}
 use Rattle.std.specs.List.{list_any}
@@ -8,7 +8,7 @@ use Rattle.mmtel_message.specs.Message.{is_line, has_line, line_texts}
 use Rattle.mmtel_message.specs.declared.values.Mode.{Mode}
 use Rattle.mmtel_message.specs.declared.values.Mode.TheVariants.{Plain, Words}
 
--- the names whose values stand one a line
+-- the names whose values are written one per line
 abbrev pub listed_names : List (List ℕ)
 listed_names =
     codes "Via" ∷
@@ -23,7 +23,7 @@ listed_names =
 abbrev pub is_listed : List ℕ × List ℕ → Bool
 is_listed h = list_any (λ name. is_line name h) listed_names
 
--- several lines of one name are one list of values: these, with the separator between them
+-- several lines of one name as one list of values, with the separator between them
 abbrev pub merged_text : Mode → List ℕ → List ℕ → List (List ℕ) → List ℕ
 merged_text m parting between texts = trim (joined_by between (values_in m (joined_by parting texts)))
 
@@ -39,7 +39,7 @@ allow_text hs = merged_text Plain (codes ",") (codes ", ") (line_texts (codes "A
 abbrev pub at_first : List ℕ → List ℕ → List (List ℕ × List ℕ) → List ℕ × List ℕ → List (List ℕ × List ℕ)
 at_first name text before h = if has_line name before then [] else (h.0, text) ∷ []
 
--- the lines in place of one that stands behind those before: none for a line without a name, for Privacy and Allow the merged text at the first, and one a value for a listed name
+-- the lines that replace one which follows those before: none for a line without a name, for Privacy and Allow the merged text at the first, and one per value for a listed name
 abbrev pub lines_for : List ℕ → List ℕ → List (List ℕ × List ℕ) → List ℕ × List ℕ → List (List ℕ × List ℕ)
 lines_for privacy allow before h =
     if length h.0 == 0 then [] else
@@ -47,7 +47,7 @@ lines_for privacy allow before h =
     if is_line (codes "Allow") h then at_first (codes "Allow") allow before h else
     if is_listed h then map (λ v. (h.0, v)) (values_of h.1) else h ∷ []
 
--- the lines in place of these, behind those before, with the merged texts of Privacy and Allow
+-- the lines that replace these, which follow those before, with the merged texts of Privacy and Allow
 unfoldable pub expanded_from : List ℕ → List ℕ → List (List ℕ × List ℕ) → List (List ℕ × List ℕ) → List (List ℕ × List ℕ)
 expanded_from privacy allow before [] = []
 expanded_from privacy allow before (h ∷ hs) = lines_for privacy allow before h ++ expanded_from privacy allow (before ++ h ∷ []) hs

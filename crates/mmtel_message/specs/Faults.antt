@@ -64,7 +64,7 @@ abbrev pub has_case : Option NameAddr → Bool
 has_case None = false
 has_case (Some n) = is_case (param_value (codes "sescase") n.params)
 
--- what is left of the room for so many; None where they are more
+-- how many more a limit allows after these; None where these exceed it
 abbrev pub room_after : ℕ → ℕ → Option ℕ
 room_after room n = if nat_lt room n then None else Some (room - n)
 
@@ -75,7 +75,7 @@ is_word v = not (length v == 0) && list_all (in_class Token) v
 abbrev pub are_words : List (List ℕ) → Bool
 are_words vs = list_all is_word vs
 
--- ---- the table: a row has a name, and what is wrong with a line of that name and this value behind the lines before it; the room is the number of bytes behind the head
+-- ---- the table: a row has a name, and whether a line of that name and this value has a fault after the lines before it; the room is the number of bytes after the head
 
 abbrev pub Rows : Type 0
 Rows = List (List ℕ × Bool)
@@ -92,7 +92,7 @@ message_rows start five room before value =
     (codes "Route", not (are_readable (values_of value))) ∷
     (codes "Record-Route", not (are_readable (values_of value))) ∷ []
 
--- fields of the extensions; of History-Info there are at most 32 values, with those before
+-- fields of the extensions; of History-Info there are at most 32 values, including those before
 abbrev pub extension_rows : List (List ℕ × List ℕ) → List ℕ → Rows
 extension_rows before value =
     (codes "P-Asserted-Identity", not (are_readable (values_of value))) ∷
@@ -101,19 +101,19 @@ extension_rows before value =
     (codes "Refer-To", not (is_readable value)) ∷
     (codes "Privacy", not (are_words (values_in Words value))) ∷ []
 
--- what the row of its name says of a line; nothing is wrong with a line of a name that has none
+-- what the row of its name says of a line; a line of a name that has no row has no fault
 abbrev pub by_name : Rows → List ℕ × List ℕ → Bool
 by_name [] h = false
 by_name (row ∷ rows) h = if is_line row.0 h then row.1 else by_name rows h
 
--- something is wrong with a line behind those before it: it has no name, or its row says so
+-- a line that follows those before it has a fault: it has no name, or its row says so
 abbrev pub line_fault : Start → Five → ℕ → List (List ℕ × List ℕ) → List ℕ × List ℕ → Bool
 line_fault start five room before h =
     if length h.0 == 0 then true else by_name (message_rows start five room before h.1 ++ extension_rows before h.1) h
 
--- ---- the place of the first fault: 0 for the start line, header lines from 1, and the empty line for what is absent
+-- ---- the place of the first fault: 0 for the start line, header lines from 1, and the empty line for an absent field
 
--- the place of the first line with a fault, behind those before
+-- the place of the first line with a fault, after those before
 unfoldable pub fault_from : Start → Five → ℕ → List (List ℕ × List ℕ) → List (List ℕ × List ℕ) → Option ℕ
 fault_from start five room before [] = None
 fault_from start five room before (h ∷ hs) = if line_fault start five room before h then Some (length before + 1) else fault_from start five room (before ++ h ∷ []) hs

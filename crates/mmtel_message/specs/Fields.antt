@@ -34,11 +34,11 @@ if_end x (b ∷ s) = None
 abbrev pub after_blanks : List ℕ → Option (List ℕ)
 after_blanks s = if length (run Blank s) == 0 then None else Some (after_run Blank s)
 
--- what stands before this rest
+-- what comes before this rest
 abbrev pub before_rest : List ℕ → List ℕ → List ℕ
 before_rest s rest = take (length s - length rest) s
 
--- the rest of a Via value, behind its transport: sent-by and parameters
+-- the rest of a Via value, after its transport: sent-by and parameters
 abbrev pub via_by : List ℕ → List ℕ → Option Via
 via_by transport b = do
   h ← host_at b

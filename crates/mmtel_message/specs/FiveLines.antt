@@ -1,4 +1,4 @@
--- The lines of the five fields, found in one walk (RFC 3261 §8.1.1): what the lines behind add to what was found before them. Private functions alone cite this.
+-- The lines of the five fields, found in one pass (RFC 3261 §8.1.1): what the lines that follow add to what was found before them. Private functions alone cite this.
 use Rattle.std.specs.Prelude.{Option, Some, None, ◌==◌, if◌then◌else◌, ℕ, List, count_by}
 use Rattle.mmtel_message.specs.Fields.{only_value}
 use Rattle.mmtel_message.specs.Message.{Line, is_line, first_value}

@@ -32,7 +32,7 @@ identifiers_of five = record {
   method = five.cseq.method;
 }
 
--- those of a message with these lines; none where one of the five fields cannot be read
+-- the identifiers of a message with these lines; none where one of the five fields cannot be read
 abbrev pub identifiers_in : List Line → Option Identifiers
 identifiers_in ls = option_map identifiers_of (five_at ls)
 

@@ -1,4 +1,4 @@
--- What the public clauses cite; `Values`, `Vias` and `Identifiers` end with words of private functions alone, and `FiveLines` has no others.
+-- What the clauses of public functions cite; `Values`, `Vias` and `Identifiers` end with words of private functions alone, and `FiveLines` has no others.
 pub mod Lines
 pub mod Names
 pub mod Headers

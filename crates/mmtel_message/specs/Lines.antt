@@ -1,4 +1,4 @@
--- A message parted into lines.
+-- A message split into lines.
 use Rattle.std.specs.Prelude.{◌&&◌, ◌+◌, Option, Some, None, ◌==◌, if◌then◌else◌, ℕ, Bool, List, [], ◌∷◌, ◌++◌, false, drop}
 use Rattle.std.specs.Option.{option_map}
 use Rattle.mmtel_scan.specs.Classes.{in_class}
@@ -25,17 +25,17 @@ abbrev pub width : Break → ℕ
 width Line = 2
 width Head = 4
 
--- the first place where it comes
+-- the first place where it occurs
 unfoldable pub first_break : Break → List ℕ → Option ℕ
 first_break k [] = None
 first_break k (b ∷ s) = if begins k (b ∷ s) then Some 0 else option_map (λ n. n + 1) (first_break k s)
 
--- a byte before lines
+-- a byte put before lines
 abbrev pub put : ℕ → List (List ℕ) → List (List ℕ)
 put b [] = (b ∷ []) ∷ []
 put b (l ∷ ls) = if crlf (b ∷ l) then [] ∷ drop 1 l ∷ ls else (b ∷ l) ∷ ls
 
--- what stands before, between and after the line ends
+-- what comes before, between and after the line ends
 unfoldable pub split : List ℕ → List (List ℕ)
 split [] = [] ∷ []
 split (b ∷ s) = put b (split s)
@@ -53,7 +53,7 @@ starts_blank (b ∷ s) = in_class Blank b
 abbrev pub joined : List ℕ → List ℕ → List ℕ
 joined line more = trimmed Blank line ++ (32 ∷ after_run Blank more)
 
--- the lines, where those so far make this one
+-- the lines, where those so far have been joined to this one
 unfoldable pub unfolded_from : List ℕ → List (List ℕ) → List (List ℕ)
 unfolded_from line [] = line ∷ []
 unfolded_from line (l ∷ ls) = if starts_blank l then unfolded_from (joined line l) ls else line ∷ unfolded_from l ls
@@ -72,6 +72,6 @@ unfoldable pub last_line_end : List ℕ → Option ℕ
 last_line_end [] = None
 last_line_end (b ∷ s) = or_found (option_map (λ n. n + 1) (last_line_end s)) (if crlf (b ∷ s) then Some 0 else None)
 
--- where the lines end that are whole
+-- where the last complete line ends: at the end of the head, or else at the last line end
 abbrev pub whole_end : List ℕ → Option ℕ
 whole_end s = or_found (first_break Head s) (last_line_end s)

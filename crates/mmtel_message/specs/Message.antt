@@ -1,4 +1,4 @@
--- A message as contracts see it (RFC 3261 §7): its start line, its header lines (name and value) and its body; and what is found and edited by a name, which is compared
+-- A message as contracts see it (RFC 3261 §7): its start line, its header lines (name and value) and its body; and lookup and edits by a name, which is compared
 -- without case (§7.3.1).
 use Rattle.std.specs.Prelude.{not, Option, Some, None, if◌then◌else◌, ℕ, Bool, List, [], ◌∷◌, filter, map}
 use Rattle.std.specs.List.{flat_map, list_any}
@@ -40,12 +40,12 @@ first_value name (l ∷ ls) = if is_line name l then Some l.1 else first_value n
 abbrev pub dropped : List ℕ → List Line → List Line
 dropped name ls = filter (λ l. not (is_line name l)) ls
 
--- the first line of the name with this value and without further ones, or with one more line
+-- the first line of the name gets this value and further ones are removed, or one line is added
 abbrev pub replaced : List ℕ → List ℕ → List Line → List Line
 replaced name value [] = (name, value) ∷ []
 replaced name value (l ∷ ls) = if is_line name l then (name, value) ∷ dropped name ls else l ∷ replaced name value ls
 
--- the texts of the lines of the name, as they stand
+-- the texts of the lines of the name, unsplit
 abbrev pub line_texts : List ℕ → List Line → List (List ℕ)
 line_texts name ls = map (λ l. l.1) (named name ls)
 

@@ -5,7 +5,7 @@
 use Rattle.std.specs.Prelude.{◌||◌, Option, Some, None, if◌then◌else◌, ℕ, List, [], ◌∷◌, codes}
 use Rattle.std.specs.Str.{str_eq_ignore_ascii_case}
 
--- a compact form and the name that it stands for
+-- a compact form and the name that it abbreviates
 abbrev pub compact_forms : List (List ℕ × List ℕ)
 compact_forms =
     (codes "v", codes "Via") ∷
@@ -26,7 +26,7 @@ more_compact_forms =
     (codes "o", codes "Event") ∷
     (codes "x", codes "Session-Expires") ∷ []
 
--- names without a compact form: what routes and identifies
+-- names without a compact form: routing and identification
 abbrev pub routing_names : List (List ℕ)
 routing_names =
     codes "CSeq" ∷
@@ -40,7 +40,7 @@ routing_names =
     codes "Require" ∷
     codes "Allow" ∷ []
 
--- what an agent accepts and how a body is to be taken
+-- what an agent accepts and how a body is to be interpreted
 abbrev pub content_names : List (List ℕ)
 content_names =
     codes "Accept" ∷
@@ -54,7 +54,7 @@ content_names =
     codes "Priority" ∷
     codes "Reason" ∷ []
 
--- what callers and agents say of themselves
+-- what callers and agents say about themselves
 abbrev pub caller_names : List (List ℕ)
 caller_names =
     codes "Reject-Contact" ∷
@@ -68,7 +68,7 @@ caller_names =
     codes "Reply-To" ∷
     codes "In-Reply-To" ∷ []
 
--- what the network adds, subscriptions, reliable answers and session timers
+-- what the network adds, subscriptions, reliable provisional responses and session timers
 abbrev pub network_names : List (List ℕ)
 network_names =
     codes "P-Access-Network-Info" ∷
@@ -80,7 +80,7 @@ network_names =
     codes "RAck" ∷
     codes "Min-SE" ∷ []
 
--- the name that this one stands for, by its long or compact form and without regard to case
+-- the name that this one is, in its long or compact form and without regard to case
 abbrev pub of_forms : List (List ℕ × List ℕ) → List ℕ → Option (List ℕ)
 of_forms [] n = None
 of_forms (x ∷ forms) n = if str_eq_ignore_ascii_case n x.1 || str_eq_ignore_ascii_case n x.0 then Some x.1 else of_forms forms n

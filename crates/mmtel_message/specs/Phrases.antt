@@ -1,4 +1,5 @@
--- The phrases of the statuses that the server makes (RFC 3261 §21, RFC 3515 §2.4.2 for 202, RFC 4028 §6 for 422, RFC 5079 §5 for 433, RFC 6665 §8.3.2 for 489); no bytes for any other.
+-- The reason phrases of the statuses that the server generates (RFC 3261 §21, RFC 3515 §2.4.2 for 202, RFC 4028 §6 for 422, RFC 5079 §5 for 433, RFC 6665 §8.3.2 for 489);
+-- no bytes for any other.
 use Rattle.std.specs.Prelude.{ℕ, ◌==◌, List, [], ◌∷◌, ◌++◌, codes, if◌then◌else◌}
 
 abbrev pub Phrases : Type 0
@@ -38,7 +39,7 @@ further_phrases =
     (513, codes "Message Too Large") ∷
     (603, codes "Decline") ∷ []
 
--- the phrase beside the code
+-- the reason phrase of the code
 abbrev pub phrase_in : Phrases → ℕ → List ℕ
 phrase_in [] code = []
 phrase_in (row ∷ rows) code = if code == row.0 then row.1 else phrase_in rows code

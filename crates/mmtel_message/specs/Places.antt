@@ -1,4 +1,4 @@
--- The lines of a head by the places where they begin: what private functions cite.
+-- The lines of a head by the places where they begin, which private functions alone cite.
 use Rattle.std.specs.Prelude.{◌+◌, ◌≤◌, ◌<◌, Option, Some, None, ℕ, Bool, false, List, length, drop}
 use Rattle.std.specs.Option.{option_map}
 use Rattle.mmtel_message.specs.declared.held.HeldValue.{HeldValue}

@@ -1,4 +1,4 @@
--- What each message that was read keeps to, in words for the crates above: where its five fields stand (RFC 3261 §8.1.1), and which values are looked at one by one.
+-- What holds of each message that was read, in words for the crates above: where its five fields are (RFC 3261 §8.1.1), and which values are read one by one.
 use Rattle.std.specs.Prelude.{◌≡◌, Bool, Some, ℕ, List, ◌++◌, length, is_some, codes}
 use Rattle.std.specs.List.{list_all}
 use Rattle.mmtel_scan.specs.Numbers.{number_of}
@@ -15,7 +15,7 @@ pub record IsOnly (name : List ℕ) (ls : List (List ℕ × List ℕ)) (v : List
   pub first : first_value name ls ≡ Some v
   pub alone : length (named name ls) ≡ 1
 
--- the values of the name stand one a line
+-- the values of the name are one per line
 abbrev pub StandsOneALine : List ℕ → List (List ℕ × List ℕ) → Type 0
 StandsOneALine name ls = values_named Plain name ls ≡ line_texts name ls
 
@@ -23,11 +23,11 @@ StandsOneALine name ls = values_named Plain name ls ≡ line_texts name ls
 abbrev pub HasTag : NameAddr → Type 0
 HasTag n = (tag : List ℕ) × (param_value (codes "tag") n.params ≡ Some tag)
 
--- the branch begins with the cookie (RFC 3261 §8.1.1.7)
+-- the branch begins with the magic cookie (RFC 3261 §8.1.1.7)
 abbrev pub HasCookie : Via → Type 0
 HasCookie via = (rest : List ℕ) × (param_value (codes "branch") via.params ≡ Some (codes "z9hG4bK" ++ rest))
 
--- a number of hops (RFC 3261 §20.22)
+-- a value of Max-Forwards (RFC 3261 §20.22)
 abbrev pub is_hops : List ℕ → Bool
 is_hops v = is_some (number_of 255 v)
 

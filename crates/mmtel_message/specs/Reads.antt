@@ -1,4 +1,4 @@
--- Reading a message (RFC 3261 §7, §18.3 and §25.1): the whole list of bytes is parted at its head's end, at its line ends and at its folds, and each piece is looked at.
+-- Reading a message (RFC 3261 §7, §18.3 and §25.1): the whole list of bytes is split at the end of its head, at its line ends and at its folds, and each piece is read.
 -- The refusals come in the order TooLarge, NotSip, TooMany, Bad.
 use Rattle.std.specs.Prelude.{◌≡◌, Option, Some, None, if◌then◌else◌, ℕ, nat_lt, ◌+◌, List, [], ◌∷◌, length, codes, take, drop, map, Result, Ok, Err}
 use Rattle.mmtel_scan.specs.Chain.{◌>>=◌}
@@ -63,7 +63,7 @@ abbrev pub large_of : Option MessageHead → Option (Message Start)
 large_of None = None
 large_of (Some head) = reply_to head.start 513 (codes "Message Too Large") head.lines
 
--- the same of what begins with these bytes: its head is made of the whole lines among them
+-- the same for a message that begins with these bytes: its head is made of the complete lines among them
 abbrev pub large_reply : List ℕ → Option (Message Start)
 large_reply s = whole_end s >>= λ n. large_of (head_in (take n s))
 
@@ -85,7 +85,7 @@ after_head (Some head) rest =
 abbrev pub after_start : List (List ℕ × List ℕ) → List ℕ → Option Start → Read
 after_start hs rest start = after_head (message_head start hs) rest
 
--- parted at the end of the head, where it ends
+-- split at the end of the head, where it ends
 abbrev pub parted_at : List ℕ → Option ℕ → Read
 parted_at s None = Err fault.NotSip
 parted_at s (Some n) = after_head (head_in (take n s)) (drop (n + 4) s)
@@ -94,7 +94,7 @@ parted_at s (Some n) = after_head (head_in (take n s)) (drop (n + 4) s)
 abbrev pub reads : List ℕ → Read
 reads s = if nat_lt limit (length s) then Err (fault.TooLarge (large_reply (take limit s))) else parted_at s (first_break Head s)
 
--- this is read, unless memory ran out
+-- reading returns this, unless memory ran out
 abbrev pub Stops : ReadFault → Read → Type 0
 Stops (fault.TooLarge reply) read = read ≡ Err (fault.TooLarge reply)
 Stops fault.NotSip read = read ≡ Err fault.NotSip

@@ -1,4 +1,4 @@
--- The reply to a request that is refused as it is read (RFC 3261 §8.2.6): its Via lines, From, To, Call-ID and CSeq as received.
+-- The reply to a request that is refused when it is read (RFC 3261 §8.2.6): its Via lines, From, To, Call-ID and CSeq as received.
 use Rattle.std.specs.Prelude.{Option, Some, None, if◌then◌else◌, ℕ, Bool, false, List, [], codes}
 use Rattle.mmtel_message.specs.Message.{Line, Message}
 use Rattle.mmtel_message.specs.Expansion.{expanded}
@@ -7,11 +7,11 @@ use Rattle.mmtel_message.specs.Responses.{Reply, response}
 use Rattle.mmtel_message.specs.declared.messages.Start.{Start}
 use Rattle.mmtel_message.specs.declared.messages.Start.TheVariants.{Status}
 
--- a status and its phrase, and nothing else
+-- a status and its reason phrase, and nothing else
 abbrev pub bare : ℕ → List ℕ → Reply
 bare code phrase = record { code = code; phrase = phrase; tag = []; source = None; contact = []; passed = []; named = []; body = [] }
 
--- the response of this status to lines alone, which makes no dialog
+-- the response of this status to lines alone, which creates no dialog
 unfoldable pub reply_with : ℕ → List ℕ → List Line → Message Start
 reply_with code phrase ls = response (Status code phrase) ls (bare code phrase)
 

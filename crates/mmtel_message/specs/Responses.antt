@@ -1,4 +1,4 @@
--- The responses that the server makes to requests (RFC 3261 §8.2.6, §12.1.1 and §18.2.1): what a response has of the request's lines, and what is added to them.
+-- The responses that the server makes to requests (RFC 3261 §8.2.6, §12.1.1 and §18.2.1): which of the request's lines a response has, and what is added to them.
 use Rattle.std.specs.Prelude.{◌≡◌, ◌⊎◌, ◌==◌, ◌&&◌, ◌||◌, nat_le, Bool, false, ℕ, Option, Some, None, is_some, if◌then◌else◌, List, [], ◌∷◌, ◌++◌, length, map, codes, decimal}
 use Rattle.std.specs.List.{list_any}
 use Rattle.std.specs.Str.{str_eq_ignore_ascii_case}
@@ -17,17 +17,17 @@ use Rattle.mmtel_message.specs.declared.fields.Via.{Via}
 use Rattle.mmtel_message.specs.declared.messages.Start.{Start}
 use Rattle.mmtel_message.specs.declared.messages.Start.TheVariants.{Status}
 
--- what a response has that its request does not say
+-- the parts of a response that its request does not determine
 pub record Reply : Type 0 where
   pub code : ℕ
   pub phrase : List ℕ
   -- the server's tag, or no bytes
   pub tag : List ℕ
-  -- where the request came from, where that is to be said
+  -- the source address of the request, where it is to be written into the first Via
   pub source : Option Addr
   -- the value of Contact
   pub contact : List ℕ
-  -- lines that are passed on, and lines of the server's own
+  -- lines that are copied from another message, and lines that are specific to this response
   pub passed : List Line
   pub named : List Line
   pub body : List ℕ
@@ -51,7 +51,7 @@ abbrev pub has_tag : Option NameAddr → Bool
 has_tag None = false
 has_tag (Some n) = is_some (param_value (codes "tag") n.params)
 
--- a From or To value with a tag behind it
+-- a From or To value with a tag after it
 abbrev pub tagged : List ℕ → List ℕ → List ℕ
 tagged value tag = value ++ (codes ";tag=" ++ tag)
 
@@ -74,19 +74,19 @@ call_lines ls = named (codes "Call-ID") ls ++ named (codes "CSeq") ls
 
 -- ---- Record-Route as received, and Contact
 
--- a response makes a dialog: from 101 to 299 to an INVITE (§12.1.1), and the 200 of a SUBSCRIBE (RFC 6665 §4.2.1)
+-- a response creates a dialog: from 101 to 299 to an INVITE (§12.1.1), and the 200 of a SUBSCRIBE (RFC 6665 §4.2.1)
 abbrev pub makes_dialog : ℕ → Start → Bool
 makes_dialog code start = ((nat_le 101 code && nat_le code 299) && is_method (codes "INVITE") start) || (code == 200 && is_method (codes "SUBSCRIBE") start)
 
--- it refreshes the target of its dialog: the 202 of a REFER (RFC 3515 §2.2), and the success of an UPDATE (RFC 3311 §5.2)
+-- it refreshes the remote target of its dialog: the 202 of a REFER (RFC 3515 §2.2), and the success of an UPDATE (RFC 3311 §5.2)
 abbrev pub refreshes_target : ℕ → Start → Bool
 refreshes_target code start = (code == 202 && is_method (codes "REFER") start) || ((nat_le 200 code && nat_le code 299) && is_method (codes "UPDATE") start)
 
--- a response that says where the server is reached
+-- a response that has a Contact, which says where the server is reached
 abbrev pub names_contact : ℕ → Start → Bool
 names_contact code start = makes_dialog code start || refreshes_target code start
 
--- it says no way to the server
+-- it has no Contact of the server
 abbrev pub SaysNoWay : ℕ → Start → Type 0
 SaysNoWay code start = names_contact code start ≡ false
 
@@ -96,14 +96,14 @@ route_lines code start ls = if makes_dialog code start then named (codes "Record
 unfoldable pub contact_lines : ℕ → Start → List ℕ → List Line
 contact_lines code start contact = if names_contact code start then line (codes "Contact") contact else []
 
--- ---- what follows of the response's own
+-- ---- the lines of the response's own that follow
 
 unfoldable pub own_lines : List Line → List Line → List ℕ → List Line
 own_lines passed named body = passed ++ (named ++ line (codes "Content-Length") (decimal (length body)))
 
 -- ---- the response
 
--- what is as received, or nearly so
+-- the lines of the request, as received but for the first Via and the tag of To
 unfoldable pub heard_lines : Option Addr → List ℕ → List Line → List Line
 heard_lines source tag ls = via_lines source ls ++ (party_lines tag ls ++ call_lines ls)
 
@@ -128,11 +128,11 @@ pub record AreOthers (ls : List Line) : Type 0 where
   pub call_id : has_line (codes "Call-ID") ls ≡ false
   pub cseq : has_line (codes "CSeq") ls ≡ false
 
--- no line of the name is passed on, and none is named for the response
+-- no line of the name is copied from another message, and none is specific to the response
 abbrev pub BringsNo : List ℕ → Reply → Type 0
 BringsNo name r = (has_line name r.passed ≡ false) × (has_line name r.named ≡ false)
 
--- none of the lines that a response has of its request is brought a second time
+-- none of the lines that a response has from its request is added a second time
 pub record BringsNone (r : Reply) : Type 0 where
   pub via : BringsNo (codes "Via") r
   pub passed : AreOthers r.passed
@@ -143,7 +143,7 @@ abbrev pub CanBeSent : Option Addr → Type 0
 CanBeSent None = Unit {0}
 CanBeSent (Some source) = IsSource source
 
--- a response that can be sent: its source an address, its tag a token or none, and no line of its own among those of its request
+-- a response that can be sent: its source an address, its tag a token or none, and no line of its own among those from its request
 pub record IsSendable (r : Reply) : Type 0 where
   pub none : BringsNone r
   pub source : CanBeSent r.source

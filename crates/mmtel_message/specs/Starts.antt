@@ -10,7 +10,7 @@ use Rattle.mmtel_message.specs.Headers.{is_value_byte}
 use Rattle.mmtel_message.specs.declared.messages.Start.{Start}
 use Rattle.mmtel_message.specs.declared.messages.Start.TheVariants.{Request, Status}
 
--- a status of 100 to 699, and a phrase without byte 0, CR and LF
+-- a status of 100 to 699, and a reason phrase without byte 0, CR and LF
 abbrev pub status_of : List ℕ → ℕ → Option Start
 status_of phrase n = if nat_lt n 100 then None else if list_all is_value_byte phrase then Some (Status n phrase) else None
 

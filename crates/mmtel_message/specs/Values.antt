@@ -1,4 +1,4 @@
--- The values of one text: a listed name's, which commas part (RFC 3261 §7.3.1), and Privacy's words, which ';' parts (RFC 3323 §4.2).
+-- The values of one text: of a listed name, separated by commas (RFC 3261 §7.3.1), and the words of Privacy, separated by ';' (RFC 3323 §4.2).
 use Rattle.std.specs.Prelude.{Option, Some, None, ◌==◌, if◌then◌else◌, ℕ, Bool, false, List, [], ◌∷◌, ◌++◌, ◌+◌, map, drop}
 use Rattle.std.specs.List.{flat_map}
 use Rattle.std.specs.Option.{option_map}
@@ -6,7 +6,7 @@ use Rattle.mmtel_message.specs.Headers.{trim}
 use Rattle.mmtel_message.specs.declared.values.Mode.{Mode}
 use Rattle.mmtel_message.specs.declared.values.Mode.TheVariants.{Plain, Quoted, Escaped, Angle, Words}
 
--- where the byte behind this one stands
+-- where the next byte is: outside quotes, in quotes, after a backslash, in angle brackets, or between the words of Privacy
 abbrev pub mode_after : Mode → ℕ → Mode
 mode_after Plain b = if b == 34 then Quoted else if b == 60 then Angle else Plain
 mode_after Quoted b = if b == 34 then Plain else if b == 92 then Escaped else Quoted
@@ -14,7 +14,7 @@ mode_after Escaped b = Quoted
 mode_after Angle b = if b == 62 then Plain else Angle
 mode_after Words b = Words
 
--- a comma outside quotes and angle brackets parts, and so does a ';' between words
+-- a comma outside quotes and angle brackets separates, and so does a ';' between words
 abbrev pub is_parting : Mode → ℕ → Bool
 is_parting Plain b = b == 44
 is_parting Quoted b = false
@@ -22,7 +22,7 @@ is_parting Escaped b = false
 is_parting Angle b = false
 is_parting Words b = b == 59
 
--- where the byte behind a parting one stands
+-- where the byte after a separating one is
 abbrev pub base : Mode → Mode
 base Plain = Plain
 base Quoted = Plain
@@ -30,7 +30,7 @@ base Escaped = Plain
 base Angle = Plain
 base Words = Words
 
--- the place of the first byte that parts
+-- the place of the first byte that separates
 unfoldable pub parting : Mode → List ℕ → Option ℕ
 parting m [] = None
 parting m (b ∷ s) = if is_parting m b then Some 0 else option_map (λ n. n + 1) (parting (mode_after m b) s)
@@ -39,7 +39,7 @@ abbrev pub put_byte : ℕ → List (List ℕ) → List (List ℕ)
 put_byte b [] = (b ∷ []) ∷ []
 put_byte b (l ∷ ls) = (b ∷ l) ∷ ls
 
--- what stands before, between and after the bytes that part
+-- what comes before, between and after the bytes that separate
 unfoldable pub parts : Mode → List ℕ → List (List ℕ)
 parts m [] = [] ∷ []
 parts m (b ∷ s) = if is_parting m b then [] ∷ parts (base m) s else put_byte b (parts (mode_after m b) s)
@@ -52,7 +52,7 @@ rest_parts m (Some s) = parts m s
 abbrev pub values_in : Mode → List ℕ → List (List ℕ)
 values_in m s = map trim (parts m s)
 
--- those from a place on; none where there is no place
+-- the values from a place on; none where there is no place
 abbrev pub values_from : Mode → List ℕ → Option ℕ → List (List ℕ)
 values_from m s None = []
 values_from m s (Some n) = values_in m (drop n s)
@@ -68,7 +68,7 @@ joined_by between (v ∷ vs) = v ++ flat_map (λ w. between ++ w) vs
 
 -- ---- words of private functions
 
--- the only byte that may part two values, where a text stands so
+-- the only byte that may separate two values, in this mode
 abbrev pub separator : Mode → ℕ
 separator Plain = 44
 separator Quoted = 44

@@ -1,4 +1,4 @@
--- What a server writes into the first Via of a request that it answers: where the request came from (RFC 3261 §18.2.1 `received`, RFC 3581 §4 `rport`).
+-- What a server writes into the first Via of a request to which it responds: where the request came from (RFC 3261 §18.2.1 `received`, RFC 3581 §4 `rport`).
 use Rattle.std.specs.Prelude.{◌&&◌, ◌<◌, ◌^◌, not, Bool, ℕ, get_or, Option, Some, None, is_none, if◌then◌else◌, List, [], ◌∷◌, ◌++◌, codes, decimal}
 use Rattle.std.specs.List.{flat_map, list_any}
 use Rattle.std.specs.Str.{bytes_eq, str_eq_ignore_ascii_case}
@@ -19,7 +19,7 @@ is_received p = str_eq_ignore_ascii_case p.name (codes "received")
 abbrev pub with_port : ℕ → Param → Param
 with_port port p = if asks_port p then record p { value = Some (decimal port) } else p
 
--- a parameter with the port where it asks for it; a `received` goes
+-- a parameter with the port where it asks for it; a `received` is removed
 abbrev pub sourced_param : ℕ → Param → List Param
 sourced_param port p = if is_received p then [] else with_port port p ∷ []
 
@@ -30,7 +30,7 @@ received source = record { name = codes "received"; value = Some (ip_text source
 abbrev pub sourced_params : Addr → List Param → List Param
 sourced_params source ps = flat_map (sourced_param source.port) ps ++ received source ∷ []
 
--- the Via names where the request came from, and asks for nothing
+-- the Via has the source address of the request, and asks for no port
 abbrev pub is_from : Addr → Via → Bool
 is_from source via = bytes_eq via.host (ip_text source.ip) && not (list_any asks_port via.params)
 
@@ -38,7 +38,7 @@ is_from source via = bytes_eq via.host (ip_text source.ip) && not (list_any asks
 abbrev pub sourced : Addr → Via → Via
 sourced source via = record via { params = sourced_params source via.params }
 
--- the Via as the request came from there
+-- the Via, completed with the source of the request
 abbrev pub completed_via : Addr → Via → Via
 completed_via source via = if is_from source via then via else sourced source via
 
@@ -50,7 +50,7 @@ abbrev pub completed_by : Addr → List ℕ → Option Via → List ℕ
 completed_by source value None = value
 completed_by source value (Some via) = if is_from source via then value else via_value (sourced source via)
 
--- a Via value of a request that came from there
+-- a Via value, completed with the source of the request
 unfoldable pub completed : Addr → List ℕ → List ℕ
 completed source value = completed_by source value (via_at value)
 
@@ -59,7 +59,7 @@ pub record IsSource (source : Addr) : Type 0 where
   pub bytes : (i : ℕ) → get_or source.ip i 0 < 2 ^ 8
   pub port : source.port < 2 ^ 16
 
--- ---- what private functions cite
+-- ---- what private functions alone cite
 
 -- the text of a parameter, with the port where it asks for it
 abbrev pub sourced_param_text : ℕ → Param → List ℕ

@@ -1,4 +1,4 @@
-//! How the server names itself in what it sends (RFC 3261 §8.1.1.7, §8.1.1.8).
+//! How the server names itself in the messages that it sends (RFC 3261 §8.1.1.7, §8.1.1.8).
 ghost use Rattle.std.specs.Prelude.{◌≡◌, ◌++◌, IfOk, OnOk};
 ghost use Rattle.mmtel_message.specs.Addresses.{addr_text, contact_text, ip_text, via_text};
 
@@ -6,7 +6,7 @@ use mmtel_scan::{NoMemory, Text, add_number};
 use mmtel_types::Addr;
 use std::alloc::Global;
 
-/// Adds the text of an IPv4 address.
+/// Appends the text of an IPv4 address.
 fn add_ip(alloc: Global, out: &mut Text, ip: [u8; 4]) -> Result<(), NoMemory>
     ensures { OnOk result (out.new ≡ out.old ++ ip_text ip) }
 {
@@ -14,7 +14,7 @@ fn add_ip(alloc: Global, out: &mut Text, ip: [u8; 4]) -> Result<(), NoMemory>
     out.push(alloc, text.bytes())
 }
 
-/// Adds the text of an address.
+/// Appends the text of an address.
 fn add_addr(alloc: Global, out: &mut Text, addr: Addr) -> Result<(), NoMemory>
     ensures { OnOk result (out.new ≡ out.old ++ addr_text addr) }
 {
@@ -27,7 +27,7 @@ fn add_addr(alloc: Global, out: &mut Text, addr: Addr) -> Result<(), NoMemory>
 ///
 /// # Errors
 ///
-/// Want of memory alone.
+/// Out of memory only.
 pub fn ip_text(alloc: Global, ip: [u8; 4]) -> Result<Text, NoMemory>
     ensures text { IfOk result (λ t. t ≡ ip_text ip) }
 {
@@ -46,7 +46,7 @@ pub fn ip_text(alloc: Global, ip: [u8; 4]) -> Result<Text, NoMemory>
 ///
 /// # Errors
 ///
-/// Want of memory alone.
+/// Out of memory only.
 pub fn addr_text(alloc: Global, addr: Addr) -> Result<Text, NoMemory>
     ensures text { IfOk result (λ t. t ≡ addr_text addr) }
 {
@@ -55,11 +55,11 @@ pub fn addr_text(alloc: Global, addr: Addr) -> Result<Text, NoMemory>
     Ok(out)
 }
 
-/// The server's Via value over UDP, with a branch behind its cookie `z9hG4bK` (RFC 3261 §8.1.1.7).
+/// The server's Via value over UDP, with a branch after the magic cookie `z9hG4bK` (RFC 3261 §8.1.1.7).
 ///
 /// # Errors
 ///
-/// Want of memory alone.
+/// Out of memory only.
 pub fn via_text(alloc: Global, sip: Addr, branch: &[u8]) -> Result<Text, NoMemory>
     ensures text { IfOk result (λ t. t ≡ via_text sip branch.now) }
 {
@@ -74,7 +74,7 @@ pub fn via_text(alloc: Global, sip: Addr, branch: &[u8]) -> Result<Text, NoMemor
 ///
 /// # Errors
 ///
-/// Want of memory alone.
+/// Out of memory only.
 pub fn contact_text(alloc: Global, sip: Addr) -> Result<Text, NoMemory>
     ensures text { IfOk result (λ t. t ≡ contact_text sip) }
 {

@@ -1,4 +1,4 @@
-//! Which request a message answers: the branch of its first Via line, and the method of its first CSeq line (RFC 3261 §17.1.3).
+//! To which request a message belongs: the branch of its first Via line, and the method of its first CSeq line (RFC 3261 §17.1.3).
 ghost use Rattle.std.specs.Prelude.{◌≡◌, List, Some, codes};
 ghost use Rattle.std.specs.Bool.{OnFalse};
 ghost use Rattle.std.specs.Option.{option_copied};
@@ -20,7 +20,7 @@ fn branch_in(value: &[u8]) -> Option<&[u8]>
     }
 }
 
-/// Whether a first Via line of this value may have another branch than this one that the five fields of its message say: they say none, or the line may have several values.
+/// Whether a first Via line of this value may have another branch than the one that was read from the five fields: none was read, or the line may have several values.
 fn may_differ(branch: &[u8], value: &[u8]) -> bool
     ensures { OnFalse result ((ls : List Line) (said : Identifiers) → identifiers_in ls ≡ Some said → said.branch ≡ branch.now → first_value (codes "Via") ls ≡ Some value.now →
         Some branch.now ≡ first_branch ls) }
@@ -31,7 +31,7 @@ fn may_differ(branch: &[u8], value: &[u8]) -> bool
     may_part(value)
 }
 
-/// The branch of a first Via line of this value, where the five fields of its message say this.
+/// The branch of a first Via line of this value, where these identifiers were read from the five fields.
 fn branch_by<'a>(said: &Identifiers<'a>, value: &'a [u8]) -> Option<&'a [u8]>
     ensures { (ls : List Line) → identifiers_in ls ≡ Some said.now → first_value (codes "Via") ls ≡ Some value.now → option_copied result ≡ first_branch ls }
 {
@@ -48,7 +48,7 @@ fn method_of<'a>(said: &Identifiers<'a>) -> &'a [u8]
     said.method
 }
 
-/// The method of the first CSeq line, as it is read there.
+/// The method of the first CSeq line, read from that line.
 fn read_method(m: &Msg) -> Option<&[u8]>
     ensures { option_copied result ≡ first_method m.now.lines }
 {
@@ -62,7 +62,7 @@ fn read_method(m: &Msg) -> Option<&[u8]>
 }
 
 impl Msg {
-    /// The branch of the first Via line, where that is one Via value that has a branch (RFC 3261 §17.1.3). It takes no memory, and reads nothing of a message that keeps it.
+    /// The branch of the first Via line, where that is one Via value that has a branch (RFC 3261 §17.1.3). It allocates nothing, and does not parse a message that keeps it.
     pub fn first_branch(&self) -> Option<&[u8]>
         ensures { option_copied result ≡ first_branch self.now.lines }
     {
@@ -75,7 +75,7 @@ impl Msg {
         }
     }
 
-    /// The method of the first CSeq line, where that can be read (RFC 3261 §20.16). It takes no memory, and reads nothing of a message that keeps it.
+    /// The method of the first CSeq line, where that can be read (RFC 3261 §20.16). It allocates nothing, and does not parse a message that keeps it.
     pub fn first_method(&self) -> Option<&[u8]>
         ensures { option_copied result ≡ first_method self.now.lines }
     {

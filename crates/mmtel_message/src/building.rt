@@ -1,4 +1,4 @@
-//! The header lines of a message that the server builds, one behind another.
+//! The header lines of a message that the server builds, one after another.
 ghost use Rattle.std.specs.Prelude.{◌≡◌, ◌∷◌, ◌++◌, [], IfOk, OnErr, OnOk, decimal};
 ghost use Rattle.mmtel_message.specs.Message.{line, named};
 
@@ -11,7 +11,7 @@ use std::alloc::Global;
 ///
 /// # Errors
 ///
-/// Want of memory alone; the list is then as before.
+/// Out of memory only; the list is then as before.
 #[tactic(auto, unfolding(crate::specs::Message::line))]
 pub fn add_line(
     alloc: Global,
@@ -27,11 +27,11 @@ pub fn add_line(
     Ok(())
 }
 
-/// Adds a header line of these bytes.
+/// Adds a header line with these bytes as its value.
 ///
 /// # Errors
 ///
-/// Want of memory alone; the list is then as before.
+/// Out of memory only; the list is then as before.
 pub fn add_bytes(
     alloc: Global,
     out: &mut List<Line>,
@@ -45,11 +45,11 @@ pub fn add_bytes(
     add_line(alloc, out, name, value)
 }
 
-/// Adds a header line of a number.
+/// Adds a header line with a number as its value.
 ///
 /// # Errors
 ///
-/// Want of memory alone; the list is then as before.
+/// Out of memory only; the list is then as before.
 pub fn add_decimal(
     alloc: Global,
     out: &mut List<Line>,
@@ -64,7 +64,7 @@ pub fn add_decimal(
     add_line(alloc, out, name, value)
 }
 
-/// Adds these lines, one behind another. For want of memory a front of them.
+/// Adds these lines, one after another. Where memory runs out, a prefix of them is added.
 #[tactic(auto, unfolding(crate::specs::Message::line))]
 pub fn append_lines(alloc: Global, out: &mut List<Line>, lines: &[Line]) -> Result<(), NoMemory>
     ensures { OnOk result (out.new ≡ out.old ++ lines.now) }
@@ -75,7 +75,7 @@ pub fn append_lines(alloc: Global, out: &mut List<Line>, lines: &[Line]) -> Resu
     Ok(())
 }
 
-/// Adds those of the lines that have the name, as they stand and in their order. For want of memory a front of them.
+/// Adds those of the lines that have the name, unchanged and in their order. Where memory runs out, a prefix of them is added.
 #[tactic(auto, unfolding(crate::specs::Message::line))]
 pub fn append_named(
     alloc: Global,
@@ -93,11 +93,11 @@ pub fn append_named(
     Ok(())
 }
 
-/// Adds the lines that are passed on, in their order.
+/// Adds the lines that are copied from another message, in their order.
 ///
 /// # Errors
 ///
-/// Want of memory alone; the list is then as before.
+/// Out of memory only; the list is then as before.
 pub fn add_passed(alloc: Global, out: &mut List<Line>, passed: &[Line]) -> Result<(), NoMemory>
     ensures added { OnOk result (out.new ≡ out.old ++ passed.now) }
     ensures refused { OnErr result (out.new ≡ out.old) }
@@ -108,11 +108,11 @@ pub fn add_passed(alloc: Global, out: &mut List<Line>, passed: &[Line]) -> Resul
     Ok(())
 }
 
-/// Adds those of the lines that have the name, as they stand and in their order.
+/// Adds those of the lines that have the name, unchanged and in their order.
 ///
 /// # Errors
 ///
-/// Want of memory alone; the list is then as before.
+/// Out of memory only; the list is then as before.
 pub fn add_named(
     alloc: Global,
     out: &mut List<Line>,

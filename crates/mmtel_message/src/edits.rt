@@ -1,4 +1,4 @@
-//! Texts in place of bytes received, and where their pieces stand among these.
+//! Texts that replace received bytes, and where their pieces are among these.
 ghost use Rattle.std.specs.Prelude.{◌≡◌, ◌++◌, IfOk, OnOk, nat_le};
 ghost use Rattle.mmtel_message.specs.Held.{at_place, value_of};
 
@@ -7,7 +7,7 @@ use mmtel_lex::{List, NoMemory, Text};
 use std::alloc::Global;
 use std::marker::Model;
 
-/// A piece of an edit: where it begins there, and the place among the bytes received that it was taken from.
+/// A piece of an edit: where it begins in the edit, and the place among the received bytes that it was taken from.
 #[derive(Clone, Copy)]
 struct Piece {
     at: usize,
@@ -15,7 +15,7 @@ struct Piece {
 }
 
 impl Piece {
-    /// The place among the bytes received of a part of the edit, where it lies within this piece.
+    /// The place among the received bytes of a part of the edit, where it lies within this piece.
     fn place_of(self, part: Span) -> Option<Span> {
         let skipped = part.from.checked_sub(self.at)?;
         let end = skipped.checked_add(part.len)?;
@@ -29,7 +29,7 @@ impl Piece {
         })
     }
 
-    /// What of the piece is left, where the edit loses so many bytes at its front.
+    /// What remains of the piece where that many bytes at the start of the edit are removed.
     fn behind(self, front: usize) -> Piece {
         let skipped = front.saturating_sub(self.at).min(self.place.len);
         Piece {
@@ -42,9 +42,9 @@ impl Piece {
     }
 }
 
-/// A text in place of bytes received, and which pieces of it were taken from there, in order. Contracts see the text.
+/// A text that replaces received bytes, and which pieces of it were taken from these, in order. In contracts it is the text.
 ///
-/// What the pieces say is looked up and compared, so nothing rests on it.
+/// What the pieces say is looked up and compared, so nothing depends on it.
 #[derive(Drop)]
 pub struct Edit {
     text: Text,
@@ -60,7 +60,7 @@ impl Model for Edit {
 }
 
 impl Edit {
-    /// A text of which no piece was taken from the bytes received.
+    /// A text of which no piece was taken from the received bytes.
     pub fn of(text: Text) -> Edit
         ensures { result ≡ text }
     {
@@ -77,7 +77,7 @@ impl Edit {
         self.text.bytes()
     }
 
-    /// Adds a piece, which was taken from that place on, behind a gap.
+    /// Appends a piece, which was taken from that place on, after a gap.
     pub fn join(
         &mut self,
         alloc: Global,
@@ -98,7 +98,7 @@ impl Edit {
         Ok(())
     }
 
-    /// Where a part of it was taken from, if it lies within one piece.
+    /// The place that a part of it was taken from, if the part lies within one piece.
     fn place_of(&self, part: Span) -> Option<Span> {
         let pieces = self.pieces.items();
         let before = pieces.partition_point(
@@ -110,7 +110,7 @@ impl Edit {
         piece.place_of(part)
     }
 
-    /// What is left of the pieces, where so many bytes at the front are lost.
+    /// What remains of the pieces where that many bytes at the start are removed.
     fn pieces_behind(&self, alloc: Global, front: usize) -> Result<List<Piece>, NoMemory> {
         let pieces = self.pieces.items();
         let mut left = List::with_room(alloc, pieces.len())?;
@@ -129,7 +129,7 @@ impl Edit {
         Ok(Edit { text, pieces })
     }
 
-    /// A part of it: the place where it stands among the bytes received, if it was taken from there in one piece.
+    /// A part of it: its place among the received bytes, if it was taken from there in one piece, otherwise an edit.
     pub fn placed(&self, alloc: Global, received: &[u8], part: Span) -> Result<HeldValue, NoMemory>
         ensures { IfOk result (λ v. value_of received.now v ≡ at_place self.now part) }
     {

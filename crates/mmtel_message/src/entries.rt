@@ -33,8 +33,8 @@ fn is_dotted(bytes: &[u8]) -> bool
     digit
 }
 
-/// Whether the value of a parameter `index` says a place in History-Info: numbers with dots between them (RFC 7044 §5, index-val). There is none where the parameter is not
-/// there or has no value.
+/// Whether the value of a parameter `index` is a place in History-Info: numbers separated by dots (RFC 7044 §5, index-val). There is none where the parameter is absent
+/// or has no value.
 pub fn is_place(value: Option<&[u8]>) -> bool
     ensures { result ≡ is_place (option_copied value.entry) }
 {
@@ -53,7 +53,7 @@ fn is_entry(value: &[u8]) -> bool
     }
 }
 
-/// Whether each of a listed value is a value of History-Info.
+/// Whether each value of this text, a list of values, is a value of History-Info.
 pub fn are_entries(value: &[u8]) -> bool
     ensures { result ≡ are_entries (values_of value.now) }
 {

@@ -26,7 +26,7 @@ fn is_either(name: &[u8], one: &[u8], other: &[u8]) -> bool
     is_named(name, other)
 }
 
-/// Whether the values of a line of this name stand one a line.
+/// Whether the values of this name are written one per line.
 #[tactic(auto, using(crate::proofs::PartLaws::other_length))]
 fn is_listed(name: &[u8]) -> bool
     ensures { result ≡ list_any (λ listed. str_eq_ignore_ascii_case name.now listed) listed_names }
@@ -56,7 +56,7 @@ fn add_held(
     Ok(())
 }
 
-/// Adds a line a value: places too, where the whole is one.
+/// Adds one line per value, each a place where the whole value is one.
 fn add_values(
     alloc: Global,
     out: &mut List<Held>,
@@ -114,7 +114,7 @@ fn allow_text(alloc: Global, lines: &Lines<'_>) -> Result<Text, NoMemory>
     merged_text(alloc, Mode::Plain, b",", b", ", texts.items())
 }
 
-/// A text that was made of the values of a name: the place of the first of them, where it says the same, or an edit.
+/// A text that was made of the values of a name: the place of the value of its first line, where that is the same text, or an edit.
 fn merged_value(
     alloc: Global,
     bytes: &[u8],
@@ -179,7 +179,7 @@ fn add_allow(
     add_merged(alloc, out, bytes, text.bytes(), line)
 }
 
-/// Adds the lines in place of one, which stands behind those before.
+/// Adds the lines that replace one, which follows those before.
 fn add_lines_for(
     alloc: Global,
     out: &mut List<Held>,
@@ -208,7 +208,7 @@ fn add_lines_for(
     add_held(alloc, out, name, value)
 }
 
-/// The lines in place of these, which stand first in a message of those lines.
+/// The lines that replace these, which come first in a message of those lines.
 fn expanded_in(
     alloc: Global,
     bytes: &[u8],
@@ -227,8 +227,8 @@ fn expanded_in(
 
 /// The lines of the canonical text of a message that has these lines.
 ///
-/// A part of a value that is a place is a place. So is the merged text of Privacy or Allow where it says what the first line of the name says, as it does where that is the
-/// only one and is canonical. A part of an edit, as a line is that was folded, is a place where it was taken from the bytes in one piece.
+/// A part of a value that is a place is a place. So is the merged text of Privacy or Allow where it equals the value of the first line of the name, as it does where that is
+/// the only one and is canonical. A part of an edit, as of a line that was folded, is a place where it was taken from the bytes in one piece.
 pub fn expanded(alloc: Global, bytes: &[u8], lines: &[Held]) -> Result<List<Held>, NoMemory>
     ensures { IfOk result (λ ls. held_lines bytes.now ls ≡ expanded (held_lines bytes.now lines.now)) }
 {
@@ -251,7 +251,7 @@ pub fn may_part(text: &[u8]) -> bool
     false
 }
 
-/// Whether other lines may stand in place of one: it has no name, is one of those that are merged, is an edit, or may have several values.
+/// Whether other lines may replace one: it has no name, is one of those that are merged, is an edit, or may have several values.
 fn may_change(bytes: &[u8], line: &Held) -> bool
     ensures { OnFalse result ((privacy allow : List ℕ) (before : List Line) → lines_for privacy allow before (held_line bytes.now line.now) ≡ held_line bytes.now line.now ∷ []) }
 {
@@ -274,7 +274,7 @@ fn may_change(bytes: &[u8], line: &Held) -> bool
     false
 }
 
-/// Whether each of the lines stands in the canonical text as it is held.
+/// Whether each of the lines is in the canonical text as it is held.
 fn all_stand(bytes: &[u8], lines: &[Held]) -> bool
     ensures { OnTrue result (expanded (held_lines bytes.now lines.now) ≡ held_lines bytes.now lines.now) }
 {
@@ -286,7 +286,7 @@ fn all_stand(bytes: &[u8], lines: &[Held]) -> bool
     true
 }
 
-/// The lines of the canonical text of a message that has these lines, which are given up: these themselves where each stands as it is.
+/// The lines of the canonical text of a message that has these lines, which are consumed: these themselves where none of them changes.
 pub fn expanded_list(alloc: Global, bytes: &[u8], lines: List<Held>) -> Result<List<Held>, NoMemory>
     ensures { IfOk result (λ ls. held_lines bytes.now ls ≡ expanded (held_lines bytes.now lines)) }
 {

@@ -1,4 +1,4 @@
-//! What is wrong with a message. Nothing here takes memory, but for `is_readable`.
+//! What is wrong with a message. Nothing here allocates, except `is_readable`.
 ghost use Rattle.std.specs.Prelude.{◌≡◌, ◌||◌, ◌&&◌, IfOk, is_none, not, [], nat_lt, ◌+◌, length, codes};
 ghost use Rattle.std.specs.Option.{option_copied};
 ghost use Rattle.mmtel_lex.specs.Reading.{name_addr_of};
@@ -68,7 +68,7 @@ pub fn is_readable(_alloc: Global, value: &[u8]) -> Result<bool, NoMemory>
     Ok(is_name_addr(value))
 }
 
-/// Whether each of a listed value can be read as a name-addr.
+/// Whether each value of this text, a list of values, can be read as a name-addr.
 fn are_readable(value: &[u8]) -> bool
     ensures { result ≡ are_readable (values_of value.now) }
 {
@@ -160,7 +160,7 @@ fn has_case(value: &[u8]) -> bool
     }
 }
 
-/// What is left of the room for so many values; None where they are more.
+/// How many more values a limit allows after these; None where these exceed it.
 fn room_after(room: usize, value: &[u8]) -> Option<usize>
     ensures { result ≡ room_after room (length (values_of value.now)) }
 {
@@ -177,7 +177,7 @@ fn room_after(room: usize, value: &[u8]) -> Option<usize>
     Some(left)
 }
 
-/// What is left of the room behind the values of the lines of the name; None where they are more.
+/// How many more values a limit allows after those of the lines of the name; None where these exceed it.
 fn room_behind(room: usize, name: &[u8], lines: &Lines<'_>) -> Option<usize>
     ensures { result ≡ room_after room (length (values_named Plain name.now lines.now.values)) }
 {
@@ -191,7 +191,7 @@ fn room_behind(room: usize, name: &[u8], lines: &Lines<'_>) -> Option<usize>
     Some(left)
 }
 
-/// Whether there are more than 32 values with those before.
+/// Whether there are more than 32 values, including those before.
 fn is_over(before: &Lines<'_>, value: &[u8]) -> bool
     ensures { result ≡ nat_lt 32 (length (values_named Plain (codes "History-Info") before.now.values) + length (values_of value.now)) }
 {
@@ -229,7 +229,7 @@ fn are_words(value: &[u8]) -> bool
     true
 }
 
-/// What is wrong with a line by the rules of the extensions.
+/// Whether a line has a fault by the rules of the extensions.
 fn extension_fault(before: &Lines<'_>, name: &[u8], value: &[u8]) -> bool
     ensures { result ≡ by_name (extension_rows before.now.values value.now) (name.now, value.now) }
 {
@@ -251,7 +251,7 @@ fn extension_fault(before: &Lines<'_>, name: &[u8], value: &[u8]) -> bool
     false
 }
 
-/// What is wrong with a line behind those before it.
+/// Whether a line that follows those before it has a fault.
 fn line_fault(
     start: &Start,
     five: &FiveRef<'_>,

@@ -1,4 +1,4 @@
-//! The five fields that each message has (RFC 3261 §8.1.1), as they stand in the bytes that they were read from. Reading and asking take no memory.
+//! The five fields that each message has (RFC 3261 §8.1.1), in place in the bytes that they were read from. Reading and lookups allocate nothing.
 ghost use Rattle.std.specs.Prelude.{◌≡◌, IfOk};
 ghost use Rattle.std.specs.Option.{option_copied};
 ghost use Rattle.mmtel_lex.specs.Params.{param_value};
@@ -15,7 +15,7 @@ use mmtel_scan::{Class, number_up_to, skip_text, split_run, trim};
 use std::alloc::Global;
 use std::marker::Model;
 
-/// A Via value as it stands in bytes (RFC 3261 §20.42); contracts see the value.
+/// A Via value in place in the bytes (RFC 3261 §20.42); in contracts it is the value.
 #[derive(Drop)]
 pub struct ViaRef<'a> {
     transport: &'a [u8],
@@ -53,7 +53,7 @@ impl<'a> ViaRef<'a> {
     ///
     /// # Errors
     ///
-    /// Want of memory alone.
+    /// Out of memory only.
     pub fn owned(&self, alloc: Global) -> Result<Via, NoMemory>
         ensures { IfOk result (λ via. via ≡ self.now) }
     {
@@ -71,7 +71,7 @@ impl<'a> ViaRef<'a> {
     }
 }
 
-/// A CSeq value as it stands in bytes (RFC 3261 §20.16); contracts see the value.
+/// A CSeq value in place in the bytes (RFC 3261 §20.16); in contracts it is the value.
 #[derive(Drop)]
 pub struct CSeqRef<'a> {
     number: u32,
@@ -105,7 +105,7 @@ impl<'a> CSeqRef<'a> {
     ///
     /// # Errors
     ///
-    /// Want of memory alone.
+    /// Out of memory only.
     pub fn owned(&self, alloc: Global) -> Result<CSeq, NoMemory>
         ensures { IfOk result (λ cseq. cseq ≡ self.now) }
     {
@@ -117,7 +117,7 @@ impl<'a> CSeqRef<'a> {
     }
 }
 
-/// The five fields that each message has (RFC 3261 §8.1.1), as they stand in its lines; contracts see the fields.
+/// The five fields that each message has (RFC 3261 §8.1.1), in place in its lines; in contracts they are the fields.
 #[derive(Drop)]
 pub struct FiveRef<'a> {
     via: ViaRef<'a>,
@@ -175,7 +175,7 @@ impl<'a> FiveRef<'a> {
     ///
     /// # Errors
     ///
-    /// Want of memory alone.
+    /// Out of memory only.
     pub fn owned(&self, alloc: Global) -> Result<Five, NoMemory>
         ensures { IfOk result (λ five. five ≡ self.now) }
     {
@@ -212,7 +212,7 @@ fn skip_blanks(bytes: &[u8]) -> Option<&[u8]>
     Some(rest)
 }
 
-/// What stands before this rest.
+/// What comes before this rest.
 fn before_rest<'a>(bytes: &'a [u8], rest: &[u8]) -> &'a [u8]
     ensures { result.now ≡ before_rest bytes.now rest.now }
 {
@@ -249,7 +249,7 @@ fn via_by<'a>(transport: &'a [u8], by: &'a [u8]) -> Option<ViaRef<'a>>
     }
 }
 
-/// The Via value that these bytes are (RFC 3261 §20.42); None exactly where they are none. It takes no memory.
+/// The Via value that these bytes are (RFC 3261 §20.42); None exactly where they are no such value. It allocates nothing.
 #[tactic(auto, unfolding(crate::specs::Fields::via_at))]
 pub fn via_ref(bytes: &[u8]) -> Option<ViaRef<'_>>
     ensures exact { result ≡ via_at bytes.now }
@@ -260,7 +260,7 @@ pub fn via_ref(bytes: &[u8]) -> Option<ViaRef<'_>>
     via_by(transport, by)
 }
 
-/// The CSeq value that these bytes are (RFC 3261 §20.16); None exactly where they are none. It takes no memory.
+/// The CSeq value that these bytes are (RFC 3261 §20.16); None exactly where they are no such value. It allocates nothing.
 #[tactic(auto, unfolding(crate::specs::Fields::cseq_at))]
 pub fn cseq_ref(bytes: &[u8]) -> Option<CSeqRef<'_>>
     ensures exact { result ≡ cseq_at bytes.now }
@@ -278,7 +278,7 @@ pub fn cseq_ref(bytes: &[u8]) -> Option<CSeqRef<'_>>
     }
 }
 
-/// The five fields; None exactly where one of them cannot be read, or where one but Via is not there exactly once. It takes no memory.
+/// The five fields; None exactly where one of them cannot be read, or where one of them other than Via does not occur exactly once. It allocates nothing.
 #[tactic(auto, unfolding(crate::specs::Fields::five_at, crate::specs::Fields::parties_in, crate::specs::Fields::call_in))]
 pub fn five_ref<'a>(lines: &Lines<'a>) -> Option<FiveRef<'a>>
     ensures exact { result ≡ five_at lines.now.values }

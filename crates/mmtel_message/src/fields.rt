@@ -42,7 +42,7 @@ pub struct Five {
 ///
 /// # Errors
 ///
-/// `Malformed` where the bytes are no such value, and want of memory.
+/// `Malformed` where the bytes are no such value; and out of memory.
 pub fn read_via(alloc: Global, bytes: &[u8]) -> Result<Via, LexFault>
     ensures exact { Gives (λ x. x) result (via_at bytes.now) }
 {
@@ -56,7 +56,7 @@ pub fn read_via(alloc: Global, bytes: &[u8]) -> Result<Via, LexFault>
 ///
 /// # Errors
 ///
-/// `Malformed` where the bytes are no such value, and want of memory.
+/// `Malformed` where the bytes are no such value; and out of memory.
 pub fn read_cseq(alloc: Global, bytes: &[u8]) -> Result<CSeq, LexFault>
     ensures exact { Gives (λ x. x) result (cseq_at bytes.now) }
 {
@@ -70,7 +70,7 @@ pub fn read_cseq(alloc: Global, bytes: &[u8]) -> Result<CSeq, LexFault>
 ///
 /// # Errors
 ///
-/// `Malformed` where one of them cannot be read, or where one but Via is not there exactly once; and want of memory.
+/// `Malformed` where one of them cannot be read, or where one of them other than Via does not occur exactly once; and out of memory.
 pub fn read_five(alloc: Global, lines: &Lines<'_>) -> Result<Five, LexFault>
     ensures exact { Gives (λ x. x) result (five_at lines.now.values) }
 {

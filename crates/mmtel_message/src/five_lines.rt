@@ -1,4 +1,4 @@
-//! The lines of the five fields, found in one walk over the lines of a message (RFC 3261 §8.1.1).
+//! The lines of the five fields, found in one pass over the lines of a message (RFC 3261 §8.1.1).
 ghost use Rattle.std.specs.Prelude.{◌≡◌, ◌∷◌, [], ℕ, List, codes};
 ghost use Rattle.std.specs.Option.{option_copied};
 ghost use Rattle.mmtel_message.specs.Fields.{only_value};
@@ -8,14 +8,14 @@ ghost use Rattle.mmtel_message.specs.Message.{Line, first_value, is_line};
 use crate::held::Lines;
 use crate::messages::is_named;
 
-/// What was found of a name that is to stand on one line.
+/// What was found of a name that may occur on one line only.
 #[derive(Clone, Copy)]
 pub enum Only<'a> {
     /// No line of the name.
     Nothing,
-    /// One line, of this value.
+    /// One line, with this value.
     One(&'a [u8]),
-    /// More lines than one.
+    /// More than one line.
     Several,
 }
 
@@ -56,7 +56,7 @@ impl<'a> Only<'a> {
     }
 }
 
-/// The first value with that of a further line, which is of the name or of another.
+/// The first value found so far or on a further line, which is of the name or of another.
 fn first_with<'a>(found: Option<&'a [u8]>, is_named: bool, value: &'a [u8]) -> Option<&'a [u8]>
     ensures { (name : List ℕ) (l : Line) (ls : List Line) → is_line name l ≡ is_named → l.1 ≡ value.now →
         first_behind name (option_copied found.entry) (l ∷ ls) ≡ first_behind name (option_copied result) ls }
@@ -78,7 +78,7 @@ pub struct FiveLines<'a> {
 }
 
 impl<'a> FiveLines<'a> {
-    /// Adds what a further line says. A line whose name has another length than these is of none of the five.
+    /// Adds what a further line contributes. A line whose name has another length than these is of none of the five.
     #[tactic(auto, using(crate::proofs::FiveLaws::first_over, crate::proofs::FiveLaws::only_over))]
     fn add(&mut self, name: &[u8], value: &'a [u8])
         ensures via { (ls : List Line) → first_behind (codes "Via") (option_copied self.old.via) ((name.now, value.now) ∷ ls) ≡ first_behind (codes "Via") (option_copied self.new.via) ls }

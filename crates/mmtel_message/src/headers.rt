@@ -15,7 +15,7 @@ use mmtel_lex::{List, NoMemory, Text};
 use mmtel_scan::{Class, skip_byte, split_run};
 use std::alloc::Global;
 
-/// Whether the bytes may stand in a value: no byte 0, CR or LF is among them.
+/// Whether the bytes may occur in a value: no byte 0, CR or LF is among them.
 pub fn is_value(value: &[u8]) -> bool
     ensures { result ≡ list_all is_value_byte value.now }
 {
@@ -25,7 +25,7 @@ pub fn is_value(value: &[u8]) -> bool
     }
 }
 
-/// A header line: its name, and where its value stands in it; None where it is none.
+/// A header line: its name, and the place of its value in it; None where it is none.
 fn header(line: &[u8]) -> Option<(&[u8], Span)>
     ensures line { option_map (λ x. (long_name x.0.now, at_place line.now x.1)) result ≡ header_at line.now }
     ensures within { IfSome result (λ x. x.1.from + x.1.len ≤ length line.now) }
@@ -44,7 +44,7 @@ fn header(line: &[u8]) -> Option<(&[u8], Span)>
     }
 }
 
-/// Reads a header line, or gives one without a name.
+/// Reads a header line; the result has no name where the line is none.
 fn header_line(alloc: Global, bytes: &[u8], line: &HeldValue) -> Result<Held, NoMemory>
     ensures { IfOk result (λ h. held_line bytes.now h ≡ header_line (value_of bytes.now line.now)) }
 {
@@ -58,7 +58,7 @@ fn header_line(alloc: Global, bytes: &[u8], line: &HeldValue) -> Result<Held, No
     }
 }
 
-/// Reads header lines, which stand among these bytes or are texts of their own; a line that is none has no name.
+/// Reads header lines, which are places among these bytes or texts of their own; a line that is no header line has no name.
 pub fn headers(alloc: Global, bytes: &[u8], lines: &[HeldValue]) -> Result<List<Held>, NoMemory>
     ensures { IfOk result (λ hs. held_lines bytes.now hs ≡ map header_line (map (value_of bytes.now) lines.now)) }
 {

@@ -1,4 +1,4 @@
-//! How a message is held: the bytes that were received, and of each line the place of its value among them, or an edit.
+//! How a message is held: the received bytes, and for each line the place of its value among them, or an edit.
 ghost use Rattle.std.specs.Prelude.{◌≡◌, ◌<◌, ◌≤◌, ◌+◌, ◌==◌, [], ◌∷◌, ◌++◌, Some, IfOk, IfSome, MatchOption, length, filter, map, take, drop, slice_get};
 ghost use Rattle.std.specs.Option.{option_map};
 ghost use Rattle.std.specs.Str.{str_eq_ignore_ascii_case};
@@ -11,7 +11,7 @@ use mmtel_lex::{NoMemory, Text};
 use std::alloc::Global;
 use std::marker::Model;
 
-/// The place of a value among the bytes received.
+/// The place of a value among the received bytes.
 #[derive(Clone, Copy, Debug, PartialEq, Eq)]
 pub struct Span {
     /// Where it begins.
@@ -20,7 +20,7 @@ pub struct Span {
     pub len: usize,
 }
 
-/// The value of a line: where it stands among the bytes received, or an edit.
+/// The value of a line: its place among the received bytes, or an edit.
 #[derive(Drop)]
 pub enum HeldValue {
     Received(Span),
@@ -49,7 +49,7 @@ pub fn value_of<'a>(received: &'a [u8], value: &'a HeldValue) -> &'a [u8]
     }
 }
 
-/// The place among the bytes received of a part of what stands at a place there.
+/// The place among the received bytes of a part of what is at a place there.
 fn within(place: Span, received: &[u8], part: Span) -> Span
     requires { part.from + part.len ≤ length (at_place received.now place) }
     ensures { at_place received.now result ≡ at_place (at_place received.now place) part }
@@ -60,7 +60,7 @@ fn within(place: Span, received: &[u8], part: Span) -> Span
     }
 }
 
-/// A part of a value, which stands at a place of the value's bytes: a place among the bytes received where the value is one.
+/// A part of a value, at this place of the value's bytes: a place among the received bytes where the value is one.
 pub fn part_of(
     alloc: Global,
     received: &[u8],
@@ -76,7 +76,7 @@ pub fn part_of(
     }
 }
 
-/// The same as a line of a message has it: a place also where the part of an edit was taken from the bytes received in one piece.
+/// The same, as a line of a message keeps it: a place also where the part of an edit was taken from the received bytes in one piece.
 pub fn placed_part(
     alloc: Global,
     received: &[u8],
@@ -92,7 +92,7 @@ pub fn placed_part(
     }
 }
 
-/// The whole value as a line of a message has it.
+/// The whole value, as a line of a message keeps it.
 pub fn placed(alloc: Global, received: &[u8], value: &HeldValue) -> Result<HeldValue, NoMemory>
     ensures { IfOk result (λ v. value_of received.now v ≡ value_of received.now value.now) }
 {
@@ -100,7 +100,7 @@ pub fn placed(alloc: Global, received: &[u8], value: &HeldValue) -> Result<HeldV
     placed_part(alloc, received, value, Span { from: 0, len })
 }
 
-/// Where a value stands among the bytes received; None of an edit.
+/// The place of a value among the received bytes; None for an edit.
 pub fn place_of(value: &HeldValue) -> Option<Span>
     ensures { result ≡ place_of value.now }
 {
@@ -110,7 +110,7 @@ pub fn place_of(value: &HeldValue) -> Option<Span>
     }
 }
 
-/// The first of these lines from a place on that has the name, and the place behind it.
+/// The first of these lines, from a place on, that has the name, and the place after it.
 fn line_from<'a, V>(
     lines: &'a [(Text, V)],
     name: &[u8],
@@ -130,14 +130,14 @@ fn line_from<'a, V>(
     None
 }
 
-/// A line that was found by its name, and the place behind it.
+/// A line that was found by its name, and the place after it.
 #[derive(Clone, Copy)]
 pub struct NamedLine<'a> {
     /// Its name, as it is spelled.
     pub name: &'a [u8],
     /// Its value.
     pub value: &'a [u8],
-    /// The place behind it, from which a further one is looked for.
+    /// The place after it, from which the search for a further one begins.
     pub after: usize,
 }
 
@@ -176,28 +176,28 @@ impl<'a> Lines<'a> {
         }
     }
 
-    /// The bytes that were received, the lines that were received as such, and the lines that were added.
+    /// The received bytes, the received lines, and the added lines.
     pub(crate) fn parts(&self) -> (&'a [u8], &'a [Held], &'a [Line])
         ensures { self.now.values ≡ lines_of result.0.now result.1.now result.2.now }
     {
         (self.received, self.held, self.added)
     }
 
-    /// How many there are.
+    /// The number of lines.
     pub fn len(&self) -> usize
         ensures { result ≡ length self.now.values }
     {
         self.held.len() + self.added.len()
     }
 
-    /// The number of the empty line behind them, where lines are counted from 1.
+    /// The number of the empty line after them, where lines are counted from 1.
     pub fn end(&self) -> usize
         ensures { result ≡ length self.now.values + 1 }
     {
         self.held.len() + self.added.len() + 1
     }
 
-    /// Whether there is none.
+    /// Whether there are no lines.
     pub fn is_empty(&self) -> bool
         ensures { result ≡ (length self.now.values == 0) }
     {
@@ -216,11 +216,11 @@ impl<'a> Lines<'a> {
         (line.0.bytes(), line.1.bytes())
     }
 
-    /// The name and the value of one.
+    /// The name and the value of the line at a place.
     pub fn at(&self, place: usize) -> (&'a [u8], &'a [u8])
         requires { place < length self.now.values }
         ensures item { slice_get self.now.values place ≡ Some (result.0.now, result.1.now) }
-        // So it comes first of those from there on, and last of those up to there.
+        // So it is the first of those from there on, and the last of those up to there.
         ensures first { drop place self.now.values ≡ (result.0.now, result.1.now) ∷ drop (place + 1) self.now.values }
         ensures last { take (place + 1) self.now.values ≡ take place self.now.values ++ (result.0.now, result.1.now) ∷ [] }
     {
@@ -253,7 +253,7 @@ impl<'a> Lines<'a> {
         }
     }
 
-    /// Those before one.
+    /// The lines before this place.
     pub fn before(&self, place: usize) -> Lines<'a>
         requires { place ≤ length self.now.values }
         ensures { result.values ≡ take place self.now.values }
@@ -272,17 +272,17 @@ impl<'a> Lines<'a> {
         }
     }
 
-    /// The bytes that were received; none of a message that the server built.
+    /// The received bytes; none of a message that the server built.
     pub fn received(&self) -> &'a [u8]
         ensures { result.now ≡ self.now.received }
     {
         self.received
     }
 
-    /// Where the value of a line stands among the bytes received; None where the line is an edit or is not there.
+    /// The place of the value of a line among the received bytes; None where the line is an edit or does not exist.
     pub fn span(&self, place: usize) -> Option<Span>
         ensures place { result ≡ span_at self.now.places place }
-        // The value is the bytes that stand there.
+        // The value is the bytes at that place.
         ensures value { IfSome result (λ p. option_map (λ l. l.1) (slice_get self.now.values place) ≡ Some (at_place self.now.received p)) }
     {
         if place < self.held.len() {

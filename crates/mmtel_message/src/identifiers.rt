@@ -1,4 +1,4 @@
-//! What a message's five fields say of its transaction and its dialog (RFC 3261 §12, §17.1.3, §17.2.3): where it stands in its lines, and as it is kept with a message that was read.
+//! What a message's five fields say of its transaction and its dialog (RFC 3261 §12, §17.1.3, §17.2.3): in place in its lines, and as it is kept with a message that was read.
 ghost use Rattle.std.specs.Prelude.{◌≡◌, [], IfOk};
 ghost use Rattle.std.specs.Option.{option_copied, unwrap_or};
 ghost use Rattle.mmtel_message.specs.Identifiers.{identifiers_in, identifiers_of};
@@ -135,7 +135,7 @@ impl KeptIdentifiers {
         })
     }
 
-    /// What is kept.
+    /// The kept identifiers.
     pub(crate) fn lent(&self) -> Identifiers<'_>
         ensures { result ≡ self.now }
     {

@@ -1,4 +1,4 @@
-//! Laws of reading: each is the contract of a function that does nothing.
+//! Theorems about reading, each as the contract of a function that does nothing.
 ghost use Rattle.std.specs.Prelude.{◌≡◌, ◌≢◌, ◌≤◌, ◌<◌, ◌⊎◌, Bool, true, false, ℕ, List, [], ◌∷◌, ◌++◌, Some, Ok, length, codes, map};
 ghost use Rattle.std.specs.List.{list_all};
 ghost use Rattle.std.specs.Str.{bytes_eq, str_to_ascii_lowercase};
@@ -33,33 +33,33 @@ ghost use Rattle.mmtel_message.specs.declared.messages.Start.TheVariants.{Reques
 ghost use Rattle.mmtel_message.specs.declared.values.Mode.{Mode};
 ghost use Rattle.mmtel_message.specs.declared.values.Mode.TheVariants.{Plain, Words};
 
-/// A datagram of lines of which none continues another is read of its lines: of the start line, of what each header line says, and of the body.
+/// A datagram of lines of which none continues another is read from its lines: from the start line, from what each header line says, and from the body.
 pub fn lines_decide()
     ensures lines { (first : List ℕ) (rs : List (List ℕ)) (body : List ℕ) → IsWhole first → AreWhole rs → AreUnfolded rs → length (datagram first rs body) ≤ 16384 →
         reads (datagram first rs body) ≡ after_start (map header_line rs) body (start_at first) }
 {}
 
-/// Names that differ in case alone are spelled alike, but for one that the tables do not have; a compact form is spelled in full; and a name that is spelled in full stays so.
+/// Names that differ in case alone have the same spelling, unless the tables do not have them; a compact form is spelled in full; and a name that is spelled in full stays so.
 pub fn case_does_not_matter()
     ensures case { (n m : List ℕ) → str_to_ascii_lowercase n ≡ str_to_ascii_lowercase m → (long_name n ≡ long_name m) ⊎ (long_name m ≡ m) }
     ensures compact { list_all (λ x. bytes_eq (long_name x.0) x.1) (compact_forms ++ more_compact_forms) ≡ true }
     ensures once { (n : List ℕ) → IsToken n → long_name (long_name n) ≡ long_name n }
 {}
 
-/// A line says the same in each spelling of its name, its compact form among them, and with any blanks around its colon and behind its value.
+/// A line says the same in each spelling of its name, its compact form among them, and with any blanks around its colon and after its value.
 pub fn spelling_does_not_matter()
     ensures line { (n m a b c v : List ℕ) → IsToken n → IsToken m → long_name n ≡ long_name m → IsAll Blank a → IsAll Blank b → IsAll Blank c →
         header_line (n ++ (a ++ (58 ∷ (b ++ (v ++ c))))) ≡ header_line (m ++ (58 ∷ v)) }
 {}
 
-/// Of datagrams within the limit that differ in one line, and there say the same, the same is read.
+/// Datagrams within the limit that differ in one line, which says the same in both, are read with the same result.
 pub fn lines_that_say_the_same()
     ensures reading { (first : List ℕ) (xs ys : List (List ℕ)) (r q body : List ℕ) → header_line r ≡ header_line q → IsWhole first → AreWhole (xs ++ r ∷ ys) →
         AreUnfolded (xs ++ r ∷ ys) → AreWhole (xs ++ q ∷ ys) → AreUnfolded (xs ++ q ∷ ys) → length (datagram first (xs ++ r ∷ ys) body) ≤ 16384 →
         length (datagram first (xs ++ q ∷ ys) body) ≤ 16384 → reads (datagram first (xs ++ r ∷ ys) body) ≡ reads (datagram first (xs ++ q ∷ ys) body) }
 {}
 
-/// Of datagrams within the limit that differ in a fold in place of one SP between bytes of a line that are no blanks, the same is read.
+/// Datagrams within the limit that differ in a fold in place of one SP between bytes of a line that are no blanks are read with the same result.
 pub fn folds_do_not_matter()
     ensures reading { (first : List ℕ) (xs ys : List (List ℕ)) (x y body : List ℕ) → 0 < length x → starts_blank x ≡ false → trimmed Blank x ≡ x → starts_blank y ≡ false →
         IsWhole first → AreWhole (xs ++ x ∷ (32 ∷ y) ∷ ys) → AreWhole (xs ++ (x ++ 32 ∷ y) ∷ ys) → length (datagram first (xs ++ x ∷ (32 ∷ y) ∷ ys) body) ≤ 16384 →
@@ -67,7 +67,7 @@ pub fn folds_do_not_matter()
         reads (datagram first (xs ++ x ∷ (32 ∷ y) ∷ ys) body) ≡ reads (datagram first (xs ++ (x ++ 32 ∷ y) ∷ ys) body) }
 {}
 
-/// Bytes behind the body of a message that says its length do not matter, within the limit.
+/// Bytes after the body of a message that has Content-Length do not matter, within the limit.
 pub fn bytes_behind_the_body_do_not_matter()
     ensures reading { (s x v : List ℕ) (m : Message Start) → reads s ≡ Ok m → first_value (codes "Content-Length") m.lines ≡ Some v → length (s ++ x) ≤ 16384 →
         reads (s ++ x) ≡ Ok m }
@@ -79,7 +79,7 @@ pub fn histories_are_readable()
     ensures few { (b : List ℕ) (m : Message Start) → reads b ≡ Ok m → length (values_named Plain (codes "History-Info") m.lines) ≤ 32 }
 {}
 
-/// What is read of a name rests on the lines of that name alone.
+/// What is read of a name depends on the lines of that name alone.
 pub fn other_names_do_not_matter()
     ensures first { (name : List ℕ) (ls ks : List (List ℕ × List ℕ)) → named name ls ≡ named name ks → first_value name ls ≡ first_value name ks }
     ensures only { (name : List ℕ) (ls ks : List (List ℕ × List ℕ)) → named name ls ≡ named name ks → only_value name ls ≡ only_value name ks }
@@ -89,7 +89,7 @@ pub fn other_names_do_not_matter()
         five_at ls ≡ five_at ks }
 {}
 
-/// Another value of a name, or none, leaves the lines of each other name as they are: a private place's value does not change what is read of another.
+/// Another value of a name, or none, leaves the lines of each other name as they are: the value of a private place does not change what is read of another.
 pub fn other_values_stay()
     ensures set { (name value other : List ℕ) (ls : List (List ℕ × List ℕ)) → str_to_ascii_lowercase name ≢ str_to_ascii_lowercase other →
         named other (replaced name value ls) ≡ named other ls }
@@ -97,13 +97,13 @@ pub fn other_values_stay()
         named other (dropped name ls) ≡ named other ls }
 {}
 
-/// The lines that a head is split into, with a line end between two, are the head, and no line holds a line end.
+/// The lines that a head is split into, with a line end between two, are the head, and no line contains a line end.
 pub fn lines_are_the_whole()
     ensures whole { (s : List ℕ) → text_of (split s) ≡ s }
     ensures apart { (s : List ℕ) → AreApart (split s) }
 {}
 
-/// Where the five fields stand of lines that have them (RFC 3261 §8.1.1): each but Via on the only line of its name.
+/// Where the five fields are in lines that have them (RFC 3261 §8.1.1): each except Via on the only line of its name.
 pub fn fields_stand_on_lines()
     ensures from { (ls : List (List ℕ × List ℕ)) (five : Five) → five_at ls ≡ Some five → (v : List ℕ) × IsOnly (codes "From") ls v × (name_addr_of v ≡ Some five.from) }
     ensures to { (ls : List (List ℕ × List ℕ)) (five : Five) → five_at ls ≡ Some five → (v : List ℕ) × IsOnly (codes "To") ls v × (name_addr_of v ≡ Some five.to) }
@@ -111,15 +111,15 @@ pub fn fields_stand_on_lines()
     ensures cseq { (ls : List (List ℕ × List ℕ)) (five : Five) → five_at ls ≡ Some five → (v : List ℕ) × IsOnly (codes "CSeq") ls v × (cseq_at v ≡ Some five.cseq) }
 {}
 
-/// The five fields of a message that was read are there (RFC 3261 §8.1.1), and its first Via value is the text of its first Via line.
+/// The five fields of a message that was read exist (RFC 3261 §8.1.1), and its first Via value is the text of its first Via line.
 pub fn fields_are_read()
     ensures five { (b : List ℕ) (m : Message Start) → reads b ≡ Ok m → (five : Five) × (five_at m.lines ≡ Some five) }
     ensures via { (b : List ℕ) (m : Message Start) (five : Five) → reads b ≡ Ok m → five_at m.lines ≡ Some five →
         (v : List ℕ) × (first_value (codes "Via") m.lines ≡ Some v) × (via_at v ≡ Some five.via) }
 {}
 
-/// A request that was read: CSeq says its method (RFC 3261 §8.1.1.5), From has a tag (§8.1.1.3),
-/// the first Via branch begins with the cookie (§8.1.1.7), and the Request-URI is of the grammar or of another scheme (§8.2.2.1).
+/// A request that was read: CSeq has its method (RFC 3261 §8.1.1.5), From has a tag (§8.1.1.3),
+/// the first Via branch begins with the magic cookie (§8.1.1.7), and the Request-URI is of the grammar or of another scheme (§8.2.2.1).
 pub fn requests_are_sound()
     ensures method { (b : List ℕ) (m : Message Start) (five : Five) (method uri : List ℕ) → reads b ≡ Ok m → m.start ≡ Request method uri → five_at m.lines ≡ Some five →
         five.cseq.method ≡ method }
@@ -128,7 +128,7 @@ pub fn requests_are_sound()
     ensures target { (b : List ℕ) (m : Message Start) (method uri : List ℕ) → reads b ≡ Ok m → m.start ≡ Request method uri → is_malformed (uri_of uri) ≡ false }
 {}
 
-/// Max-Forwards of a request that was read is a number up to 255, and is there once at most (RFC 3261 §20.22).
+/// Max-Forwards of a request that was read is a number up to 255, and occurs once at most (RFC 3261 §20.22).
 pub fn hops_are_numbers()
     ensures number { (b : List ℕ) (m : Message Start) → reads b ≡ Ok m → is_request m.start ≡ true → list_all is_hops (line_texts (codes "Max-Forwards") m.lines) ≡ true }
     ensures once { (b : List ℕ) (m : Message Start) → reads b ≡ Ok m → is_request m.start ≡ true → length (named (codes "Max-Forwards") m.lines) ≤ 1 }
@@ -157,7 +157,7 @@ pub fn privacy_has_words()
     ensures words { (b : List ℕ) (m : Message Start) → reads b ≡ Ok m → are_words (values_named Words (codes "Privacy") m.lines) ≡ true }
 {}
 
-/// The values of a listed name in a message that was read stand one a line.
+/// The values of a listed name in a message that was read are one per line.
 pub fn listed_values_stand_alone()
     ensures via { (b : List ℕ) (m : Message Start) → reads b ≡ Ok m → StandsOneALine (codes "Via") m.lines }
     ensures route { (b : List ℕ) (m : Message Start) → reads b ≡ Ok m → StandsOneALine (codes "Route") m.lines }
@@ -174,18 +174,18 @@ pub fn codes_are_in_range()
     ensures code { (b : List ℕ) (m : Message Start) (code : ℕ) (phrase : List ℕ) → reads b ≡ Ok m → m.start ≡ Status code phrase → (100 ≤ code) × (code ≤ 699) }
 {}
 
-/// Content-Length of a message that was read is the length of its body, where it is there (RFC 3261 §20.14).
+/// Content-Length of a message that was read is the length of its body, where the field is present (RFC 3261 §20.14).
 pub fn bodies_are_as_long_as_said()
     ensures length { (b : List ℕ) (m : Message Start) (v : List ℕ) → reads b ≡ Ok m → first_value (codes "Content-Length") m.lines ≡ Some v →
         number_of (length m.body) v ≡ Some (length m.body) }
 {}
 
-/// What holds of the text of each line of a name holds of the first.
+/// What holds for the text of each line of a name holds for the first.
 pub fn the_first_is_one_of_them()
     ensures text { (p : List ℕ → Bool) (name v : List ℕ) (ls : List (List ℕ × List ℕ)) → list_all p (line_texts name ls) ≡ true → first_value name ls ≡ Some v → p v ≡ true }
 {}
 
-/// A Via value that is completed is one Via value, which is read as that Via with the port and the address that the request came from (RFC 3261 §18.2.1, RFC 3581 §4).
+/// A Via value that is completed is one Via value, which is read as the original Via with the port and the address that the request came from (RFC 3261 §18.2.1, RFC 3581 §4).
 /// Its branch and its sent-by stay, so that the response belongs to the same transaction (RFC 3261 §17.1.3).
 pub fn completed_vias_name_their_transaction()
     ensures read { (source : Addr) (value : List ℕ) (via : Via) → IsSource source → via_at value ≡ Some via → via_at (completed source value) ≡ Some (completed_via source via) }
@@ -206,8 +206,8 @@ pub fn responses_repeat_their_requests()
     ensures cseq { (start : Start) (ls : List Line) (r : Reply) → BringsNone r → named (codes "CSeq") (response start ls r).lines ≡ named (codes "CSeq") ls }
 {}
 
-/// The five fields of a response are read (RFC 3261 §8.1.1): those of its request, Via completed and To with the tag, which is read back where the request had none, and
-/// the request's where it had one.
+/// The five fields of a response are read (RFC 3261 §8.1.1): those of its request, Via completed and To with the tag. That tag is read back where the request had none, and
+/// otherwise the request's own.
 pub fn responses_have_the_fields()
     ensures five { (start : Start) (ls : List Line) (r : Reply) (five : Five) → IsSendable r → AreLinesWith five ls →
         five_at (response start ls r).lines ≡ Some (five_answered r five) }
@@ -215,8 +215,8 @@ pub fn responses_have_the_fields()
     ensures kept { (tag : List ℕ) (n : NameAddr) (given : List ℕ) → param_value (codes "tag") n.params ≡ Some given → to_answered tag n ≡ n }
 {}
 
-/// A response that says no way to the server is the same of the request and of a reply's own lines: so the reply that a fault of reading carries is completed from itself.
-/// From 300 on a response says none.
+/// A response without a Contact of the server is the same for the request and for the lines of a reply alone: so the reply that a fault of reading carries is
+/// completed from its own lines. From 300 on a response has no Contact of the server.
 pub fn replies_can_be_completed()
     ensures completed { (a b : Start) (code : ℕ) (phrase : List ℕ) (ls : List Line) (r : Reply) → SaysNoWay r.code a → SaysNoWay r.code b →
         response a (reply_with code phrase ls).lines r ≡ response b ls r }

@@ -1,4 +1,4 @@
-//! The values of the lines of a name, one behind another, as they stand in a message.
+//! The values of the lines of a name, one after another, in place in a message.
 ghost use Rattle.std.specs.Prelude.{◌≡◌, ◌∷◌, [], drop};
 ghost use Rattle.std.specs.Iterator.{YieldsFirstRef, item_count};
 ghost use Rattle.std.specs.Option.{MatchOption};
@@ -8,7 +8,7 @@ use crate::held::Lines;
 use crate::messages::Msg;
 use std::marker::Model;
 
-/// The value of the first line of the name from this place on, and the place behind it.
+/// The value of the first line of the name from this place on, and the place after it.
 fn next_value<'a>(lines: &Lines<'a>, name: &[u8], from: usize) -> Option<(&'a [u8], usize)>
     ensures { MatchOption result (line_texts name.now (drop from lines.now.values) ≡ [])
         (λ x. line_texts name.now (drop from lines.now.values) ≡ x.0.now ∷ line_texts name.now (drop x.1 lines.now.values)) }
@@ -19,7 +19,7 @@ fn next_value<'a>(lines: &Lines<'a>, name: &[u8], from: usize) -> Option<(&'a [u
     }
 }
 
-/// The values of the lines of a name, in order, borrowed from their message. Contracts see it as the list of those that are left.
+/// The values of the lines of a name, in order, borrowed from their message. In contracts it is the list of those that remain.
 #[derive(Drop)]
 pub struct ValuesIn<'a> {
     lines: Lines<'a>,
@@ -55,7 +55,7 @@ impl<'a> Iterator for ValuesIn<'a> {
 }
 
 impl Msg {
-    /// The values of the lines of the name, which is compared without case, in order and borrowed. It takes no memory.
+    /// The values of the lines of the name, which is compared without case, in order and borrowed. It allocates nothing.
     pub fn values_in<'a>(&'a self, name: &'a [u8]) -> ValuesIn<'a>
         ensures { result ≡ line_texts name.now self.now.lines }
     {

@@ -1,4 +1,4 @@
-//! A message parted into lines.
+//! Splitting a message into lines.
 ghost use Rattle.std.specs.Prelude.{◌≡◌, ◌∷◌, ◌++◌, ◌+◌, ◌≤◌, true, false, Some, length, map, take, drop, reverse, IfOk, IfSome, MatchOption, OnOk};
 ghost use Rattle.mmtel_scan.specs.Classes.{IsAll, Stops};
 ghost use Rattle.mmtel_scan.specs.Scanning.{trimmed};
@@ -14,10 +14,10 @@ use mmtel_lex::{List, NoMemory, Text};
 use mmtel_scan::{Class, split_run, trim_end};
 use std::alloc::Global;
 
-/// For so many lines there is room at once: as many as stand in a block that is quickly had again, and few messages have more.
+/// For this many lines there is capacity from the start: few messages have more, and a block of this size is quickly allocated again.
 const USUAL_LINES: usize = 14;
 
-/// What parts a message.
+/// What separates parts of a message: the end of a line, or of the head.
 #[derive(Clone, Copy)]
 pub enum Break {
     Line,
@@ -25,7 +25,7 @@ pub enum Break {
 }
 
 impl Break {
-    /// Whether it comes first.
+    /// Whether the bytes begin with it.
     pub fn is_first(self, bytes: &[u8]) -> bool
         ensures { result ≡ begins self bytes.now }
     {
@@ -36,7 +36,7 @@ impl Break {
     }
 }
 
-/// The first place where it comes.
+/// The first place where it occurs.
 pub fn place(mark: Break, bytes: &[u8]) -> Option<usize>
     ensures place { result ≡ first_break mark bytes.now }
     ensures within { IfSome result (λ n. n + width mark ≤ length bytes.now) }
@@ -66,7 +66,7 @@ fn last_line_end(bytes: &[u8]) -> Option<usize>
     found
 }
 
-/// Where the lines end that are whole.
+/// Where the last complete line ends: at the end of the head, or else at the last line end.
 pub fn whole_end(bytes: &[u8]) -> Option<usize>
     ensures place { result ≡ whole_end bytes.now }
     ensures within { IfSome result (λ n. n ≤ length bytes.now) }
@@ -93,7 +93,7 @@ fn next_line(head: &[u8], from: usize) -> (Span, Option<usize>)
     }
 }
 
-/// Whether a blank comes first.
+/// Whether the line begins with a blank.
 fn is_blank_led(line: &[u8]) -> bool
     ensures { result ≡ starts_blank line.now }
 {
@@ -114,7 +114,7 @@ fn continuing(head: &[u8], next: Option<usize>) -> Option<usize>
     }
 }
 
-/// Adds a piece, which was taken from that place on, to a line, behind a gap of blanks, and leaves no blank at the line's end.
+/// Appends to a line a gap of blanks and a piece, which was taken from that place on, and leaves no blank at the end of the line.
 fn add_trimmed(
     alloc: Global,
     line: &mut Edit,
@@ -133,7 +133,7 @@ fn add_trimmed(
     line.join(alloc, gap, kept, from)
 }
 
-/// The text of a line with those that continue it, the first of which begins at a place, and where the line behind them begins.
+/// The text of a line with those that continue it, the first of which begins at a place, and where the line after them begins.
 fn folded(
     alloc: Global,
     head: &[u8],
@@ -144,8 +144,8 @@ fn folded(
     ensures line { IfOk result (λ x. unfolded_from (at_place head.now first) (split (drop next head.now)) ≡ x.0 ∷ unfolded (rest_at head.now x.1)) }
     ensures later { IfOk result (λ x. IfSome x.1 (λ n. (next ≤ n) × (n ≤ length head.now))) }
 {
-    // The line so far in three parts: a front without a blank at its end, the gap behind it, and the piece read last,
-    // whose blanks at its end go where another line continues it. The front only grows, so no byte is added twice.
+    // The line so far in three parts: a prefix without a blank at its end, the gap after it, and the piece read last,
+    // whose blanks at its end are removed where another line continues it. The prefix only grows, so no byte is added twice.
     let mut front = Edit::of(Text::new());
     let mut gap: &[u8] = b"";
     let mut piece = at_place(head, first);
@@ -163,7 +163,7 @@ fn folded(
     Ok((front, rest))
 }
 
-/// The line that begins at a place, with those that continue it, and where the line behind them begins. It is a place among the bytes where nothing continues it.
+/// The line that begins at a place, with those that continue it, and where the line after them begins. It is a place among the bytes where nothing continues it.
 fn whole_line(
     alloc: Global,
     head: &[u8],
@@ -184,7 +184,7 @@ fn whole_line(
     }
 }
 
-/// The lines before a place of the bytes, each with those that continue it: where a line stands among the bytes, or the text that it makes with those that continue it.
+/// The lines before a place of the bytes, each with those that continue it: the place of a line among the bytes, or the text that it forms with those that continue it.
 pub fn lines(alloc: Global, bytes: &[u8], end: usize) -> Result<List<HeldValue>, NoMemory>
     requires { end ≤ length bytes.now }
     ensures { IfOk result (λ ls. map (value_of bytes.now) ls ≡ unfolded (split (take end bytes.now))) }

@@ -1,4 +1,4 @@
-//! Messages: their parts, what is found by a name, and edits (RFC 3261 §7 and §7.3.1).
+//! Messages: their parts, lookup by a name, and edits (RFC 3261 §7 and §7.3.1).
 ghost use Rattle.std.specs.Prelude.{◌≡◌, ◌∷◌, ◌+◌, ◌++◌, ◌≤◌, ◌<◌, Some, ℕ, List, length, IfOk, OnOk, OnErr, take, drop, filter, not, position, []};
 ghost use Rattle.std.specs.Option.{option_copied};
 ghost use Rattle.std.specs.Str.{str_eq_ignore_ascii_case};
@@ -21,7 +21,7 @@ use std::marker::Model;
 pub enum Start {
     /// A method and a Request-URI, as received.
     Request { method: Text, uri: Text },
-    /// A status code and its phrase.
+    /// A status code and its reason phrase.
     Status { code: u16, phrase: Text },
 }
 
@@ -30,9 +30,10 @@ pub type Line = (Text, Text);
 
 /// A message (RFC 3261 §7): its start line, its header lines in order, and its body.
 ///
-/// A message that `read` gave has names in full and one value of a listed name a line; edits keep the names that they are given. It keeps what its five fields say until it is edited.
+/// In a message that `read` returned, names are spelled in full and the values of a listed name are one per line; edits keep the names that they are given. What its five fields
+/// say is kept until it is edited.
 ///
-/// The values of a message that was received are places among the bytes that came, as long as nobody edits their lines.
+/// The values of a message that was received are places among the received bytes, as long as nobody edits their lines.
 #[derive(Drop)]
 pub struct Msg {
     start: Start,
@@ -55,7 +56,7 @@ impl Model for Msg {
 
     ghost view = { λ m. record { start = m.start; lines = lines_of m.received m.held m.added; body = value_of m.received m.body } };
 
-    // What is kept of the five fields is what they say.
+    // The kept identifiers are those of the five fields.
     ghost invariant = { λ m. IfSome m.identifiers (λ kept. identifiers_in (lines_of m.received m.held m.added) ≡ Some kept.value) };
 }
 
@@ -103,7 +104,7 @@ fn drop_named<V: Drop>(lines: &mut List<(Text, V)>, from: usize, name: &[u8])
     }
 }
 
-/// The values of the lines of the name, in order: parted as the mode says.
+/// The values of the lines of the name, in order: split as the mode says.
 pub fn values_named(
     alloc: Global,
     mode: Mode,
@@ -145,7 +146,7 @@ pub fn has_line(name: &[u8], lines: &Lines<'_>) -> bool
     lines.next_named(name, 0).is_some()
 }
 
-/// Drops the lines of the name.
+/// Removes the lines of the name.
 fn drop_lines(held: &mut List<Held>, added: &mut List<Line>, name: &[u8])
     ensures { (s : List ℕ) → lines_of s held.new added.new ≡ dropped name.now (lines_of s held.old added.old) }
 {
@@ -153,7 +154,7 @@ fn drop_lines(held: &mut List<Held>, added: &mut List<Line>, name: &[u8])
     drop_named(added, 0, name);
 }
 
-/// Gives the first of the added lines of the name this value and this spelling, and drops further ones, or adds a line.
+/// Sets the value and the spelling of the first of the added lines of the name, and removes further ones, or adds a line.
 fn set_added(
     alloc: Global,
     added: &mut List<Line>,
@@ -177,7 +178,7 @@ fn set_added(
     }
 }
 
-/// Gives the first line of the name this value and this spelling, and drops further ones, or adds a line.
+/// Sets the value and the spelling of the first line of the name, and removes further ones, or adds a line.
 fn set_line(
     alloc: Global,
     held: &mut List<Held>,
@@ -203,7 +204,7 @@ fn set_line(
     }
 }
 
-/// Puts a line before all others.
+/// Inserts a line before all others.
 fn push_line(
     alloc: Global,
     held: &mut List<Held>,
@@ -245,7 +246,7 @@ impl Msg {
         }
     }
 
-    /// A message that was received as these bytes: its lines, and its body, which are places among them or edits; and what its five fields say.
+    /// A message that was received as these bytes: its lines and its body, which are places among them or edits; and what its five fields say.
     pub fn held(
         start: Start,
         received: Text,
@@ -287,13 +288,13 @@ impl Msg {
         Lines::of(self.received.bytes(), self.held.items(), self.added.items())
     }
 
-    /// The bytes that were received, of a message that `read` or `read_held` gave; none of one that the server built.
+    /// The received bytes, of a message that `read` or `read_held` returned; none of one that the server built.
     pub fn received(&self) -> &[u8] {
         self.received.bytes()
     }
 
-    /// What the five fields say of the message's transaction and its dialog; None exactly where one of them cannot be read. A message that was read and not edited keeps it, of
-    /// another one the fields are read. It takes no memory.
+    /// What the five fields say of the message's transaction and its dialog; None exactly where one of them cannot be read. For a message that was read and not edited it is kept,
+    /// for another one the fields are read. It allocates nothing.
     pub fn identifiers(&self) -> Option<Identifiers<'_>>
         ensures { result ≡ identifiers_in self.now.lines }
     {
@@ -303,7 +304,7 @@ impl Msg {
         }
     }
 
-    /// Where the value of a line stands in `received`; None where the line is an edit or is not there. What stands there is the value: see `Lines::span`.
+    /// The place of the value of a line in `received`; None where the line is an edit or does not exist. What is at that place is the value: see `Lines::span`.
     pub fn span(&self, line: usize) -> Option<Span> {
         self.lines().span(line)
     }
@@ -315,11 +316,11 @@ impl Msg {
         first_of(&self.lines(), name)
     }
 
-    /// The values of a listed name (RFC 3261 §7.3.1): those of all its lines, one per comma.
+    /// The values of a listed name (RFC 3261 §7.3.1): those of all its lines, separated by commas.
     ///
     /// # Errors
     ///
-    /// Want of memory alone.
+    /// Out of memory only.
     pub fn values(&self, alloc: Global, name: &[u8]) -> Result<List<Text>, NoMemory>
         ensures { IfOk result (λ vs. vs ≡ values_named Plain name.now self.now.lines) }
     {
@@ -330,7 +331,7 @@ impl Msg {
     ///
     /// # Errors
     ///
-    /// Want of memory alone; the message is then as before, and the value is given up.
+    /// Out of memory only; the message is then as before, and the value is dropped.
     pub fn add(&mut self, alloc: Global, name: &[u8], value: Text) -> Result<(), NoMemory>
         ensures ok { OnOk result (self.new ≡ record self.old { lines = self.old.lines ++ (name.now, value) ∷ [] }) }
         ensures err { OnErr result (self.new ≡ self.old) }
@@ -341,11 +342,11 @@ impl Msg {
         Ok(())
     }
 
-    /// Adds a line before all others.
+    /// Inserts a line before all others.
     ///
     /// # Errors
     ///
-    /// Want of memory alone; the message is then as before, and the value is given up.
+    /// Out of memory only; the message is then as before, and the value is dropped.
     pub fn push_front(&mut self, alloc: Global, name: &[u8], value: Text) -> Result<(), NoMemory>
         ensures ok { OnOk result (self.new ≡ record self.old { lines = (name.now, value) ∷ self.old.lines }) }
         ensures err { OnErr result (self.new ≡ self.old) }
@@ -354,7 +355,7 @@ impl Msg {
         push_line(alloc, &mut self.held, &mut self.added, name, value)
     }
 
-    /// Drops the lines of the name.
+    /// Removes the lines of the name.
     pub fn drop_all(&mut self, name: &[u8])
         ensures { self.new ≡ record self.old { lines = dropped name.now self.old.lines } }
     {
@@ -362,11 +363,11 @@ impl Msg {
         drop_lines(&mut self.held, &mut self.added, name);
     }
 
-    /// Gives the first line of the name this value and this spelling, and drops further ones, or adds a line at the end.
+    /// Sets the value and the spelling of the first line of the name, and removes further ones, or adds a line at the end.
     ///
     /// # Errors
     ///
-    /// Want of memory alone; the message is then as before, and the value is given up.
+    /// Out of memory only; the message is then as before, and the value is dropped.
     pub fn set(&mut self, alloc: Global, name: &[u8], value: Text) -> Result<(), NoMemory>
         ensures ok { OnOk result (self.new ≡ record self.old { lines = replaced name.now value self.old.lines }) }
         ensures err { OnErr result (self.new ≡ self.old) }

@@ -1,8 +1,8 @@
-//! The phrases of statuses.
+//! Reason phrases.
 ghost use Rattle.std.specs.Prelude.{◌≡◌};
 ghost use Rattle.mmtel_message.specs.Phrases.{phrase_of};
 
-/// The phrase of a status that the server makes (RFC 3261 §21); no bytes for any other.
+/// The reason phrase of a status that the server generates (RFC 3261 §21); no bytes for any other.
 pub fn phrase_of(code: u16) -> &'static [u8]
     ensures table { result.now ≡ phrase_of code }
 {

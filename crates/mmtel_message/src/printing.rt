@@ -1,4 +1,4 @@
-//! The canonical text.
+//! Writing a message: its canonical text.
 ghost use Rattle.std.specs.Prelude.{◌≡◌, ◌++◌, OnOk, IfOk, Ok};
 ghost use Rattle.mmtel_message.specs.Canonical.{IsCanonical, IsWithinLimits};
 ghost use Rattle.mmtel_message.specs.Held.{held_lines};
@@ -86,14 +86,14 @@ fn start_room(start: &Start) -> usize {
     }
 }
 
-/// The room for what is before and a line of this name and value.
+/// The capacity for what is before and a line of this name and value.
 fn room_with(room: usize, name: &[u8], value: &[u8]) -> usize {
     room.saturating_add(name.len())
         .saturating_add(value.len())
         .saturating_add(b": \r\n".len())
 }
 
-/// The room for what is before and these lines, which were received.
+/// The capacity for what is before and these lines, which were received.
 fn room_with_received(before: usize, received: &[u8], held: &[Held]) -> usize {
     let mut room = before;
     for line in held {
@@ -102,7 +102,7 @@ fn room_with_received(before: usize, received: &[u8], held: &[Held]) -> usize {
     room
 }
 
-/// The room for what is before and these lines, which were added.
+/// The capacity for what is before and these lines, which were added.
 fn room_with_added(before: usize, added: &[Line]) -> usize {
     let mut room = before;
     for line in added {
@@ -117,7 +117,7 @@ fn lines_room(lines: &Lines<'_>) -> usize {
     room_with_added(room_with_received(0, received, held), added)
 }
 
-/// Room for the text of a message. What finds none there still is added.
+/// The capacity for the text of a message. A text that exceeds it is still written.
 fn room_of(m: &Msg) -> usize {
     start_room(m.start())
         .saturating_add(lines_room(&m.lines()))
@@ -142,7 +142,7 @@ impl Msg {
     ///
     /// # Errors
     ///
-    /// Want of memory alone.
+    /// Out of memory only.
     pub fn text(&self, alloc: Global) -> Result<Text, NoMemory>
         ensures text { IfOk result (λ t. t ≡ message_text self.now) }
         // The text of a canonical message that fits into a datagram is read as that message.

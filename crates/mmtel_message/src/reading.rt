@@ -1,4 +1,4 @@
-//! Reading.
+//! Reading a message.
 ghost use Rattle.std.specs.Prelude.{◌≡◌, ◌≤◌, ◌<◌, ◌+◌, ℕ, List, Some, Ok, Err, IfOk, MatchResult, codes, drop, length, map, take};
 ghost use Rattle.mmtel_message.specs.Expansion.{expanded};
 ghost use Rattle.mmtel_message.specs.Headers.{header_line};
@@ -23,16 +23,16 @@ use mmtel_lex::{LexFault, List, NoMemory, Text};
 use mmtel_scan::number_up_to;
 use std::alloc::Global;
 
-/// Why bytes are no message. A reply is there for a request other than ACK; its To has no tag yet.
+/// Why bytes are no message. There is a reply for a request other than ACK; its To has no tag yet.
 #[derive(Drop)]
 pub enum ReadFault {
     /// Over 16,384 bytes. The reply is a 513; there is none where the start line or one of the five fields cannot be read in the first 16,384 bytes.
     TooLarge { reply: Option<Msg> },
-    /// No end of the head, no start line, or one of the five fields cannot be read.
+    /// There is no end of the head or no start line, or one of the five fields cannot be read.
     NotSip,
     /// Over 128 header lines. The reply is a 513.
     TooMany { reply: Option<Msg> },
-    /// A line that is at fault: 0 for the start line, header lines from 1 after folds are joined, and the number of header lines plus 1 for what is absent. The reply is a 400.
+    /// A line has a fault: 0 for the start line, header lines from 1 after folds are joined, and the number of header lines plus 1 for an absent field. The reply is a 400.
     Bad { at: usize, reply: Option<Msg> },
     NoMemory,
 }
@@ -45,7 +45,7 @@ impl From<NoMemory> for ReadFault {
     }
 }
 
-/// How long the body is: as many bytes behind the head as Content-Length says, or all.
+/// The length of the body: as many bytes after the head as Content-Length says, or all.
 fn body_len(lines: &Lines<'_>, rest: usize) -> usize
     ensures body { (s : List ℕ) → length s ≡ rest → take result s ≡ body_of lines.now.values s }
     ensures within { result ≤ rest }
@@ -79,7 +79,7 @@ fn bad(alloc: Global, start: &Start, bytes: &[u8], lines: &[Held], at: usize) ->
     }
 }
 
-/// Those in a box of their own.
+/// These identifiers in a box of their own.
 fn boxed(alloc: Global, identifiers: KeptIdentifiers) -> Result<Box<KeptIdentifiers>, NoMemory>
     ensures { IfOk result (λ b. b.value ≡ identifiers) }
 {
@@ -220,7 +220,7 @@ fn read_head(alloc: Global, bytes: Text, end: usize) -> Result<Msg, ReadFault>
     read
 }
 
-/// The reply to what is too large and has this start line and these header lines.
+/// The reply to a message that is too large and has this start line and these header lines.
 fn large_of_start(
     alloc: Global,
     start: &Start,
@@ -252,7 +252,7 @@ fn large_of_lines(alloc: Global, bytes: &[u8], lines: &[HeldValue]) -> Result<Op
     }
 }
 
-/// The reply to what begins with these bytes and is too large.
+/// The reply to a message that begins with these bytes and is too large.
 fn large_reply(alloc: Global, bytes: &[u8]) -> Result<Option<Msg>, NoMemory>
     ensures { IfOk result (λ m. m ≡ large_reply bytes.now) }
 {
@@ -265,7 +265,7 @@ fn large_reply(alloc: Global, bytes: &[u8]) -> Result<Option<Msg>, NoMemory>
     }
 }
 
-/// Refuses bytes that are too many.
+/// Refuses a message of too many bytes.
 fn too_large(alloc: Global, bytes: &[u8]) -> Result<Msg, ReadFault>
     requires { 16384 < length bytes.now }
     ensures { Reads result (Err (fault.TooLarge (large_reply (take 16384 bytes.now)))) }
@@ -287,15 +287,15 @@ fn read_bytes(alloc: Global, bytes: Text) -> Result<Msg, ReadFault>
     }
 }
 
-/// Reads a message (RFC 3261 §7, §18.3 and §25.1), which keeps the bytes: its values stand among them, as far as they stand there in one piece.
+/// Reads a message (RFC 3261 §7, §18.3 and §25.1), which keeps the bytes: its values are places among them, where they are contiguous there.
 ///
-/// Folds are joined, names are spelled in full, a listed name has one value a line, and the body is as long as Content-Length says. On a refusal the bytes are given up.
+/// Folds are joined, names are spelled in full, the values of a listed name are one per line, and the body is as long as Content-Length says. On a refusal the bytes are dropped.
 ///
 /// # Errors
 ///
-/// The first that holds of: `TooLarge` for over 16,384 bytes, `NotSip`, `TooMany` for over 128 header lines, `Bad` for the first fault in the order of lines. And want of memory.
+/// The first that applies of: `TooLarge` for over 16,384 bytes, `NotSip`, `TooMany` for over 128 header lines, `Bad` for the first fault in the order of lines. And out of memory.
 pub fn read_held(alloc: Global, bytes: Text) -> Result<Msg, ReadFault>
-    // The answer is that of the definition, with the reply that it gives.
+    // The result is that of the definition, with the reply that it gives.
     ensures exact { Reads result (reads bytes) }
     // What is read can be printed and is read again: see `Msg::text`.
     ensures canonical { IfOk result (λ m. IsCanonical m) }
@@ -309,7 +309,7 @@ pub fn read_held(alloc: Global, bytes: Text) -> Result<Msg, ReadFault>
 ///
 /// Those of `read_held`.
 pub fn read(alloc: Global, bytes: &[u8]) -> Result<Msg, ReadFault>
-    // The answer is that of the definition, with the reply that it gives.
+    // The result is that of the definition, with the reply that it gives.
     ensures exact { Reads result (reads bytes.now) }
     // What is read can be printed and is read again: see `Msg::text`.
     ensures canonical { IfOk result (λ m. IsCanonical m) }

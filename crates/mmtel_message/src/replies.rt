@@ -1,4 +1,4 @@
-//! The reply to a request that is refused as it is read (RFC 3261 §8.2.6).
+//! The reply to a request that is refused when it is read (RFC 3261 §8.2.6).
 ghost use Rattle.std.specs.Prelude.{◌≡◌, IfOk};
 ghost use Rattle.mmtel_message.specs.Held.{held_lines};
 ghost use Rattle.mmtel_message.specs.Replies.{is_answered, reply_to, reply_with};
@@ -11,11 +11,11 @@ use crate::responses::{Reply, response};
 use mmtel_lex::{List, NoMemory, Text};
 use std::alloc::Global;
 
-/// The response of this status to a request of these lines, of which it makes no dialog: its Via lines, From, To, Call-ID and CSeq as received, and no body (RFC 3261 §8.2.6).
+/// The response of this status to a request of these lines, which creates no dialog: its Via lines, From, To, Call-ID and CSeq as received, and no body (RFC 3261 §8.2.6).
 ///
 /// # Errors
 ///
-/// Want of memory alone.
+/// Out of memory only.
 #[tactic(auto, unfolding(crate::specs::Replies::reply_with))]
 pub fn reply_with(
     alloc: Global,

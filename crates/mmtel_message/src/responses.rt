@@ -16,25 +16,25 @@ use mmtel_types::Addr;
 use std::alloc::Global;
 use std::marker::Model;
 
-/// How many lines a response has room for at first.
+/// For how many lines a response has capacity at first.
 const ROOM: usize = 12;
 
-/// What a response has that its request does not say.
+/// The parts of a response that its request does not determine.
 #[derive(Drop)]
 pub struct Reply<'a> {
     /// The status, 100 to 699.
     pub code: u16,
-    /// Its phrase.
+    /// Its reason phrase.
     pub phrase: &'a [u8],
-    /// The server's tag for a To that has none; no bytes where none is due. A 100 never has it.
+    /// The server's tag for a To that has none; no bytes where no tag is to be added. A 100 never has it.
     pub tag: &'a [u8],
-    /// Where the request came from, where the first Via is to say so.
+    /// The source address of the request, where it is to be written into the first Via.
     pub source: Option<Addr>,
-    /// The value of Contact, which stands in 101 to 299 of an INVITE and in 202 of a REFER.
+    /// The value of Contact, which occurs in 101 to 299 of an INVITE and in 202 of a REFER.
     pub contact: &'a [u8],
-    /// Lines that are passed on.
+    /// Lines that are copied from another message.
     pub passed: &'a [Line],
-    /// Lines that are named for this response, as Allow, Unsupported, Retry-After and Content-Type.
+    /// Lines that are specific to this response, as Allow, Unsupported, Retry-After and Content-Type.
     pub named: &'a [Line],
     /// The body.
     pub body: &'a [u8],
@@ -109,11 +109,11 @@ fn has_tag(value: &[u8]) -> bool
     }
 }
 
-/// A From or To value with a tag put behind it (RFC 3261 §19.3).
+/// A From or To value with a tag after it (RFC 3261 §19.3).
 ///
 /// # Errors
 ///
-/// Want of memory alone.
+/// Out of memory only.
 pub fn tagged(alloc: Global, value: Text, tag: &[u8]) -> Result<Text, NoMemory>
     ensures value { IfOk result (λ t. t ≡ tagged value tag.now) }
 {
@@ -196,7 +196,7 @@ fn add_call(alloc: Global, out: &mut List<Line>, lines: &Lines<'_>) -> Result<()
     append_named(alloc, out, b"CSeq", lines)
 }
 
-/// Adds what is as received.
+/// Adds the lines that are copied as received.
 #[tactic(auto, unfolding(crate::specs::Responses::heard_lines))]
 fn add_heard(
     alloc: Global,
@@ -212,7 +212,7 @@ fn add_heard(
     add_call(alloc, out, lines)
 }
 
-/// Whether a response of the code to a request with the start line makes a dialog (RFC 3261 §12.1.1, RFC 6665 §4.2.1).
+/// Whether a response of the code to a request with the start line creates a dialog (RFC 3261 §12.1.1, RFC 6665 §4.2.1).
 fn makes_dialog(code: u16, start: &Start) -> bool
     ensures { result ≡ makes_dialog code start.now }
 {
@@ -220,7 +220,7 @@ fn makes_dialog(code: u16, start: &Start) -> bool
         || (code == 200 && is_method(b"SUBSCRIBE", start))
 }
 
-/// Whether it refreshes the target of its dialog (RFC 3515 §2.2, RFC 3311 §5.2).
+/// Whether it refreshes the remote target of its dialog (RFC 3515 §2.2, RFC 3311 §5.2).
 fn refreshes_target(code: u16, start: &Start) -> bool
     ensures { result ≡ refreshes_target code start.now }
 {
@@ -228,14 +228,14 @@ fn refreshes_target(code: u16, start: &Start) -> bool
         || (code >= 200 && code <= 299 && is_method(b"UPDATE", start))
 }
 
-/// Whether it says where the server is reached.
+/// Whether it has a Contact that says where the server is reached.
 fn names_contact(code: u16, start: &Start) -> bool
     ensures { result ≡ names_contact code start.now }
 {
     makes_dialog(code, start) || refreshes_target(code, start)
 }
 
-/// Adds Record-Route, where the response makes a dialog.
+/// Adds Record-Route, where the response creates a dialog.
 #[tactic(auto, unfolding(crate::specs::Responses::route_lines))]
 fn add_routes(
     alloc: Global,
@@ -252,7 +252,7 @@ fn add_routes(
     Ok(())
 }
 
-/// Adds Contact, where it is due.
+/// Adds Contact, where the response is to have one.
 #[tactic(auto, unfolding(crate::specs::Responses::contact_lines))]
 fn add_contact(
     alloc: Global,
@@ -269,7 +269,7 @@ fn add_contact(
     Ok(())
 }
 
-/// Adds the lines of the response's own.
+/// Adds the response's own lines.
 #[tactic(auto, unfolding(crate::specs::Responses::own_lines))]
 fn add_own(
     alloc: Global,
@@ -285,7 +285,7 @@ fn add_own(
     add_decimal(alloc, out, b"Content-Length", body.len() as u64)
 }
 
-/// Adds what the server says.
+/// Adds the lines that are not the request's.
 #[tactic(auto, unfolding(crate::specs::Responses::added_lines))]
 fn add_added(
     alloc: Global,
@@ -317,11 +317,11 @@ fn tag_due(code: u16, tag: &[u8]) -> &[u8]
 
 /// The response to a request with this start line and these lines: its Via lines, the first completed where the source is given (RFC 3261 §18.2.1, RFC 3581 §4);
 /// From, Call-ID and CSeq as received, and To with the server's tag where it has none (§8.2.6.2);
-/// where the response makes a dialog, Record-Route as received and Contact (§12.1.1); and what the reply has.
+/// where the response creates a dialog, Record-Route as received and Contact (§12.1.1); and what the reply has.
 ///
 /// # Errors
 ///
-/// Want of memory alone.
+/// Out of memory only.
 #[tactic(auto, unfolding(crate::specs::Responses::response))]
 pub fn response(
     alloc: Global,

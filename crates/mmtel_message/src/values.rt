@@ -1,4 +1,4 @@
-//! The values of one text: a listed name's, which commas part (RFC 3261 §7.3.1), and Privacy's words, which `;` parts (RFC 3323 §4.2).
+//! The values of one text: of a listed name, separated by commas (RFC 3261 §7.3.1), and the words of Privacy, separated by `;` (RFC 3323 §4.2).
 ghost use Rattle.std.specs.Prelude.{◌≡◌, ◌∷◌, ◌++◌, ◌+◌, ◌-◌, ◌<◌, ◌≤◌, length, take, drop, IfOk, IfSome, OnOk};
 ghost use Rattle.std.specs.List.{flat_map};
 ghost use Rattle.std.specs.Option.{option_copied};
@@ -12,23 +12,23 @@ use mmtel_lex::{List, NoMemory, Text};
 use mmtel_scan::{Class, split_run, trim, trim_end};
 use std::alloc::Global;
 
-/// Where a byte of a text with several values stands, which decides whether it parts two of them.
+/// Where in a text with several values a byte is, which decides whether it separates two of them.
 #[derive(Clone, Copy)]
 pub enum Mode {
-    /// Outside quotes and angle brackets: a comma parts.
+    /// Outside quotes and angle brackets: a comma separates.
     Plain,
     /// In quotes.
     Quoted,
-    /// Behind a backslash in quotes.
+    /// After a backslash in quotes.
     Escaped,
     /// In angle brackets, which only `>` ends.
     Angle,
-    /// Between the words of Privacy: `;` parts, and nothing else counts.
+    /// Between the words of Privacy: `;` separates, and nothing else matters.
     Words,
 }
 
 impl Mode {
-    /// Where the next byte stands.
+    /// Where the next byte is.
     fn after(self, byte: u8) -> Mode
         ensures { result ≡ mode_after self byte }
     {
@@ -64,7 +64,7 @@ impl Mode {
     }
 }
 
-/// Whether the byte parts two values.
+/// Whether the byte separates two values.
 fn is_parting(mode: Mode, byte: u8) -> bool
     ensures { result ≡ is_parting mode byte }
 {
@@ -75,7 +75,7 @@ fn is_parting(mode: Mode, byte: u8) -> bool
     }
 }
 
-/// Where the byte behind one that parts stands.
+/// Where the byte after a separating one is.
 fn base(mode: Mode) -> Mode
     ensures { result ≡ base mode }
 {
@@ -85,7 +85,7 @@ fn base(mode: Mode) -> Mode
     }
 }
 
-/// The place of the first byte that parts, looked for byte by byte.
+/// The place of the first byte that separates, searched byte by byte.
 fn walked_parting(mode: Mode, bytes: &[u8]) -> Option<usize>
     ensures place { result ≡ parting mode bytes.now }
     ensures within { IfSome result (λ n. n < length bytes.now) }
@@ -100,7 +100,7 @@ fn walked_parting(mode: Mode, bytes: &[u8]) -> Option<usize>
     None
 }
 
-/// The only byte that may part two values.
+/// The only byte that may separate two values.
 fn separator(mode: Mode) -> u8
     ensures { result ≡ separator mode }
 {
@@ -110,7 +110,7 @@ fn separator(mode: Mode) -> u8
     }
 }
 
-/// The place of the first byte that parts. Most texts have none that may, which one search tells.
+/// The place of the first byte that separates. Most texts have no byte that may, which one search decides.
 fn parting(mode: Mode, bytes: &[u8]) -> Option<usize>
     ensures place { result ≡ parting mode bytes.now }
     ensures within { IfSome result (λ n. n < length bytes.now) }
@@ -132,7 +132,7 @@ pub fn next_part(mode: Mode, bytes: &[u8]) -> (&[u8], Option<&[u8]>)
     }
 }
 
-/// Where the part of a text from one place to another stands without the blanks around it.
+/// The place of the part of a text from one place to another, without the blanks around it.
 pub fn trimmed_place(text: &[u8], from: usize, to: usize) -> Span
     requires order { from ≤ to }
     requires within { to ≤ length text.now }
@@ -146,7 +146,7 @@ pub fn trimmed_place(text: &[u8], from: usize, to: usize) -> Span
     }
 }
 
-/// Where the first value from a place on stands in a text, and where the next one begins, if there is more.
+/// The place of the first value in a text from a place on, and where the next one begins, if there is more.
 pub fn next_value(mode: Mode, text: &[u8], from: usize) -> (Span, Option<usize>)
     requires base { base mode ≡ mode }
     requires within { from ≤ length text.now }

@@ -1,4 +1,4 @@
-//! What a server writes into the first Via of a request that it answers (RFC 3261 §18.2.1, RFC 3581 §4).
+//! What a server writes into the first Via of a request to which it responds (RFC 3261 §18.2.1, RFC 3581 §4).
 ghost use Rattle.std.specs.Prelude.{◌≡◌, ◌&&◌, ◌++◌, not, IfOk, OnOk, codes};
 ghost use Rattle.std.specs.List.{flat_map, list_any};
 ghost use Rattle.std.specs.Str.{str_eq_ignore_ascii_case};
@@ -29,7 +29,7 @@ fn is_received(param: &Param) -> bool
     param.name.bytes().eq_ignore_ascii_case(b"received")
 }
 
-/// Writes a parameter, with the port where it asks for it.
+/// Writes a parameter, with the port where it is an empty `rport`.
 fn add_param(alloc: Global, out: &mut Text, port: u16, param: &Param) -> Result<(), NoMemory>
     ensures { OnOk result (out.new ≡ out.old ++ sourced_param_text port param.now) }
 {
@@ -89,7 +89,7 @@ fn asks_any(params: &[Param]) -> bool
     params.iter().any(|param| asks_port(param))
 }
 
-/// Whether the Via names where the request came from, and asks for nothing.
+/// Whether the Via has the source address of the request, and no empty `rport`.
 fn is_from(alloc: Global, source: Addr, via: &Via) -> Result<bool, NoMemory>
     ensures { IfOk result (λ b. b ≡ is_from source via.now) }
 {
@@ -98,11 +98,11 @@ fn is_from(alloc: Global, source: Addr, via: &Via) -> Result<bool, NoMemory>
 }
 
 /// A Via value with the address and the port that the request came from, where its host is another or where it asks for them (RFC 3261 §18.2.1, RFC 3581 §4):
-/// each empty `rport` is filled, a `received` that was there goes, and one comes last. Bytes that are no Via value stay as they are.
+/// each empty `rport` is filled, a `received` that was there is removed, and one is added last. Bytes that are no Via value stay as they are.
 ///
 /// # Errors
 ///
-/// Want of memory alone.
+/// Out of memory only.
 #[tactic(auto, unfolding(crate::specs::Vias::completed))]
 pub fn completed(alloc: Global, source: Addr, value: &[u8]) -> Result<Text, NoMemory>
     ensures value { IfOk result (λ t. t ≡ completed source value.now) }

@@ -8,7 +8,7 @@ use Rattle.mmtel_sheet_grammar.specs.declared.faults.SheetFault.TheVariants.{Not
 use Rattle.mmtel_mwi.specs.Counting.{count_read, counts_from, no_messages}
 use Rattle.mmtel_mwi.specs.declared.counts.Counts.{Counts}
 
--- a refusal of the first is one of both
+-- where reading the first key fails, reading both fails with the same fault
 refuses_both : (first : Read Counts) (next : Counts → Read Counts) (x : SheetFault) → Answers first (Err x) → Answers (then_do first next) (Err x)
 refuses_both first next NotToml a = elim a [ ]
 refuses_both first next (Unknown k) a = ap (λ (r : Read Counts). then_do r next) a

@@ -1,4 +1,4 @@
--- What a map of these entries answers, and the map after an entry was put in.
+-- What a lookup in the map of these entries returns, and the map after an entry was inserted.
 use Rattle.std.proofs.Common.{◌≡◌, ℕ, List, [], ◌∷◌, refl, ap, sym, ◌∙◌}
 use Rattle.std.specs.Prelude.{Option, Some, cond}
 use Rattle.std.specs.Ordering.{nat_cmp, is_eq}
@@ -8,11 +8,11 @@ use Rattle.std.specs.FinMap.{find, get, insert, from_entries, get-insert, get-fr
 use Rattle.mmtel_mwi.specs.Boxes.{or_none}
 use Rattle.mmtel_mwi.specs.declared.counts.Counts.{Counts}
 
--- what a table of these entries answers
+-- what a lookup among these entries returns
 abbrev pub looked_up : List (ℕ × Counts) → ℕ → Option Counts
 looked_up es q = lookup (λ k. is_eq (nat_cmp q k)) es
 
--- the new entries answer as the old ones with this one
+-- a lookup among the new entries returns what it returns among the old ones with this one inserted
 abbrev pub Puts : List (ℕ × Counts) → List (ℕ × Counts) → ℕ → Counts → Type 0
 Puts old new k v = (q : ℕ) → looked_up new q ≡ cond (is_eq (nat_cmp k q)) (Some v) (looked_up old q)
 

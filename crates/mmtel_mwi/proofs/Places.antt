@@ -1,4 +1,4 @@
--- What the first of a list for which something is so becomes, by the place at which it stands, or where there is none.
+-- The first item of a list for which a predicate holds: it is replaced or removed, by its index, or where there is none.
 use Rattle.std.proofs.Common.{◌≡◌, Bool, ℕ, suc, ◌+◌, List, [], ◌∷◌, ◌++◌, Option, Some, None, refl, sym, ap, subst, slice_set, get_or, take, drop, arith, inl, inr, ◌∙◌}
 use Rattle.std.proofs.lemmas.Bool.{cases_Bool}
 use Rattle.std.specs.Prelude.{find, position}
@@ -30,7 +30,7 @@ found_there p (y ∷ ys) at x e g =
           (λ h. rw other (found_there p ys m.0 x m.1 h)) g
     ]
 
--- what stands at the place is one
+-- the item at the index is unique
 pub same_there : {X : Type 0} (p : X → Bool) (xs : List X) (at : ℕ) (x y : X) → position p xs ≡ Some at → x ≡ get_or xs at x → y ≡ get_or xs at y → x ≡ y
 same_there p xs at x y e one other = same_some x y (sym (found_there p xs at x e one) ∙ found_there p xs at y e other)
 

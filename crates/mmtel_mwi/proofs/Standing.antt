@@ -1,4 +1,4 @@
--- What each deed leaves of what was said of mailboxes, and of the numbers of subscriptions.
+-- What each operation does to the counts of mailboxes, and to the numbers of subscriptions.
 use Rattle.std.proofs.Common.{◌≡◌, ◌+◌, ◌≤◌, ℕ, Bool, true, false, cond, List, [], ◌∷◌, ◌++◌, Option, Some, None, refl, ap, arith, inl, inr, map, ◌∙◌}
 use Rattle.std.proofs.lemmas.Bool.{cases_Bool}
 use Rattle.std.specs.Prelude.{◌==◌}
@@ -12,13 +12,13 @@ use Rattle.mmtel_mwi.specs.declared.counts.Counts.{Counts}
 use Rattle.mmtel_types.specs.declared.numbers.SubNo.{SubNo}
 use Rattle.mmtel_mwi.specs.declared.subscriptions.Subscription.{Subscription}
 
--- ---- what was said last
+-- ---- the counts uploaded last
 
 chosen : (b : Bool) (counts : Counts) (before : Option Counts) (last : Counts) → or_none before ≡ last → or_none (cond b (Some counts) before) ≡ said_or (cond b (Some counts) None) last
 chosen true counts before last is = refl
 chosen false counts before last is = is
 
--- an answer says nothing of a mailbox
+-- a response changes no counts
 kept_by : (o : Option SubNo) (table : Table) → (ended_by o table).mailboxes ≡ table.mailboxes
 kept_by None table = refl
 kept_by (Some sub) table = refl

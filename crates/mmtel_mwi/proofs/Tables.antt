@@ -1,4 +1,4 @@
--- What is done on the subscription that stands at a place, as what is done on the table; and where none has the number.
+-- What is done to the subscription at an index, as what is done to the table; and where none has the number.
 use Rattle.std.proofs.Common.{◌≡◌, ◌++◌, ◌∷◌, [], ℕ, zero, suc, refl, List, Bool, true, false, Some, None, append-nil, ap, sym, slice_set, get_or, ◌∙◌}
 use Rattle.std.specs.Prelude.{is_some, position}
 use Rattle.std.specs.Option.{option_map}
@@ -12,11 +12,11 @@ use Rattle.mmtel_types.specs.declared.numbers.SubNo.{SubNo}
 use Rattle.mmtel_mwi.specs.declared.subscriptions.Subscription.{Subscription}
 use Rattle.mmtel_mwi.proofs.Places.{changed_nowhere, changed_there, found_nowhere, found_there}
 
--- the subscription of the number stands at this place
+-- the subscription of the number is at this index
 abbrev pub StandsAt : SubNo → List Subscription → ℕ → Subscription → Type 0
 StandsAt sub live at x = (position (is_numbered sub) live ≡ Some at) × (x ≡ get_or live at x)
 
--- or nowhere
+-- or at none
 abbrev pub IsGone : SubNo → List Subscription → Type 0
 IsGone sub live = position (is_numbered sub) live ≡ None
 
@@ -29,7 +29,7 @@ lives_nowhere sub t gone = ap is_some (found_nowhere (is_numbered sub) t.live go
 pub says_there : (sub : SubNo) (m : Message Start) (t : Table) (at : ℕ) (x : Subscription) → StandsAt sub t.live at x → hears x.leg.dialogue m in_flight.None ≡ says sub m t
 says_there sub m t at x there = ap (says_of m) (sym (found_there (is_numbered sub) t.live at x there.0 there.1))
 
--- it becomes another
+-- it is replaced by another
 pub changed_to : (sub : SubNo) (f : Subscription → Subscription) (live : List Subscription) (at : ℕ) (x y : Subscription) → StandsAt sub live at x → y ≡ f x
     → slice_set live at y ≡ changed (is_numbered sub) f live
 changed_to sub f live at x y there is = ap (λ (z : Subscription). slice_set live at z) is ∙ changed_there (is_numbered sub) f live at x there.0 there.1
@@ -63,7 +63,7 @@ told_nowhere sub branch t gone =
 
 -- ---- what changes nothing
 
--- one that is put where it stands changes nothing
+-- writing a subscription back unchanged changes nothing
 pub put_back : (live : List Subscription) (at : ℕ) (x y : Subscription) → x ≡ get_or live at x → y ≡ x → slice_set live at y ≡ live
 put_back [] at x y is same = refl
 put_back (z ∷ live) zero x y is same = ap (λ (s : Subscription). s ∷ live) (same ∙ is)

@@ -1,4 +1,4 @@
--- What the document of bytes says is what the bytes say, as one function of them.
+-- What is read of the document that the bytes are, as one function of the bytes.
 use Rattle.std.proofs.Common.{◌≡◌, ℕ, List, Some, None, Ok, Err, refl, inl, inr, IsUtf8}
 use Rattle.std.proofs.lemmas.Bool.{cases_Bool}
 use Rattle.std.proofs.lemmas.Str.{IsUtf8-from_is_utf8, is_utf8-from_IsUtf8}

@@ -1,5 +1,5 @@
--- Mailboxes and who subscribes to them (RFC 3842 §3, RFC 6665 §4.2): the table of what was said of each mailbox, of the subscriptions that live, in the order in which they were
--- made, and of the NOTIFYs that have no final answer; and what becomes of it.
+-- Mailboxes and who subscribes to them (RFC 3842 §3, RFC 6665 §4.2): the table of the counts that were uploaded for each mailbox, of the active subscriptions, in the order in
+-- which they were made, and of the NOTIFYs that have no final response; and the operations on it.
 use Rattle.std.specs.Prelude.{ℕ, ◌+◌, ◌==◌, nat_le, Bool, true, false, List, [], ◌∷◌, ◌++◌, find, flat_map, length, Option, Some, None, is_some}
 use Rattle.std.specs.Prelude.{if◌then◌else◌, codes}
 use Rattle.std.specs.FinMap as finite
@@ -29,23 +29,23 @@ use Rattle.mmtel_types.specs.declared.numbers.SubNo.{SubNo}
 use Rattle.mmtel_mwi.specs.declared.subscriptions.Asked.{Asked}
 use Rattle.mmtel_mwi.specs.declared.subscriptions.Subscription.{Subscription}
 
--- by the numbers of accounts: of one that is not here nothing was said
+-- by account number; for a mailbox without an entry nothing was uploaded
 abbrev pub Mailboxes : Type 0
 Mailboxes = finite.FinMap nat_cmp Counts
 
 pub record Table : Type 0 where
   pub mailboxes : Mailboxes
-  -- how many subscriptions were made, and those that live, in the order in which they were made
+  -- how many subscriptions were made, and the active ones, in the order in which they were made
   pub made : ℕ
   pub live : List Subscription
-  -- the NOTIFYs without a final answer, in the order in which they were made
+  -- the NOTIFYs without a final response, in the order in which they were made
   pub asked : List Asked
 
--- nothing was said, and nobody subscribed
+-- nothing was uploaded, and nobody has subscribed
 abbrev pub nothing : Table
 nothing = record { mailboxes = finite.empty; made = 0; live = []; asked = [] }
 
--- ---- what was said of a mailbox
+-- ---- the counts of a mailbox
 
 abbrev pub or_none : Option Counts → Counts
 or_none None = no_messages
@@ -57,15 +57,15 @@ counts_in account table = or_none (finite.get table.mailboxes account.0)
 abbrev pub put : Account → Counts → Table → Table
 put account counts table = record table { mailboxes = finite.insert table.mailboxes account.0 counts }
 
--- ---- the first of a list for which something is so
+-- ---- the first item of a list for which a predicate holds
 
 module _ {A : Type 0} where
-  -- it becomes another, and the others stay
+  -- it is replaced by another, and the others are unchanged
   abbrev pub changed : (A → Bool) → (A → A) → List A → List A
   changed is change [] = []
   changed is change (x ∷ xs) = if is x then change x ∷ xs else x ∷ changed is change xs
 
-  -- the others alone are left
+  -- the list without it
   abbrev pub without : (A → Bool) → List A → List A
   without is [] = []
   without is (x ∷ xs) = if is x then xs else x ∷ without is xs
@@ -84,11 +84,11 @@ is_live sub table = is_some (held sub table)
 abbrev pub peer_of : SubNo → Table → Option Peer
 peer_of sub table = option_map (λ (s : Subscription). s.leg.dialogue.peer) (held sub table)
 
--- the number of the SUBSCRIBE, among those of the subscription, that said until when it stands
+-- the number of the SUBSCRIBE that set until when the subscription is active, counted from 1 within the subscription
 abbrev pub set_by : SubNo → Table → Option ℕ
 set_by sub table = option_map (λ (s : Subscription). s.set) (held sub table)
 
--- the one that has the dialog of this name (RFC 3261 §12)
+-- the one whose dialog has this name (RFC 3261 §12)
 abbrev pub is_named : (call_id local remote : List ℕ) → Subscription → Bool
 is_named call_id local remote s = has_name call_id local remote s.leg.dialogue
 
@@ -105,13 +105,13 @@ subscribers_in account live = flat_map (number_if account) live
 abbrev pub subscribers_of : Account → Table → List SubNo
 subscribers_of account table = subscribers_in account table.live
 
--- ---- a subscription is made, and made to last
+-- ---- a subscription is made, and refreshed
 
--- as many live as may
+-- the maximum number is active
 abbrev pub is_full : Table → Bool
 is_full table = nat_le 4096 (length table.live)
 
--- why nobody subscribes: that, or want of memory
+-- why no subscription is made: the maximum is reached, or memory ran out
 abbrev pub says_full : SubFault → Bool
 says_full Full = true
 says_full NoMemory = false
@@ -119,7 +119,7 @@ says_full NoMemory = false
 abbrev pub next_sub : Table → SubNo
 next_sub table = record { 0 = table.made + 1 }
 
--- the first SUBSCRIBE says until when it stands
+-- the first SUBSCRIBE sets until when it is active
 abbrev pub subscription : SubNo → Account → Leg → (until : ℕ) → Subscription
 subscription sub account leg until = record { number = sub; account = account; leg = leg; until = until; set = 1 }
 
@@ -129,14 +129,14 @@ subscribed account leg until table = record table {
   live = table.live ++ subscription (next_sub table) account leg until ∷ [];
 }
 
--- a later one says so anew
+-- a later one sets that anew
 abbrev pub lasting : (until : ℕ) → Subscription → Subscription
 lasting until s = record s { until = until; set = next_number s.set }
 
 abbrev pub refreshed : SubNo → (until : ℕ) → Table → Table
 refreshed sub until table = record table { live = changed (is_numbered sub) (lasting until) table.live }
 
--- ---- a request of a subscriber is heard
+-- ---- a request of a subscriber is received
 
 abbrev pub says_of : Message Start → Option Subscription → Result (Unit {0}) DialogueFault
 says_of m None = Ok tt
@@ -151,12 +151,12 @@ having_heard m s = record s { leg = with_dialogue s.leg (after_hearing s.leg.dia
 abbrev pub heard : SubNo → Message Start → Table → Table
 heard sub m table = record table { live = changed (is_numbered sub) (having_heard m) table.live }
 
--- ---- a subscriber is told
+-- ---- a subscriber is notified
 
 abbrev pub notice_of : Addr → (last : Bool) → (branch : List ℕ) → (now : ℕ) → Table → Subscription → Message Start
 notice_of sip last branch now table s = notice_in sip s.leg.dialogue branch last (seconds_left s.until now) (counts_in s.account table)
 
--- the NOTIFY; none where the subscription does not live
+-- the NOTIFY; none where the subscription is not active
 abbrev pub notice : Addr → SubNo → (last : Bool) → (branch : List ℕ) → (now : ℕ) → Table → Option (Message Start)
 notice sip sub last branch now table = option_map (notice_of sip last branch now table) (held sub table)
 
@@ -167,7 +167,7 @@ abbrev pub asked_of : SubNo → (branch : List ℕ) → Bool → List Asked
 asked_of sub branch false = []
 asked_of sub branch true = record { branch = branch; sub = sub } ∷ []
 
--- it waits for its answer
+-- its response is waited for
 abbrev pub told : SubNo → (branch : List ℕ) → Table → Table
 told sub branch table = record table { live = changed (is_numbered sub) having_told table.live; asked = table.asked ++ asked_of sub branch (is_live sub table) }
 
@@ -176,27 +176,27 @@ told sub branch table = record table { live = changed (is_numbered sub) having_t
 abbrev pub ended : SubNo → Table → Table
 ended sub table = record table { live = without (is_numbered sub) table.live }
 
--- what is left of it
+-- what remains of its leg
 abbrev pub left_of : Subscription → Ended
 left_of s = record { meter = s.leg.meter }
 
 abbrev pub left : SubNo → Table → Option Ended
 left sub table = option_map left_of (held sub table)
 
--- ---- a NOTIFY is answered (RFC 6665 §4.2.2)
+-- ---- a response to a NOTIFY (RFC 6665 §4.2.2)
 
 abbrev pub has_branch : (branch : List ℕ) → Asked → Bool
 has_branch branch asked = bytes_eq asked.branch branch
 
--- whose NOTIFY with this branch has no final answer
+-- the subscription whose NOTIFY with this branch has no final response
 abbrev pub asked_by : (branch : List ℕ) → Table → Option SubNo
 asked_by branch table = option_map (λ (a : Asked). a.sub) (find (has_branch branch) table.asked)
 
--- it waits for no answer any more
+-- its response is waited for no more
 abbrev pub settled : (branch : List ℕ) → Table → Table
 settled branch table = record table { asked = without (has_branch branch) table.asked }
 
--- the subscriber wants to be told no more
+-- the subscriber refuses further NOTIFYs
 abbrev pub is_refusal : (code : ℕ) → Bool
 is_refusal code = nat_le 300 code
 
@@ -211,15 +211,15 @@ abbrev pub left_by : Option SubNo → Table → Option Ended
 left_by None table = None
 left_by (Some sub) table = left sub table
 
--- whose subscription ends by an answer with this status
+-- the subscription that a response with this status ends
 abbrev pub refused_by : (branch : List ℕ) → (code : ℕ) → Table → Option SubNo
 refused_by branch code table = if is_refusal code then asked_by branch table else None
 
--- a final answer, or none: 408 stands for that (RFC 3261 §8.1.3.1)
+-- a final response, or a timeout, for which 408 stands (RFC 3261 §8.1.3.1)
 abbrev pub answered : (branch : List ℕ) → (code : ℕ) → Table → Table
 answered branch code table = if is_final code then settled branch (ended_by (refused_by branch code table) table) else table
 
--- ---- a value of boxes
+-- ---- the model of `Boxes`
 
 pub record BoxesView : Type 0 where
   pub sip : Addr

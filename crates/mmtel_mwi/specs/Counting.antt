@@ -1,5 +1,5 @@
--- How many messages wait in a mailbox, as an operator says it: a TOML document of four keys, what is read of it, and which fault is the first. Keys come in byte order, so that
--- an urgent count comes behind the one that it is a part of (RFC 3842 §5.2).
+-- How many messages wait in a mailbox, as the operator uploads it: a TOML document of four keys, what is read of it, and which fault is the first. Keys come in byte order, so
+-- that an urgent count comes after the one that it is a part of (RFC 3842 §5.2).
 use Rattle.std.specs.Prelude.{◌≡◌, ℕ, List, Option, Some, None, Ok, Err, if◌then◌else◌, codes}
 use Rattle.std.specs.Str.{bytes_eq, is_utf8}
 use Rattle.toml.specs.Data.{Data, Members, no_members, member}
@@ -10,7 +10,7 @@ use Rattle.mmtel_sheet_grammar.specs.declared.faults.SheetFault.{SheetFault}
 use Rattle.mmtel_sheet_grammar.specs.declared.faults.SheetFault.TheVariants.{NotToml, Unknown, Wrong, Many, NoMemory}
 use Rattle.mmtel_mwi.specs.declared.counts.Counts.{Counts}
 
--- no message waits: of a mailbox of which nothing was said, and where a document has no key
+-- no message waits: in a mailbox for which nothing was uploaded, and where a document has no key
 abbrev pub no_messages : Counts
 no_messages = record { fresh = 0; old = 0; urgent_fresh = 0; urgent_old = 0 }
 
@@ -47,7 +47,7 @@ TellsFault wanted (Wrong key) = wanted ≡ Err (Wrong key)
 TellsFault wanted (Many key limit) = wanted ≡ Err (Many key limit)
 TellsFault wanted NoMemory = Unit {0}
 
--- this is answered, but for want of memory
+-- this is returned, unless memory runs out
 abbrev pub TellsCounts : Read Counts → Read Counts → Type 0
 TellsCounts wanted (Ok c) = wanted ≡ Ok c
 TellsCounts wanted (Err e) = TellsFault wanted e

@@ -1,4 +1,4 @@
--- All that was done on boxes: the table after deeds is told from the list of the deeds alone, the newest first; and what was said of a mailbox last.
+-- All operations on mailboxes and subscriptions: the table after them is a function of their list alone, the newest first; and the counts that were uploaded last for a mailbox.
 use Rattle.std.specs.Prelude.{ℕ, ◌==◌, ◌<◌, ◌≤◌, List, [], ◌∷◌, Option, Some, None, if◌then◌else◌, map}
 use Rattle.mmtel_leg.specs.Legs.{Leg}
 use Rattle.mmtel_message.specs.Message.{Message}
@@ -11,19 +11,19 @@ use Rattle.mmtel_types.specs.declared.numbers.SubNo.{SubNo}
 use Rattle.mmtel_mwi.specs.declared.subscriptions.Subscription.{Subscription}
 
 pub data Deed : Type 0 where
-  -- this was said of the mailbox of an account
+  -- these counts were uploaded for the mailbox of an account
   Puts : (account : Account) → (counts : Counts) → Deed
-  -- somebody subscribed to it
+  -- a subscription to it was made
   Subscribes : (account : Account) → (leg : Leg) → (until : ℕ) → Deed
-  -- a subscription was made to last
+  -- a subscription was refreshed
   Refreshes : (sub : SubNo) → (until : ℕ) → Deed
-  -- a request of its subscriber was heard
+  -- a request of its subscriber was received
   Hears : (sub : SubNo) → (request : Message Start) → Deed
-  -- its subscriber was told, with this branch
+  -- its subscriber was sent a NOTIFY with this branch
   Tells : (sub : SubNo) → (branch : List ℕ) → Deed
   -- it ended
   Ends : (sub : SubNo) → Deed
-  -- the NOTIFY of this branch had an answer
+  -- the NOTIFY of this branch got a response
   Answers : (branch : List ℕ) → (code : ℕ) → Deed
 
 abbrev pub did : Deed → Table → Table
@@ -39,7 +39,7 @@ abbrev pub table_after : List Deed → Table
 table_after [] = nothing
 table_after (deed ∷ deeds) = did deed (table_after deeds)
 
--- ---- what was said of a mailbox last
+-- ---- the counts that were uploaded last for a mailbox
 
 abbrev pub said_by : Deed → Account → Option Counts
 said_by (Puts a counts) account = if account.0 == a.0 then Some counts else None
@@ -54,14 +54,14 @@ abbrev pub said_or : Option Counts → Counts → Counts
 said_or None before = before
 said_or (Some counts) before = counts
 
--- by the newest of these deeds that says anything of it
+-- of the newest of these operations that uploads any for it
 abbrev pub last_counts : List Deed → Account → Counts
 last_counts [] account = no_messages
 last_counts (deed ∷ deeds) account = said_or (said_by deed account) (last_counts deeds account)
 
 -- ---- who subscribes
 
--- each has a number above the one before it, the first above low, and none is above high
+-- each has a number above that of the one before it, the first above low, and none is above high
 abbrev pub AreNumberedTo : (high low : ℕ) → List Subscription → Type 0
 AreNumberedTo high low [] = low ≤ high
 AreNumberedTo high low (s ∷ live) = (low < s.number.0) × AreNumberedTo high s.number.0 live
@@ -70,6 +70,6 @@ AreNumberedTo high low (s ∷ live) = (low < s.number.0) × AreNumberedTo high s
 abbrev pub whose : Subscription → ℕ × ℕ
 whose s = (s.number.0, s.account.0)
 
--- those that live
+-- those of the active ones
 abbrev pub who : Table → List (ℕ × ℕ)
 who table = map whose table.live

@@ -1,4 +1,4 @@
--- What public clauses cite, which a user of the crate has to believe.
+-- What public clauses cite: a user of the crate has to trust these definitions.
 pub mod Counting
 pub mod Summaries
 pub mod Notices

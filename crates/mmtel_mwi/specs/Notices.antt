@@ -1,4 +1,4 @@
--- The NOTIFY of a subscription (RFC 6665 §4.2.2, §4.1.3; RFC 3842 §3): a request in its dialog that says how long the subscription stands, and what waits in the mailbox.
+-- The NOTIFY of a subscription (RFC 6665 §4.2.2, §4.1.3; RFC 3842 §3): a request in its dialog that gives for how long the subscription is active, and what waits in the mailbox.
 use Rattle.std.specs.Prelude.{ℕ, ◌-◌, ◌/◌, Bool, true, false, List, [], ◌∷◌, ◌++◌, codes, decimal}
 use Rattle.mmtel_answers.specs.Requests.{bringing}
 use Rattle.mmtel_leg.specs.Requests.{request_of}
@@ -9,11 +9,11 @@ use Rattle.mmtel_types.specs.declared.addrs.Addr.{Addr}
 use Rattle.mmtel_mwi.specs.Summaries.{summary}
 use Rattle.mmtel_mwi.specs.declared.counts.Counts.{Counts}
 
--- the whole seconds from now until a moment, none once it is not past now
+-- the whole seconds from now until a moment, 0 where it is not later than now
 abbrev pub seconds_left : (until now : ℕ) → ℕ
 seconds_left until now = (until - now) / 1000
 
--- how long the subscription stands, or that it has ended by its time
+-- for how long the subscription is active, or that it has timed out
 abbrev pub state_text : (last : Bool) → (seconds : ℕ) → List ℕ
 state_text false seconds = codes "active;expires=" ++ decimal seconds
 state_text true seconds = codes "terminated;reason=timeout"
@@ -25,7 +25,7 @@ notice_lines last seconds =
     ∷ (codes "Content-Type", codes "application/simple-message-summary")
     ∷ []
 
--- in this dialog, with this branch
+-- the request in this dialog, with this branch
 abbrev pub notice_in : Addr → Dialogue → (branch : List ℕ) → (last : Bool) → (seconds : ℕ) → Counts → Message Start
 notice_in sip dialogue branch last seconds counts =
     request_of dialogue (codes "NOTIFY") (bringing sip branch (notice_lines last seconds) (summary counts))

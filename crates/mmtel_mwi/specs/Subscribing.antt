@@ -1,11 +1,11 @@
--- When a SUBSCRIBE is refused, and for how long it makes a subscription stand (RFC 6665 §4.2.1, RFC 3842 §3, 3GPP TS 24.606).
+-- When a SUBSCRIBE is refused, and else for how long the subscription is active (RFC 6665 §4.2.1, RFC 3842 §3, 3GPP TS 24.606).
 use Rattle.std.specs.Prelude.{ℕ, ◌==◌, min, Bool, false, not, ◌||◌, List, Option, Some, None, if◌then◌else◌, codes}
 use Rattle.std.specs.Option.{unwrap_or}
 use Rattle.std.specs.Str.{bytes_eq}
 use Rattle.mmtel_types.specs.declared.numbers.Account.{Account}
 
--- what decides of it: it came from a trusted peer; it is within the dialog of a subscription; the account of whoever its sender is asserted to be, and the one whose mailbox its
--- Request-URI names; the first Event; and that it has one Contact, which can be read
+-- what the decision depends on: it came from a trusted peer; it is within the dialog of a subscription; the account of the identity that is asserted of its sender, and the one
+-- whose mailbox its Request-URI names; the first Event; and that it has one Contact, which can be read
 pub record Asking : Type 0 where
   pub trusted : Bool
   pub within : Bool
@@ -14,17 +14,17 @@ pub record Asking : Type 0 where
   pub event : Option (List ℕ)
   pub has_contact : Bool
 
--- these are one account
+-- both are the same account
 abbrev pub are_one : (one other : Option Account) → Bool
 are_one None other = false
 are_one (Some a) None = false
 are_one (Some a) (Some b) = a.0 == b.0
 
--- everybody has a mailbox to itself; within the dialog of a subscription that is known
+-- everybody may subscribe to their own mailbox; within the dialog of a subscription that is not checked again
 abbrev pub may_ask : Asking → Bool
 may_ask asking = asking.within || are_one asking.sender asking.mailbox
 
--- of this event alone something is known (RFC 3842 §3.1), without parameters
+-- the one event that is supported (RFC 3842 §3.1), without parameters
 abbrev pub is_summary : Option (List ℕ) → Bool
 is_summary None = false
 is_summary (Some event) = bytes_eq event (codes "message-summary")
@@ -38,6 +38,6 @@ refusal asking =
     else if not asking.has_contact then Some 400
     else None
 
--- for how many seconds it stands: an hour without Expires, or where it is no number (RFC 3842 §3.4), and a day at most
+-- for how many seconds it is active: an hour without Expires, or where that is no number (RFC 3842 §3.4), and a day at most
 abbrev pub granted : (expires : Option ℕ) → ℕ
 granted expires = min (unwrap_or expires 3600) 86400

@@ -1,8 +1,8 @@
--- What a subscriber is told of a mailbox: whether messages wait, and how many (RFC 3842 §5.2).
+-- The summary of a mailbox that a subscriber gets: whether messages wait, and how many (RFC 3842 §5.2).
 use Rattle.std.specs.Prelude.{ℕ, ◌==◌, List, ◌++◌, codes, decimal, if◌then◌else◌}
 use Rattle.mmtel_mwi.specs.declared.counts.Counts.{Counts}
 
--- new messages alone wait
+-- only new messages count as waiting
 abbrev pub yes_or_no : (fresh : ℕ) → List ℕ
 yes_or_no fresh = if fresh == 0 then codes "no" else codes "yes"
 

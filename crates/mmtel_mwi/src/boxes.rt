@@ -1,4 +1,4 @@
-//! Mailboxes and who subscribes to them.
+//! Mailboxes, and the subscriptions to them.
 ghost use Rattle.std.specs.Prelude.{◌≡◌, IfErr, IfOk, OnErr, OnOk, true, false, find, is_some};
 ghost use Rattle.std.specs.Option.{option_map};
 ghost use Rattle.mmtel_mwi.specs.Boxes.{answered, asked_by, counts_in, ended, ended_by, found, has_branch, heard, is_full, is_live, is_numbered, left, left_by, left_of};
@@ -17,19 +17,19 @@ use mmtel_types::{Account, Addr, Cause, Moment, Peer, SubNo};
 use std::alloc::Global;
 use std::marker::Model;
 
-/// The subscriptions that live at once, at most.
+/// The maximum number of active subscriptions.
 pub const SUBSCRIPTIONS: usize = 4_096;
 
-/// Why nobody subscribes.
+/// Why no subscription is made.
 #[derive(Clone, Copy, Debug, PartialEq, Eq)]
 pub enum SubFault {
-    /// So many subscriptions live that no more is made.
+    /// The maximum number of subscriptions is active.
     Full,
-    /// Want of memory, for the subscription or for its number.
+    /// Memory ran out, for the subscription or for its number.
     NoMemory,
 }
 
-/// What was said of the mailboxes of a server, and who subscribes to them (RFC 3842 §3). They must be spent.
+/// The counts uploaded for the mailboxes of a server, and the subscriptions to them (RFC 3842 §3). The value is linear: it must be spent.
 pub struct Boxes {
     sip: Addr,
     mailboxes: Mailboxes,
@@ -63,7 +63,7 @@ impl Model for Boxes {
     } };
 }
 
-/// Takes the subscription of this number out, and ends it.
+/// Removes the subscription of this number, and ends it.
 fn take_out(live: &mut Vec<Subscription>, sub: SubNo) -> Option<Ended>
     ensures rest { live.new.items ≡ without (is_numbered sub) live.old.items }
     ensures left { result ≡ option_map left_of (find (is_numbered sub) live.old.items) }
@@ -74,7 +74,7 @@ fn take_out(live: &mut Vec<Subscription>, sub: SubNo) -> Option<Ended>
     }
 }
 
-/// The NOTIFY with this branch waits for no answer any more.
+/// Removes the NOTIFY with this branch from those that wait for a final response.
 fn settle(asked: &mut Vec<Asked>, branch: &[u8])
     ensures { asked.new.items ≡ without (has_branch branch.now) asked.old.items }
 {
@@ -84,7 +84,7 @@ fn settle(asked: &mut Vec<Asked>, branch: &[u8])
     }
 }
 
-/// The first of all moments: of rows that nobody keeps.
+/// The moment 0, for a CDR that is discarded.
 fn beginning() -> Moment {
     match Moment::new(0) {
         Some(moment) => moment,
@@ -92,7 +92,7 @@ fn beginning() -> Moment {
     }
 }
 
-/// Lets go of what is left of the leg of a subscription, for which nobody is charged: a meter, if one ran, is left without a row. It takes no memory.
+/// Spends what remains of the leg of a subscription, for which nobody is charged: a meter, if one ran, is closed and its CDR discarded. It allocates nothing.
 pub fn let_go(ended: Ended) {
     let Ended { meter } = ended;
     match meter {
@@ -102,7 +102,7 @@ pub fn let_go(ended: Ended) {
 }
 
 impl Boxes {
-    /// Nothing was said of any mailbox, and nobody subscribed, where this is the server's address. It takes no memory.
+    /// Nothing was uploaded for any mailbox, and nobody has subscribed, at a server with this address. It allocates nothing.
     pub fn new(alloc: Global, sip: Addr) -> Boxes
         ensures nothing { result ≡ record { sip = sip; table = nothing } }
     {
@@ -115,11 +115,11 @@ impl Boxes {
         }
     }
 
-    /// So many messages wait in the mailbox of the account from now on.
+    /// Sets how many messages wait in the mailbox of the account.
     ///
     /// # Errors
     ///
-    /// Want of memory alone; all is then as before.
+    /// Out of memory only; nothing has changed then.
     pub fn put(&mut self, a: Account, c: Counts) -> Result<(), NoMemory>
         ensures put { OnOk result (self.new ≡ with_table self.old (put a c self.old.table)) }
         ensures refused { OnErr result (self.new ≡ self.old) }
@@ -127,26 +127,26 @@ impl Boxes {
         self.mailboxes.put(a, c)
     }
 
-    /// How many messages wait in the mailbox of the account; none where nothing was said of it. It takes no memory.
+    /// How many messages wait in the mailbox of the account; none where nothing was uploaded for it. It allocates nothing.
     pub fn counts(&self, a: Account) -> Counts
         ensures counts { result ≡ counts_in a self.now.table }
     {
         self.mailboxes.counts(a)
     }
 
-    /// Whether as many subscriptions live as may. It takes no memory.
+    /// Whether the maximum number of subscriptions is active. It allocates nothing.
     pub fn is_full(&self) -> bool
         ensures full { result ≡ is_full self.now.table }
     {
         self.live.len() >= SUBSCRIPTIONS
     }
 
-    /// Somebody subscribes to the mailbox of an account, until a moment (RFC 6665 §4.2.1). The subscription has the next number.
+    /// Makes a subscription to the mailbox of an account, which is active until a moment (RFC 6665 §4.2.1). It has the next number, which is returned.
     ///
     /// # Errors
     ///
-    /// The first that applies; the leg is handed back, and all is as before. `Full` exactly where 4,096 subscriptions live. `NoMemory` where memory ran out, or the numbers did:
-    /// 2^64 - 1 subscriptions are made in all.
+    /// The first that applies; the leg is handed back, and nothing has changed. `Full` exactly where 4,096 subscriptions are active. `NoMemory` where memory ran out, or where
+    /// all numbers are used: 2^64 - 1 subscriptions are made in all.
     pub fn subscribe(
         &mut self,
         a: Account,
@@ -176,8 +176,8 @@ impl Boxes {
         Ok(sub)
     }
 
-    /// The subscription that lives and has the dialog of this Call-ID, this tag of the server and this tag of the other side (RFC 3261 §12); None exactly where there is none. It
-    /// takes no memory.
+    /// The active subscription whose dialog has this Call-ID, this tag of the server and this tag of the other side (RFC 3261 §12); None exactly where there is none. It
+    /// allocates nothing.
     pub fn find(&self, call_id: &[u8], local: &[u8], remote: &[u8]) -> Option<SubNo>
         ensures found { result ≡ found call_id.now local.now remote.now self.now.table }
     {
@@ -192,7 +192,7 @@ impl Boxes {
         }
     }
 
-    /// The peer of whoever subscribed; None exactly where the subscription does not live. It takes no memory.
+    /// The peer of the subscriber; None exactly where the subscription is not active. It allocates nothing.
     pub fn peer(&self, s: SubNo) -> Option<Peer>
         ensures peer { result ≡ peer_of s self.now.table }
     {
@@ -202,8 +202,8 @@ impl Boxes {
         }
     }
 
-    /// The number of the SUBSCRIBE, among those of the subscription from 1, that said until when it stands; None exactly where the subscription does not live. A moment that an
-    /// earlier one said brings nothing any more. It takes no memory.
+    /// The number of the SUBSCRIBE that set until when the subscription is active, counted from 1 within the subscription; None exactly where it is not active. A timer that an
+    /// earlier SUBSCRIBE set has no effect any more. It allocates nothing.
     pub fn set_by(&self, s: SubNo) -> Option<u64>
         ensures set_by { result ≡ set_by s self.now.table }
     {
@@ -213,11 +213,11 @@ impl Boxes {
         }
     }
 
-    /// Takes note of a request of whoever subscribed, or refuses it. It takes no memory.
+    /// Accepts a request of the subscriber in its dialog, or refuses it. It allocates nothing.
     ///
     /// # Errors
     ///
-    /// `OldCSeq` where its number is lower than that of the last request that was let through (RFC 3261 §12.2.2); all is then as before.
+    /// `OldCSeq` where its CSeq number is lower than that of the last request that was accepted (RFC 3261 §12.2.2); nothing has changed then.
     pub fn heard(&mut self, s: SubNo, m: &Msg) -> Result<(), DialogueFault>
         requires { is_live s self.old.table ≡ true }
         ensures answer { result ≡ says s m.now self.old.table }
@@ -230,7 +230,7 @@ impl Boxes {
         }
     }
 
-    /// A subscription stands until another moment; false exactly where it does not live. It takes no memory.
+    /// Sets a new moment until which a subscription is active; false exactly where it is not active. It allocates nothing.
     pub fn refresh(&mut self, s: SubNo, until: Moment) -> bool
         ensures live { result ≡ is_live s self.old.table }
         ensures refreshed { self.new ≡ with_table self.old (refreshed s until self.old.table) }
@@ -244,23 +244,23 @@ impl Boxes {
         }
     }
 
-    /// The subscriptions to the mailbox of the account, in the order in which they were made.
+    /// The active subscriptions to the mailbox of the account, in the order in which they were made.
     ///
     /// # Errors
     ///
-    /// Want of memory alone.
+    /// Out of memory only.
     pub fn subscribers(&self, alloc: Global, a: Account) -> Result<List<SubNo>, NoMemory>
         ensures subscribers { IfOk result (λ l. l ≡ subscribers_of a self.now.table) }
     {
         subscribers_in(alloc, &self.live, a)
     }
 
-    /// The NOTIFY that tells whoever subscribed how many messages wait, with this branch behind the cookie (RFC 6665 §4.2.2); None exactly where the subscription does not live.
-    /// It says how many whole seconds of the subscription are left, or, where it is the last, that its time is over. Its answer is waited for.
+    /// The NOTIFY that reports to the subscriber how many messages wait, with this branch after the magic cookie (RFC 6665 §4.2.2); None exactly where the subscription is not
+    /// active. It gives the whole seconds that remain of the subscription, or, where it is the last, that the subscription has timed out. Its response is waited for.
     ///
     /// # Errors
     ///
-    /// Want of memory alone; all is then as before.
+    /// Out of memory only; nothing has changed then.
     pub fn tell(
         &mut self,
         alloc: Global,
@@ -294,7 +294,7 @@ impl Boxes {
         }
     }
 
-    /// A subscription ends; None exactly where it does not live. It takes no memory.
+    /// Ends a subscription and returns what remains of its leg; None exactly where it is not active. It allocates nothing.
     pub fn end(&mut self, s: SubNo) -> Option<Ended>
         ensures left { result ≡ left s self.old.table }
         ensures ended { self.new ≡ with_table self.old (ended s self.old.table) }
@@ -302,14 +302,14 @@ impl Boxes {
         take_out(&mut self.live, s)
     }
 
-    /// Whether a NOTIFY with this branch behind the cookie waits for its final answer. It takes no memory.
+    /// Whether a NOTIFY with this branch after the magic cookie has no final response yet. It allocates nothing.
     pub fn waits(&self, branch: &[u8]) -> bool
         ensures waits { result ≡ is_some (asked_by branch.now self.now.table) }
     {
         asked_with(&self.asked, branch).is_some()
     }
 
-    /// The subscription ends whose NOTIFY with this branch is refused, if this status does that.
+    /// Ends the subscription whose NOTIFY with this branch is refused, if this status refuses it.
     fn refuse(&mut self, branch: &[u8], code: u16) -> Option<Ended>
         ensures left { result ≡ left_by (refused_by branch.now code self.old.table) self.old.table }
         ensures ended { self.new ≡ with_table self.old (ended_by (refused_by branch.now code self.old.table) self.old.table) }
@@ -326,8 +326,8 @@ impl Boxes {
         }
     }
 
-    /// The NOTIFY with this branch was answered with this status, 408 where there was no answer at all. A final one is the last, and one from 300 ends the subscription (RFC 6665
-    /// §4.2.2). It takes no memory.
+    /// The NOTIFY with this branch got a response with this status, 408 where it timed out. A final response is the last, and one from 300 ends the subscription (RFC 6665
+    /// §4.2.2). It allocates nothing.
     pub fn answered(&mut self, branch: &[u8], code: u16) -> Option<Ended>
         ensures left { result ≡ left_by (refused_by branch.now code self.old.table) self.old.table }
         ensures answered { self.new ≡ with_table self.old (answered branch.now code self.old.table) }
@@ -340,7 +340,7 @@ impl Boxes {
         ended
     }
 
-    /// Spends all subscriptions. It takes no memory.
+    /// Spends all subscriptions. It allocates nothing.
     pub fn give_up(self) {
         let Boxes {
             sip: _,

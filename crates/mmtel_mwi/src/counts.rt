@@ -9,9 +9,9 @@ pub struct Counts {
     pub fresh: u32,
     /// Old messages, at most 999,999,999.
     pub old: u32,
-    /// Urgent ones of the new.
+    /// Urgent ones among the new.
     pub urgent_fresh: u32,
-    /// Urgent ones of the old.
+    /// Urgent ones among the old.
     pub urgent_old: u32,
 }
 

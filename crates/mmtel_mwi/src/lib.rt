@@ -1,4 +1,5 @@
-//! Message waiting (3GPP TS 24.606, RFC 3842): how many messages wait in a mailbox, as an operator says it and as a subscriber is told it; and who subscribes to which mailbox.
+//! Message waiting (3GPP TS 24.606, RFC 3842): how many messages wait in a mailbox, as the operator uploads it and as a subscriber is notified of it; and who subscribes to which
+//! mailbox.
 #![tactic(auto)]
 
 mod boxes;

@@ -1,4 +1,4 @@
-//! What was said of each mailbox.
+//! The counts that were uploaded for each mailbox.
 ghost use Rattle.std.specs.Prelude.{◌≡◌, OnErr, OnOk};
 ghost use Rattle.std.specs.FinMap as finite;
 ghost use Rattle.mmtel_mwi.specs.Boxes.{or_none};
@@ -10,7 +10,7 @@ use std::alloc::Global;
 use std::collections::BTreeMap;
 use std::marker::Model;
 
-/// The counts of each mailbox of which something was said, by the numbers of accounts.
+/// The counts of each mailbox for which some were uploaded, by account number.
 #[derive(Drop)]
 pub struct Mailboxes {
     kept: BTreeMap<u32, Counts>,
@@ -30,7 +30,7 @@ impl Model for Mailboxes {
 }
 
 impl Mailboxes {
-    /// Nothing was said. It takes no memory.
+    /// Nothing was uploaded. It allocates nothing.
     pub fn new(alloc: Global) -> Mailboxes
         ensures { result ≡ finite.empty }
     {
@@ -39,11 +39,11 @@ impl Mailboxes {
         }
     }
 
-    /// This is said of the mailbox of an account from now on.
+    /// Sets the counts of the mailbox of an account.
     ///
     /// # Errors
     ///
-    /// Want of memory alone; all is then as before.
+    /// Out of memory only; nothing has changed then.
     pub fn put(&mut self, account: Account, counts: Counts) -> Result<(), NoMemory>
         ensures put { OnOk result (self.new ≡ finite.insert self.old account.0 counts) }
         ensures refused { OnErr result (self.new ≡ self.old) }
@@ -52,7 +52,7 @@ impl Mailboxes {
         Ok(())
     }
 
-    /// What was said of it last; no message waits where nothing was.
+    /// The counts that were uploaded last for it; no message waits where nothing was uploaded.
     pub fn counts(&self, account: Account) -> Counts
         ensures { result ≡ or_none (finite.get self.now account.0) }
     {

@@ -1,4 +1,4 @@
-//! What a subscriber is told.
+//! The NOTIFY to a subscriber.
 ghost use Rattle.std.specs.Prelude.{◌≡◌, IfOk, OnErr, OnOk, codes};
 ghost use Rattle.mmtel_leg.specs.Dialogues.{after_request};
 ghost use Rattle.mmtel_leg.specs.Legs.{with_dialogue};
@@ -19,7 +19,7 @@ fn yes_or_no(fresh: u32) -> &'static [u8]
     if fresh == 0 { b"no" } else { b"yes" }
 }
 
-/// New and old voice messages, and of each the urgent ones.
+/// The numbers of new and old voice messages, and of each the urgent ones.
 fn voice(alloc: Global, counts: &Counts) -> Result<Text, NoMemory>
     ensures { IfOk result (λ t. t ≡ voice counts.now) }
 {
@@ -35,12 +35,12 @@ fn voice(alloc: Global, counts: &Counts) -> Result<Text, NoMemory>
     Ok(out)
 }
 
-/// What a subscriber is told of a mailbox, as `application/simple-message-summary` (RFC 3842 §5.2): whether new messages wait, and how many new and old voice messages there are,
-/// with the urgent ones of each.
+/// The summary of a mailbox that a subscriber gets, as `application/simple-message-summary` (RFC 3842 §5.2): whether new messages wait, and how many new and old voice messages
+/// there are, with the urgent ones of each.
 ///
 /// # Errors
 ///
-/// Want of memory alone.
+/// Out of memory only.
 #[tactic(auto, unfolding(crate::specs::Summaries::summary))]
 pub fn summary(alloc: Global, counts: &Counts) -> Result<Text, NoMemory>
     ensures summary { IfOk result (λ t. t ≡ summary counts.now) }
@@ -54,14 +54,14 @@ pub fn summary(alloc: Global, counts: &Counts) -> Result<Text, NoMemory>
     Ok(out)
 }
 
-/// The whole seconds from now until a moment; 0 once it is not past now.
+/// The whole seconds from now until a moment; 0 where it is not later than now.
 pub fn seconds_left(until: Moment, now: Moment) -> u64
     ensures { result ≡ seconds_left until now }
 {
     until.ms().saturating_sub(now.ms()) / 1000
 }
 
-/// How long a subscription stands (RFC 6665 §4.1.3).
+/// The value of Subscription-State: for how long the subscription is active, or that it has timed out (RFC 6665 §4.1.3).
 fn state_text(alloc: Global, last: bool, seconds: u64) -> Result<Text, NoMemory>
     ensures { IfOk result (λ t. t ≡ state_text last seconds) }
 {
@@ -73,7 +73,7 @@ fn state_text(alloc: Global, last: bool, seconds: u64) -> Result<Text, NoMemory>
     Ok(out)
 }
 
-/// The lines of a NOTIFY.
+/// The header fields of a NOTIFY.
 #[tactic(auto, unfolding(crate::specs::Notices::notice_lines, mmtel_message::specs::Message::line))]
 fn notice_lines(alloc: Global, last: bool, seconds: u64) -> Result<List<Line>, NoMemory>
     ensures { IfOk result (λ ls. ls ≡ notice_lines last seconds) }
@@ -91,7 +91,7 @@ fn notice_lines(alloc: Global, last: bool, seconds: u64) -> Result<List<Line>, N
     Ok(lines)
 }
 
-/// The NOTIFY to whoever has the leg.
+/// The NOTIFY in the dialog of this leg.
 pub fn notice(
     alloc: Global,
     sip: Addr,

@@ -12,7 +12,7 @@ use mmtel_sheet_grammar::SheetFault;
 use std::alloc::Global;
 use toml::{Table, Value};
 
-/// The most messages of which a mailbox tells.
+/// The largest count of a mailbox.
 const MOST: u32 = 999_999_999;
 
 /// The value at the key is refused as wrong.
@@ -37,7 +37,7 @@ fn unknown(alloc: Global, key: &str) -> Result<Counts, SheetFault>
     }
 }
 
-/// A number of messages, at most so many.
+/// A number of messages, up to a maximum.
 fn count(alloc: Global, key: &str, value: &Value, most: u32) -> Result<u32, SheetFault>
     ensures { Answers (number_at 0 most key.now (view value.now)) result }
 {
@@ -52,7 +52,7 @@ fn count(alloc: Global, key: &str, value: &Value, most: u32) -> Result<u32, Shee
     }
 }
 
-/// The counts with one more key.
+/// The counts after one more key was read.
 fn with_key(alloc: Global, counts: Counts, key: &str, value: &Value) -> Result<Counts, SheetFault>
     ensures exact { Answers (count_read key.now counts (view value.now)) result }
 {
@@ -91,11 +91,11 @@ fn counts(alloc: Global, table: &Table) -> Result<Counts, SheetFault>
 }
 
 /// Reads the counts of a mailbox: a TOML document with the keys `new`, `old`, `urgent-new` and `urgent-old`, each a number of messages from 0 to 999,999,999, and 0 where it is
-/// absent; an urgent one is at most its plain one.
+/// absent; an urgent count is at most the count that it is a part of.
 ///
 /// # Errors
 ///
-/// `NotToml` exactly where the bytes are not UTF-8 or no TOML. Else the first fault of the keys, in byte order: `Unknown` where a key is none of these, `Wrong` where its value
+/// `NotToml` exactly where the bytes are not UTF-8 or not TOML. Else the first fault of the keys, in byte order: `Unknown` where a key is none of these, `Wrong` where its value
 /// is no such number. `NoMemory` where memory ran out.
 #[tactic(auto, using(crate::proofs::Told::told, crate::proofs::Told::told_nothing))]
 pub fn read_counts(alloc: Global, bytes: &[u8]) -> Result<Counts, SheetFault>

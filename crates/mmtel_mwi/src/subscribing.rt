@@ -1,4 +1,4 @@
-//! When a SUBSCRIBE is refused, and for how long it makes a subscription stand.
+//! When a SUBSCRIBE is refused, and else for how long the subscription is active.
 ghost use Rattle.std.specs.Prelude.{◌≡◌};
 ghost use Rattle.std.specs.Option.{option_copied};
 ghost use Rattle.mmtel_mwi.specs.Subscribing.{are_one, granted, is_summary, may_ask, refusal};
@@ -6,24 +6,24 @@ ghost use Rattle.mmtel_mwi.specs.Subscribing.{are_one, granted, is_summary, may_
 use mmtel_types::Account;
 use std::marker::Model;
 
-/// The seconds for which a subscription stands where a SUBSCRIBE does not say so (RFC 3842 §3.4).
+/// The duration of a subscription where a SUBSCRIBE gives none, in seconds (RFC 3842 §3.4).
 const SECONDS_DEFAULT: u64 = 3600;
 
-/// The seconds for which a subscription stands, at most.
+/// The longest duration of a subscription, in seconds.
 const SECONDS_MOST: u64 = 86_400;
 
-/// What decides of a SUBSCRIBE.
+/// What the decision on a SUBSCRIBE depends on.
 #[derive(Drop)]
 pub struct Asks<'a> {
     /// It came from a trusted peer.
     pub trusted: bool,
-    /// It is within the dialog of a subscription that lives.
+    /// It is within the dialog of an active subscription.
     pub within: bool,
-    /// The account of whoever its sender is asserted to be.
+    /// The account of the identity that is asserted of its sender.
     pub sender: Option<Account>,
     /// The account whose mailbox its Request-URI names.
     pub mailbox: Option<Account>,
-    /// Its first Event.
+    /// The value of its first Event.
     pub event: Option<&'a [u8]>,
     /// It has one Contact, which can be read.
     pub has_contact: bool,
@@ -45,7 +45,7 @@ impl<'a> Model for Asks<'a> {
     } };
 }
 
-/// Whether these are one account.
+/// Whether both are the same account.
 fn are_one(one: Option<Account>, other: Option<Account>) -> bool
     ensures { result ≡ are_one one other }
 {
@@ -58,7 +58,7 @@ fn are_one(one: Option<Account>, other: Option<Account>) -> bool
     }
 }
 
-/// Whether the event is the only one of which something is known, without parameters (RFC 3842 §3.1).
+/// Whether the event is `message-summary`, the only one that is supported, without parameters (RFC 3842 §3.1).
 fn is_summary(event: Option<&[u8]>) -> bool
     ensures { result ≡ is_summary (option_copied event.entry) }
 {
@@ -68,15 +68,15 @@ fn is_summary(event: Option<&[u8]>) -> bool
     }
 }
 
-/// Whether the mailbox is that of whoever asks. Within the dialog of a subscription that is known.
+/// Whether the sender may subscribe: the mailbox is its own. Within the dialog of a subscription that is not checked again.
 fn may_ask(asks: &Asks<'_>) -> bool
     ensures { result ≡ may_ask asks.now }
 {
     asks.within || are_one(asks.sender, asks.mailbox)
 }
 
-/// The status of the first refusal of a SUBSCRIBE that applies: 403 from a peer that is not trusted, and where the mailbox is not that of whoever asks; 489 for another event than
-/// `message-summary`, or none; 400 without one Contact that can be read (RFC 6665 §4.2.1). None where it makes a subscription, or makes one stand anew.
+/// The status of the first refusal of a SUBSCRIBE that applies: 403 from a peer that is not trusted, and where the mailbox is not the sender's own; 489 for another event than
+/// `message-summary`, or none; 400 without one Contact that can be read (RFC 6665 §4.2.1). None where it makes a subscription, or refreshes one.
 pub fn refusal(asks: &Asks<'_>) -> Option<u16>
     ensures first { result ≡ refusal asks.now }
 {
@@ -95,7 +95,7 @@ pub fn refusal(asks: &Asks<'_>) -> Option<u16>
     None
 }
 
-/// For how many seconds a SUBSCRIBE with this Expires makes a subscription stand: 3600 without one, and at most 86,400; 0 ends it (RFC 6665 §4.2.1).
+/// For how many seconds a subscription is active by a SUBSCRIBE with this Expires: 3600 without one, and at most 86,400; 0 ends it (RFC 6665 §4.2.1).
 pub fn granted(expires: Option<u64>) -> u64
     ensures seconds { result ≡ granted expires }
 {

@@ -1,4 +1,4 @@
-//! Subscriptions, and the NOTIFYs that have no final answer.
+//! Subscriptions, and the NOTIFYs that have no final response.
 ghost use Rattle.std.specs.Prelude.{◌≡◌, ◌<◌, ◌++◌, IfOk, IfSome, OnErr, OnOk, find, length, position};
 ghost use Rattle.std.specs.Option.{option_copied};
 ghost use Rattle.mmtel_leg.specs.Dialogues.{hears};
@@ -14,26 +14,26 @@ use mmtel_scan::{List, NoMemory, Text};
 use mmtel_types::{Account, Addr, Moment, SubNo};
 use std::alloc::Global;
 
-/// A subscription to a mailbox. It must be spent.
+/// A subscription to a mailbox. The value is linear: it must be spent.
 pub struct Subscription {
     /// Its number.
     pub number: SubNo,
-    /// Whose mailbox it is to.
+    /// The account whose mailbox it is to.
     pub account: Account,
-    /// Who subscribed.
+    /// The leg of the subscriber.
     pub leg: CallerLeg<Standing>,
-    /// Until when it stands.
+    /// Until when it is active.
     pub until: Moment,
-    /// The number of the SUBSCRIBE, among its own from 1, that said so.
+    /// The number of the SUBSCRIBE that set that, counted from 1 within the subscription.
     pub set: u64,
 }
 
-/// A NOTIFY that has no final answer.
+/// A NOTIFY that has no final response.
 #[derive(Drop)]
 pub struct Asked {
-    /// Its branch behind the cookie.
+    /// Its branch after the magic cookie.
     pub branch: Text,
-    /// Of which subscription it is.
+    /// The number of its subscription.
     pub sub: SubNo,
 }
 
@@ -120,7 +120,7 @@ pub fn asked_with<'a>(asked: &'a [Asked], branch: &[u8]) -> Option<&'a Asked>
 }
 
 impl Subscription {
-    /// The subscription of this number to the mailbox of an account, until a moment that its first SUBSCRIBE says.
+    /// The subscription of this number to the mailbox of an account, until a moment that its first SUBSCRIBE set.
     pub fn of(
         number: SubNo,
         account: Account,
@@ -138,7 +138,7 @@ impl Subscription {
         }
     }
 
-    /// One more SUBSCRIBE says until when it stands.
+    /// One more SUBSCRIBE sets until when it is active.
     pub fn last(&mut self, until: Moment)
         ensures { self.new ≡ lasting until self.old }
     {
@@ -146,7 +146,7 @@ impl Subscription {
         self.set = self.set.saturating_add(1);
     }
 
-    /// Takes note of a request of its subscriber, or refuses it.
+    /// Accepts a request of its subscriber, or refuses it.
     pub fn hear(&mut self, request: &Msg) -> Result<(), DialogueFault>
         ensures answer { result ≡ hears self.old.leg.dialogue request.now in_flight.None }
         ensures heard { OnOk result (self.new ≡ having_heard request.now self.old) }
@@ -155,7 +155,7 @@ impl Subscription {
         self.leg.heard(request, InFlight::None)
     }
 
-    /// The NOTIFY to its subscriber, where so many messages wait in the mailbox.
+    /// The NOTIFY to its subscriber, with these counts of the mailbox.
     pub fn tell(
         &mut self,
         alloc: Global,
@@ -173,7 +173,7 @@ impl Subscription {
         notice(alloc, sip, &mut self.leg, branch, last, seconds, counts)
     }
 
-    /// Ends it.
+    /// Ends it, and returns what remains of its leg.
     pub fn leave(self) -> Ended
         ensures { result ≡ left_of self }
     {

@@ -1,4 +1,4 @@
--- One look at each of the web connections that wait: those that were looked at stand behind the others, and none of them is late.
+-- One reading of each of the web connections that wait: those that were read come after the others, and none of them is late.
 use Rattle.std.proofs.Common.{◌≡◌, ◌∙◌, ◌+◌, ◌<◌, ◌++◌, ℕ, suc, zero, List, [], ◌∷◌, Option, Some, false, length, take, drop, ap, sym, refl, subst}
 use Rattle.std.proofs.Common.{add-one, append-nil, append_assoc, arith}
 use Rattle.std.specs.Prelude.{All, slice_get}
@@ -13,7 +13,7 @@ use Rattle.mmtel_net.specs.declared.connections.Connection.{Connection}
 abbrev IsOnTime : Option Instant → Connection → Type 0
 IsOnTime now connection = is_late now connection ≡ false
 
--- so many of them were looked at
+-- so many of them were read
 pub record Round (now : Option Instant) (before : List Connection) (turn : ℕ) (waiting : List Connection) : Type 0 where
   pub seen : List Connection
   pub parts : waiting ≡ drop turn before ++ seen
@@ -23,7 +23,7 @@ pub record Round (now : Option Instant) (before : List Connection) (turn : ℕ) 
 pub begun : (now : Option Instant) (before : List Connection) → Round now before 0 before
 begun now before = record { seen = []; parts = sym (append-nil before); same = refl; on_time = All-nil (IsOnTime now) }
 
--- ---- the one that stands in front
+-- ---- the first one
 
 record IsNext (before : List Connection) (turn : ℕ) (next : Connection) : Type 0 where
   rest : drop turn before ≡ next ∷ drop (suc turn) before
@@ -37,7 +37,7 @@ next_of (c ∷ before) (suc turn) h =
     let n : (next : Connection) × IsNext before turn next = next_of before turn (omega arith) in
     (n.0, record { rest = n.1.rest; stream = n.1.stream; front = ap (λ (l : List TcpStream). c.stream ∷ l) n.1.front })
 
--- what is left where the one in front is taken out
+-- what remains where the first one is removed
 record Left (before : List Connection) (turn : ℕ) (waiting seen : List Connection) (taken : Connection) : Type 0 where
   next : IsNext before turn taken
   rest : drop 1 waiting ≡ drop (suc turn) before ++ seen
@@ -53,7 +53,7 @@ left_of before turn waiting taken r h is =
     let same : n.0 ≡ taken = same_taken n.0 taken (sym (ap (λ (l : List Connection). slice_get l 0) whole) ∙ is) in
     record { next = subst (IsNext before turn) same n.1; rest = ap (λ (l : List Connection). drop 1 l) whole }
 
--- it waits on
+-- it continues to wait
 pub looked : (now : Option Instant) (before : List Connection) (turn : ℕ) (waiting : List Connection) (taken after : Connection)
     → Round now before turn waiting → turn < length before → slice_get waiting 0 ≡ Some taken → after.stream ≡ taken.stream → is_late now after ≡ false
     → Round now before (turn + 1) (drop 1 waiting ++ after ∷ [])

@@ -1,4 +1,4 @@
-//! Web connections that are read side by side.
+//! Web connections that are read concurrently.
 ghost use Rattle.std.specs.Prelude.{◌≡◌, ◌≤◌, ◌<◌, ◌+◌, ◌*◌, ◌^◌, ◌&&◌, ◌||◌, ◌==◌, length, take, drop, min, nat_lt, is_err, IfOk, OnErr};
 ghost use Rattle.std.specs.Duration.{as_nanos};
 ghost use Rattle.std.specs.Result.{ForOk};
@@ -19,10 +19,10 @@ const DEADLINE: u128 = 500;
 /// How long each write of a reply may take, in milliseconds.
 const REPLY: u64 = 50;
 
-/// What a client that waits with its body is told (RFC 9110 §15.2.1).
+/// What is sent to a client that waits for 100 (Continue) before its body (RFC 9110 §15.2.1).
 const GO_ON: &[u8] = b"HTTP/1.1 100 Continue\r\n\r\n";
 
-/// A web connection, with what was read of it and how much of that was handed out.
+/// A web connection, with what was read of it and how much of that was returned.
 #[derive(Drop)]
 pub struct Connection {
     stream: TcpStream,
@@ -33,7 +33,7 @@ pub struct Connection {
     told: bool,
 }
 
-/// What reading a connection came to.
+/// The result of reading a connection.
 enum Step {
     /// Its request may become whole yet.
     Waits,
@@ -43,7 +43,7 @@ enum Step {
     NoMemory,
 }
 
-/// What reading all of them came to.
+/// The result of reading all of them.
 #[derive(Drop)]
 pub enum Found {
     /// None is due.
@@ -54,7 +54,7 @@ pub enum Found {
     NoMemory,
 }
 
-/// What stands behind so many bytes.
+/// The rest after so many bytes.
 fn behind(bytes: &[u8], count: usize) -> &[u8]
     ensures rest { result.now ≡ drop count bytes.now }
     ensures room { count + length result.now < 2 ^ 64 }
@@ -78,7 +78,7 @@ fn fill(buf: &mut [u8], bytes: &[u8]) -> usize
     count
 }
 
-/// Whether a connection that came so long ago has taken too long.
+/// Whether a connection that was accepted so long ago has taken too long.
 fn is_too_long(taken: Duration) -> bool
     ensures { result ≡ nat_lt (500 * 1_000_000) (as_nanos taken) }
 {
@@ -86,7 +86,7 @@ fn is_too_long(taken: Duration) -> bool
 }
 
 impl Connection {
-    /// A connection of which nothing was read. Its stream never waits.
+    /// A connection of which nothing was read. Its stream never blocks.
     pub fn new(stream: TcpStream, came: Instant) -> Connection {
         Connection {
             stream,
@@ -98,7 +98,7 @@ impl Connection {
         }
     }
 
-    /// Whether it waits yet by this reading of the clock. A clock that fails lets none wait.
+    /// Whether it may still wait by this reading of the clock. Where the clock fails, none may.
     fn by_clock(&self, now: Option<Instant>) -> Step
         ensures { result ≡ waits_unless (is_late now self.now) }
     {
@@ -108,7 +108,7 @@ impl Connection {
         }
     }
 
-    /// Tells a client that waits with its body to go on, once. A client that cannot be told may send it all the same.
+    /// Sends 100 (Continue) to a client that waits for it before its body, once. A client to which it cannot be sent may send its body nevertheless.
     fn tell_to_go_on(&mut self)
         ensures { self.new ≡ record self.old { told = self.old.told || waits_to_go_on self.old.bytes } }
     {
@@ -119,7 +119,7 @@ impl Connection {
         }
     }
 
-    /// Keeps bytes that were read.
+    /// Appends bytes that were read.
     fn keep(&mut self, now: Option<Instant>, alloc: Global, bytes: &[u8]) -> Step
         ensures { Keeps now self.old self.new bytes.now result }
     {
@@ -135,7 +135,7 @@ impl Connection {
         }
     }
 
-    /// Takes in what a read of its stream came to.
+    /// Processes the result of reading its stream.
     fn take_in(
         &mut self,
         now: Option<Instant>,
@@ -169,7 +169,7 @@ impl Connection {
         self.take_in(now, alloc, buf, read)
     }
 
-    /// Hands out what was read, as much as fits, into the front of the buffer; then its failure, or its end.
+    /// Returns what was read, as much as fits, in the front of the buffer; then its failure, or its end.
     pub fn hand(&mut self, buf: &mut [u8]) -> io::Result<usize>
         ensures within { IfOk result (λ n. n ≤ length buf.new) }
         ensures count { IfOk result (λ n. n ≡ min (length buf.old) (length (unread self.old))) }
@@ -199,7 +199,7 @@ impl Connection {
     }
 }
 
-/// Reads each of the connections once, the first first, and takes out the first that is due; those that were read before it wait behind the others.
+/// Reads each of the connections once, in order, and removes the first that is due; those that were read before it come after the others.
 pub fn find_due(
     waiting: &mut List<Connection>,
     now: Option<Instant>,

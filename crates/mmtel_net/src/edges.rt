@@ -1,4 +1,4 @@
-//! The sockets with the web connections that wait, of which no clause says what comes.
+//! The sockets with the web connections that wait: the boundary, of whose input no clause says anything.
 ghost use Rattle.std.specs.Prelude.{◌≡◌, ◌≤◌, ◌+◌, ◌%◌, length, take, drop, min, IfOk, IsTrue, OnErr, option_map};
 ghost use Rattle.mmtel_net.specs.Reading.{announced, with_handed};
 
@@ -13,7 +13,7 @@ use std::io::ErrorKind;
 use std::net::{SocketAddr, TcpStream};
 use std::time::Instant;
 
-/// The web connections that are read side by side, at most: further ones wait in the listener.
+/// The maximum number of web connections that are read concurrently: further ones wait in the listener.
 const CONNECTIONS: usize = 64;
 
 /// The sockets, the connections that are not announced yet, and the one that was announced last.
@@ -30,7 +30,7 @@ pub struct Edge<'a> {
     turn: u8,
 }
 
-/// A datagram as an arrival. The buffer holds one byte more than a datagram may have, so one that was cut is too large still.
+/// A datagram as an arrival. The buffer has one byte more than a datagram may have, so a truncated one is still too large.
 fn arrival(alloc: Global, from: SocketAddr, at: Moment, bytes: &[u8]) -> Arrival {
     let SocketAddr::V4(from) = from else {
         return Arrival::Quiet { at };
@@ -64,7 +64,7 @@ impl<'a> Edge<'a> {
         }
     }
 
-    /// Binds the addresses, in the place of those that were bound before.
+    /// Binds the addresses, in place of those that were bound before.
     pub fn bind(&mut self, sip: Addr, web: Addr) -> io::Result<()> {
         self.sockets = None;
         let sockets = Sockets::bind(self.rt, sip, web)?;
@@ -72,12 +72,12 @@ impl<'a> Edge<'a> {
         Ok(())
     }
 
-    /// Whether there is room for one more web connection.
+    /// Whether there is space for one more web connection.
     fn has_room(&self) -> bool {
         self.waiting.items().len() < CONNECTIONS
     }
 
-    /// The stream of a web connection that has come, if there is room. That one could not be taken is no fault: the next one is looked for after the next wait.
+    /// The stream of a web connection that has arrived, if there is space. A failed accept is no fault: the next connection is accepted after the next wait.
     fn stream(&mut self) -> io::Result<Option<TcpStream>> {
         let Some(sockets) = &self.sockets else {
             return Err(not_connected());
@@ -90,9 +90,9 @@ impl<'a> Edge<'a> {
         Ok(taken.unwrap_or(None))
     }
 
-    /// Takes a web connection that has come, if there is room; true where memory ran out.
+    /// Accepts a web connection that has arrived, if there is space; true where memory ran out.
     ///
-    /// The listener is asked only where one may be there: asking it for nothing costs as much as a datagram.
+    /// The listener is polled only where a connection may have arrived: polling it for nothing costs as much as a datagram.
     fn accept(&mut self, alloc: Global) -> io::Result<bool> {
         if !self.web_came {
             return Ok(false);
@@ -143,7 +143,7 @@ impl<'a> Edge<'a> {
         }
     }
 
-    /// What has come, if anything: in turns a connection or a datagram comes first, so that neither keeps the other back.
+    /// What has arrived, if anything: a connection or a datagram comes first in turns, so that neither delays the other.
     fn come(&mut self, alloc: Global) -> io::Result<Option<Arrival>> {
         self.web_first = !self.web_first;
         if self.web_first {
@@ -159,7 +159,7 @@ impl<'a> Edge<'a> {
         }
     }
 
-    /// Waits for a datagram or a connection; for a datagram alone where no connection would be taken. The listener is not asked while it fails, so it is tried again then.
+    /// Waits for a datagram or a connection; only for a datagram where no connection would be accepted. The listener is not polled while it fails, so it is tried again afterwards.
     fn wait(&mut self, ms: i32) {
         let listens = self.has_room() && !self.web_failed;
         if let Some(sockets) = &self.sockets {
@@ -168,7 +168,7 @@ impl<'a> Edge<'a> {
         }
     }
 
-    /// Counts a call of `next`. At each 256th the listener is asked whatever the waits said: while datagrams never end, nothing is waited for.
+    /// Counts a call of `next`. At each 256th the listener is polled whatever the waits returned: while there is always a datagram, there is no wait.
     fn count_turn(&mut self)
         ensures counted { self.new.turn ≡ (self.old.turn + 1) % 256 }
         ensures asked { (self.new.turn ≡ 0) → IsTrue self.new.web_came }
@@ -180,7 +180,7 @@ impl<'a> Edge<'a> {
         }
     }
 
-    /// What comes within 50 ms. While connections wait they are looked at every 5 ms.
+    /// What arrives within 50 ms. While connections wait they are read every 5 ms.
     pub fn next(&mut self, alloc: Global) -> io::Result<Arrival> {
         self.connection = None;
         self.count_turn();
@@ -204,7 +204,7 @@ impl<'a> Edge<'a> {
         }
     }
 
-    /// Hands out what was read of the connection that was announced last.
+    /// Returns what was read of the connection that was announced last.
     pub fn read(&mut self, buf: &mut [u8]) -> io::Result<usize>
         ensures within { IfOk result (λ n. n ≤ length buf.new) }
         ensures count { IfOk result (λ n. n ≡ min (length buf.old) (length (announced self.old.connection))) }

@@ -1,4 +1,4 @@
-//! A link over the network: the edge, of which no clause says what comes.
+//! A link over the network: the boundary, of whose input no clause says anything.
 #![tactic(auto)]
 
 mod connections;

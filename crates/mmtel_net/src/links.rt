@@ -7,9 +7,9 @@ use mmtel_link::{Arrival, Link, SendFault};
 use mmtel_types::{Addr, Failed};
 use std::alloc::Global;
 
-/// A link over UDP and TCP. It says that nothing came where nothing did for 50 ms, and never that it is closed.
+/// A link over UDP and TCP. It returns a tick where nothing arrived for 50 ms, and never that it is closed.
 ///
-/// A web connection is announced once its request is whole, or it ended, failed or took 500 ms, which counts as its end. Connections are read side by side.
+/// A web connection is announced once its request is whole, or it ended, failed or took 500 ms, which counts as its end. Connections are read concurrently.
 #[derive(Drop)]
 pub struct NetLink<'a> {
     edge: Edge<'a>,

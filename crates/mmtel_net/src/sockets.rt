@@ -1,4 +1,4 @@
-//! A UDP socket and a TCP listener that never wait, and a wait on both.
+//! A UDP socket and a TCP listener that never block, and a wait on both.
 ghost use Rattle.std.specs.Prelude.{◌≤◌, length, IfOk, IfSome};
 
 use libc::net::{POLLIN, SO_RCVBUF, SOL_SOCKET, poll, setsockopt};
@@ -10,10 +10,10 @@ use std::net::{Ipv4Addr, SocketAddr, TcpListener, TcpStream, UdpSocket};
 use std::os::fd::AsRawFd;
 use std::time::SystemTime;
 
-/// The bytes of datagrams that may wait in the socket, where the system allows so many.
+/// The size in bytes of the receive buffer for datagrams, where the system allows so much.
 const WAITING: u32 = 4_194_304;
 
-/// What `poll` passes over.
+/// A descriptor that `poll` ignores.
 const NOTHING: i32 = -1;
 
 /// The two sockets.
@@ -23,7 +23,7 @@ pub struct Sockets {
     listener: TcpListener,
 }
 
-/// An address as the system has it.
+/// An address in the form of the system.
 fn socket_addr(addr: Addr) -> SocketAddr {
     SocketAddr::from((Ipv4Addr::from_octets(addr.ip), addr.port))
 }
@@ -43,7 +43,7 @@ pub fn clock(rt: &HostRuntime) -> io::Result<Moment> {
     }
 }
 
-/// Asks for room for this many bytes of datagrams that wait. The system may give less, and that is no fault.
+/// Requests a receive buffer for this many bytes of datagrams. The system may grant less, and that is no fault.
 fn make_room(socket: &UdpSocket, bytes: u32) {
     let mut value = [0u8; 16];
     value[..4].copy_from_slice(&bytes.to_le_bytes());
@@ -62,7 +62,7 @@ impl Sockets {
         Ok(Sockets { socket, listener })
     }
 
-    /// A datagram, where one has come. That a peer refused one is no fault.
+    /// A datagram, where one has arrived. An error since a peer refused one is no fault.
     pub fn datagram(&self, buf: &mut [u8]) -> io::Result<Option<(usize, SocketAddr)>>
         ensures { IfOk result (λ came. IfSome came (λ x. x.0 ≤ length buf.new)) }
     {
@@ -74,7 +74,7 @@ impl Sockets {
         }
     }
 
-    /// The stream of a web connection, where one has come. An error is one of that connection, or a want of the system that may pass (accept(2)).
+    /// The stream of a web connection, where one has arrived. An error is one of that connection, or a transient lack of system resources (accept(2)).
     pub fn stream(&self) -> io::Result<Option<TcpStream>> {
         match self.listener.accept() {
             Ok((stream, _)) => {
@@ -86,7 +86,7 @@ impl Sockets {
         }
     }
 
-    /// Waits until a datagram has come or, where that is asked for, a web connection, for so many milliseconds at most; whether the latter may have come.
+    /// Waits until a datagram has arrived or, where that is requested, a web connection, for at most so many milliseconds; returns whether the latter may have arrived.
     pub fn wait(&self, listens: bool, ms: i32) -> bool {
         let listener = if listens {
             self.listener.as_raw_fd()

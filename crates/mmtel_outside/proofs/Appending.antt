@@ -14,7 +14,7 @@ Appends-both (Some a) None c xs ys h k = absurd h
 Appends-both (Some a) (Some b) None xs ys h k = absurd k
 Appends-both (Some a) (Some b) (Some c) xs ys h k = grind (arith, common_steps, h, k)
 
--- the next n of what is left
+-- the next n of what remains
 pub take-next : (text : List ℕ) (at n : ℕ) → at ≤ length text → n ≤ length (take (length text - at) (drop at text)) → take at text ++ take n (take (length text - at) (drop at text)) ≡ take (at + n) text
 take-next text at n h k =
     let e : take (length text - at) (drop at text) ≡ drop at text = take_all (length text - at) (drop at text) (simp length-drop (omega arith)) in

@@ -1,14 +1,14 @@
--- Counts of calls and of faults of what lies outside the program (files, sinks, links, keepers), and calls that fail by their numbers.
+-- Counts of calls and of faults of the program's environment (files, sinks, links, keepers), and calls that fail by their numbers.
 use Rattle.std.specs.Prelude.{◌≡◌, ℕ, ◌≤◌, ◌==◌, List, Bool, OnOk, OnErr, IsErrOf}
 use Rattle.std.specs.List.{list_any}
 use Rattle.std.specs.declared.result.Result.{Result}
 use Rattle.mmtel_scan.specs.Numbers.{next_number}
 
--- whether the call after so many fails by its number: calls are numbered from 1
+-- whether the next call, after so many, fails by its number: calls are numbered from 1
 abbrev pub fails_by_number : List ℕ → ℕ → Bool
 fails_by_number failing calls = list_any (λ number. number == next_number calls) failing
 
--- a count rose: it is greater than before, or stands at the greatest u64
+-- a count rose: it is greater than before, or remains at the greatest u64
 abbrev pub Rose : ℕ → ℕ → Type 0
 Rose before now = next_number before ≤ now
 
@@ -17,7 +17,7 @@ pub record HasCause {T E : Type 0} (before now : ℕ) (result : Result T E) : Ty
   pub kept : OnOk result (now ≡ before)
   pub failed : OnErr result (Rose before now)
 
--- the same where one of the errors is want of memory: the count rose at `failed`, and is as before at `no_memory` and at `Ok`
+-- the same where one of the errors is out of memory: the count rose at `failed`, and is as before at `no_memory` and at `Ok`
 pub record HasFaultCause {T E : Type 0} (failed no_memory : E) (before now : ℕ) (result : Result T E) : Type 0 where
   pub kept : OnOk result (now ≡ before)
   pub rose : IsErrOf result failed → Rose before now

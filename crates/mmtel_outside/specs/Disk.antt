@@ -1,4 +1,4 @@
--- What is told of the files of the system and of the standard output: how many of their calls failed so far.
+-- What is known of the system's files and of standard output: how many of their calls have failed so far.
 use Rattle.std.specs.Prelude.{ℕ}
 use Rattle.mmtel_outside.specs.declared.disk.DiskFiles.{DiskFiles}
 use Rattle.mmtel_outside.specs.declared.disk.OutSink.{OutSink}

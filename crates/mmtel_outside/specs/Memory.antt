@@ -6,12 +6,12 @@ use Rattle.mmtel_scan.specs.Numbers.{next_number}
 use Rattle.mmtel_outside.specs.Counts.{fails_by_number}
 use Rattle.mmtel_outside.specs.Shelf.{Shelf}
 
--- files in memory: what they hold, and the count of their faults
+-- files in memory: their contents, and the count of their faults
 pub record CountedShelf : Type 0 where
   pub shelf : Shelf
   pub faults : ℕ
 
--- a sink in memory: what it took, the room that is left, the most that one write takes, the numbers of the writes that fail, how many writes were made, and the count of faults
+-- a sink in memory: what was written to it, the remaining space, the maximum of one write, the numbers of the writes that fail, how many writes were made, and the count of faults
 pub record Basin : Type 0 where
   pub taken : List ℕ
   pub room : ℕ
@@ -20,11 +20,11 @@ pub record Basin : Type 0 where
   pub calls : ℕ
   pub faults : ℕ
 
--- how many of the bytes the next write takes, where it does not fail by its number
+-- how many of the bytes the next write accepts, where it does not fail by its number
 abbrev pub fits : Basin → List ℕ → ℕ
 fits basin bytes = min (min (length bytes) basin.most) basin.room
 
--- what the next write answers: how many bytes it takes, or nothing where it fails, by its number or since it would take none of bytes that are not empty
+-- the result of the next write: how many bytes it accepts, or nothing where it fails, by its number or since it would accept none of bytes that are not empty
 abbrev pub taken_by : Basin → List ℕ → Option ℕ
 taken_by basin bytes =
     if length bytes == 0 then Some 0
@@ -32,7 +32,7 @@ taken_by basin bytes =
     else if fits basin bytes == 0 then None
     else Some (fits basin bytes)
 
--- the sink after a write of bytes that are not empty, by what it answered
+-- the sink after a write of bytes that are not empty, by the result of the write
 abbrev pub basin_at : Basin → List ℕ → Option ℕ → Basin
 basin_at basin bytes None = record basin { calls = next_number basin.calls; faults = next_number basin.faults }
 basin_at basin bytes (Some count) =
@@ -42,7 +42,7 @@ basin_at basin bytes (Some count) =
 abbrev pub basin_after : Basin → List ℕ → Basin
 basin_after basin bytes = if length bytes == 0 then basin else basin_at basin bytes (taken_by basin bytes)
 
--- a write answers as the sink says
+-- the result of a write is the one of the sink's model
 abbrev pub TakesAs : {E : Type 0} → Option ℕ → Result ℕ E → Type 0
 TakesAs None result = OnOk result ⊥
 TakesAs (Some count) result = MatchResult result (λ n. n ≡ count) (λ _. ⊥)

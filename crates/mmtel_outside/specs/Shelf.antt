@@ -1,4 +1,4 @@
--- Files that tell what they hold: named texts, whose reads fail by name or by number.
+-- Files whose contents are known: named texts, whose reads fail by name or by number.
 use Rattle.std.specs.Prelude.{◌≡◌, ℕ, List, [], ◌∷◌, if◌then◌else◌, IfOk, IsErrOf, ◌↔◌, Some, None}
 use Rattle.std.specs.Str.{bytes_eq}
 use Rattle.std.specs.declared.option.Option.{Option}
@@ -19,24 +19,24 @@ abbrev pub text_at : List (List ℕ × List ℕ) → List ℕ → Option (List �
 text_at [] name = None
 text_at (file ∷ files) name = if bytes_eq file.0 name then Some file.1 else text_at files name
 
--- what the next call answers for that name: its text, or nothing where it fails
+-- the result of the next call for that name: its text, or nothing where it fails
 abbrev pub answer_at : Shelf → List ℕ → Option (List ℕ)
 answer_at shelf name = if fails_by_number shelf.failing shelf.calls then None else text_at shelf.texts name
 
--- the shelf after a call, whatever it answered
+-- the files after a call, whatever it returned
 abbrev pub called : Shelf → Shelf
 called shelf = record shelf { calls = next_number shelf.calls }
 
--- a read answers as the shelf says: it fails exactly where the shelf has no answer, and else gives that answer or runs out of memory
+-- a read returns what the model gives: it fails exactly where the model has no text, and else returns that text or runs out of memory
 pub record Reads (shelf : Shelf) (name : List ℕ) (result : Result (List ℕ) FileFault) : Type 0 where
   pub ok : IfOk result (λ text. answer_at shelf name ≡ Some text)
   pub failed : IsErrOf result Failed ↔ (answer_at shelf name ≡ None)
 
--- the same where the shelf is told, and it is told on; where nothing is told, nothing is told after
+-- the same where the contents are known, and they are known afterwards; where nothing is known, nothing is known afterwards
 abbrev pub ReadsTold : Option Shelf → Option Shelf → List ℕ → Result (List ℕ) FileFault → Type 0
 ReadsTold None after name result = after ≡ None
 ReadsTold (Some shelf) after name result = (after ≡ Some (called shelf)) × Reads shelf name result
 
--- what the count of faults says of a read: it rose at `Failed`, and is as before at every other answer
+-- the count of faults after a read: it rose at `Failed`, and is as before at every other result
 abbrev pub HasFileCause : {T : Type 0} → ℕ → ℕ → Result T FileFault → Type 0
 HasFileCause before now result = HasFaultCause Failed NoMemory before now result

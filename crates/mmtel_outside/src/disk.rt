@@ -1,4 +1,4 @@
-//! The files of the system and the standard output: the edge, of which no clause says what it holds.
+//! The system's files and standard output: the boundary, of whose contents no clause says anything.
 ghost use Rattle.std.specs.Prelude.{◌≡◌, None};
 ghost use Rattle.mmtel_outside.specs.Disk.{file_faults, sink_faults};
 
@@ -14,7 +14,7 @@ use std::io::{ErrorKind, Read, Write};
 /// The longest file that is read, in bytes.
 const LONGEST: u64 = 67_108_864;
 
-/// Files of the system, by their paths in UTF-8. A file over 67,108,864 bytes is a fault.
+/// The system's files, by their paths in UTF-8. A file over 67,108,864 bytes is a fault.
 #[derive(Drop)]
 pub struct DiskFiles<'a> {
     rt: &'a HostRuntime,
@@ -22,7 +22,7 @@ pub struct DiskFiles<'a> {
 }
 
 impl<'a> DiskFiles<'a> {
-    /// The files of this system, of which none failed so far.
+    /// The system's files, with a count of zero faults.
     pub fn new(rt: &'a HostRuntime) -> DiskFiles<'a>
         ensures fresh { file_faults result ≡ 0 }
     {
@@ -80,7 +80,7 @@ pub struct OutSink<'a> {
 }
 
 impl<'a> OutSink<'a> {
-    /// The standard output of this program, of which no write failed so far.
+    /// The standard output of this program, with a count of zero faults.
     pub fn new(rt: &'a HostRuntime) -> OutSink<'a>
         ensures fresh { sink_faults result ≡ 0 }
     {

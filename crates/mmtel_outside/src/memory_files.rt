@@ -43,7 +43,7 @@ fn find<'a>(files: &'a [(Text, Text)], name: &[u8]) -> Option<&'a [u8]>
 }
 
 impl MemoryFiles {
-    /// Files of these names and texts. The calls whose numbers, counted from 1, are in `failing` fail, and so does each call with a name that is not there.
+    /// Files of these names and texts. The calls whose numbers, counted from 1, are in `failing` fail, and so does each call with a name that does not exist.
     pub fn new(files: List<(Text, Text)>, failing: List<u64>) -> MemoryFiles
         ensures fresh { result ≡ record {
           shelf = record { texts = files; failing = failing; calls = 0 };
@@ -58,7 +58,7 @@ impl MemoryFiles {
         }
     }
 
-    /// What the next call answers for that name: its text, or nothing where it fails.
+    /// The result of the next call for that name: its text, or nothing where it fails.
     fn answer(&self, name: &[u8]) -> Option<&[u8]>
         ensures answered { option_copied result ≡ answer_at self.now.shelf name.now }
     {
@@ -69,7 +69,7 @@ impl MemoryFiles {
         }
     }
 
-    /// A copy of what the next call answers.
+    /// A copy of the result of the next call.
     fn look(&self, alloc: Global, name: &[u8]) -> Result<Text, FileFault>
         ensures reads { Reads self.now.shelf name.now result }
     {

@@ -11,7 +11,7 @@ use mmtel_types::Failed;
 use std::alloc::Global;
 use std::marker::Model;
 
-/// A sink in memory, with so much room, whose writes of given numbers fail.
+/// A sink in memory, of limited space, whose writes of given numbers fail.
 #[derive(Drop)]
 pub struct MemorySink {
     taken: Vec<u8>,
@@ -41,11 +41,12 @@ impl Model for MemorySink {
 }
 
 impl MemorySink {
-    /// An empty sink, which takes `room` bytes in all and at most `most` in one write. It takes its memory now. The writes whose numbers, counted from 1, are in `failing` fail.
+    /// An empty sink, which accepts `room` bytes in all and at most `most` in one write. Its memory is allocated now. The writes whose numbers, counted from 1, are in `failing`
+    /// fail.
     ///
     /// # Errors
     ///
-    /// Want of memory alone.
+    /// Out of memory only.
     pub fn new(
         alloc: Global,
         room: usize,

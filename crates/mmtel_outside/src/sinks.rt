@@ -1,4 +1,4 @@
-//! Where text is written.
+//! The output of text.
 ghost use Rattle.std.specs.Prelude.{◌≡◌, ◌≤◌, ℕ, List, [], length, Option, IfOk, OnOk, OnErr, Ok};
 ghost use Rattle.std.specs.Io.KnownBytes.{Appends, WriteAppends};
 ghost use Rattle.mmtel_outside.specs.Counts.{HasCause};
@@ -6,19 +6,19 @@ ghost use Rattle.mmtel_outside.specs.Written.{AppendsPart};
 
 use mmtel_types::Failed;
 
-/// Where text is written, with what it took where that is told, and a count of faults.
+/// An output of text, with what was written to it where that is known, and a count of faults.
 pub trait Sink {
-    /// The bytes that it took, where that is told.
+    /// The bytes that were written, where they are known.
     ghost written: { Self → Option (List ℕ) };
 
-    /// How many writes answered `Failed`. It never falls, and stays at the greatest u64.
+    /// How many writes returned `Failed`. It never decreases, and remains at the greatest u64.
     ghost faults: { Self → ℕ };
 
-    /// Takes a prefix of the bytes, and answers its length. It takes no memory.
+    /// Writes a prefix of the bytes, and returns its length. It allocates nothing.
     ///
     /// # Errors
     ///
-    /// `Failed` only where the count of faults rose in this call; nothing was taken then. A write that takes nothing of bytes that are not empty is one.
+    /// `Failed` only where the count of faults rose in this call; nothing was written then. A write that accepts none of bytes that are not empty fails so.
     fn write(&mut self, bytes: &[u8]) -> Result<usize, Failed>
         ensures bound { IfOk result (λ count. count ≤ length bytes.now) }
         ensures progress { IfOk result (λ count. count ≡ 0 → bytes.now ≡ []) }
@@ -31,7 +31,7 @@ pub trait Sink {
 ///
 /// # Errors
 ///
-/// `Failed` only where the count of faults rose in this call; a prefix of the text was taken then, and not the whole.
+/// `Failed` only where the count of faults rose in this call; a proper prefix of the text was written then.
 pub fn write_all<S: Sink>(out: &mut S, text: &[u8]) -> Result<(), Failed>
     ensures whole { OnOk result (Appends (S.written out.old) (S.written out.new) text.now) }
     ensures part { OnErr result (AppendsPart (S.written out.old) (S.written out.new) text.now) }

@@ -66,7 +66,7 @@ parties_named accounts trusted m =
     ap (λ (user : Option NameAddr). parties_by accounts (account_from accounts (asserted trusted m.lines) user) m.start (served_in (named_user trusted m.lines))) (origin-heard trusted m.lines)
     ∙ ap (λ (user : ServedUser). parties_by accounts (caller_account accounts (heard trusted m)) m.start user) (user-heard trusted m)
 
--- ---- the user decides alone
+-- ---- the user alone decides
 
 origin-of : (accounts : List AccountIdentity) (ls : List Line) (value : List ℕ) (user : NameAddr) → first_value (codes "P-Served-User") ls ≡ Some value → name_addr_of value ≡ Some user → is_orig user.params ≡ true → served_origin ls ≡ Some user
 origin-of accounts ls value user first named orig =
@@ -107,7 +107,7 @@ served-by true user account = served-unless user.session_case account
 pub origin-restricts : (accounts : List AccountIdentity) (m : HeardMessage) → origin_served (parties_of accounts m) ≡ served_account accounts m
 origin-restricts accounts m = served-by m.trusted m.served (caller_account accounts m)
 
--- ---- what is private decides of the caller alone
+-- ---- what is private decides only about the caller
 
 pub parties-public : (accounts : List AccountIdentity) (m n : HeardMessage) → public_part m ≡ public_part n → caller_account accounts m ≡ caller_account accounts n → parties_of accounts m ≡ parties_of accounts n
 parties-public accounts m n same caller =

@@ -1,4 +1,4 @@
--- Premises and conclusions of the laws of parties and targets.
+-- Premises and conclusions of the theorems about parties and targets.
 use Rattle.std.specs.Prelude.{◌≡◌, ℕ, ◌∷◌, Bool, true, not, ◌&&◌, ◌||◌, Option, Some, None, List, codes}
 use Rattle.std.specs.List.{list_all}
 use Rattle.std.specs.Str.{str_eq_ignore_ascii_case}
@@ -25,7 +25,7 @@ served_line ls = first_value (codes "P-Served-User") ls
 abbrev pub NamesUser : Message Start → NameAddr → Type 0
 NamesUser m user = (value : List ℕ) × (served_line m.lines ≡ Some value) × (name_addr_of value ≡ Some user)
 
--- the parties of a request of whose caller nothing is believed
+-- the parties of a request of which nothing that its sender asserts is believed
 abbrev pub unbelieved : List AccountIdentity → Start → Parties
 unbelieved accounts start = record { origin = None; target = requested_account accounts start; served = Both; registration = None }
 
@@ -33,12 +33,12 @@ unbelieved accounts start = record { origin = None; target = requested_account a
 abbrev pub AreDigits : List ℕ → Type 0
 AreDigits digits = list_all (in_class Digit) (reduced digits) ≡ true
 
--- an identity that is of the number and of its sip URI in the home domain alike: of a sip URI whose user is the number, the host is that domain and the first parameter
--- user says phone
+-- an identity that names the number and its sip URI in the home domain, or neither: of a sip URI whose user is the number, the host is that domain and the first parameter user
+-- is phone
 abbrev pub names_alike : (home number : List ℕ) → Uri → Bool
 names_alike home number (Sip user host port params headers) = not (is_same_user user (Some number)) || (str_eq_ignore_ascii_case host home && has_user_phone params)
 names_alike home number (Tel other params) = true
 
--- each identity names '+' and these digits, and their sip URI in the home domain, alike
+-- each identity names '+' and these digits and their sip URI in the home domain, or neither
 abbrev pub AllNameAlike : List AccountIdentity → (home digits : List ℕ) → Type 0
 AllNameAlike identities home digits = list_all (λ e. names_alike home (reduced (43 ∷ digits)) e.uri) identities ≡ true

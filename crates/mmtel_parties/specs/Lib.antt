@@ -1,4 +1,4 @@
--- What public clauses cite, the laws among them.
+-- What public clauses cite, the theorems among them.
 pub mod Laws
 pub mod Parties
 pub mod Routing

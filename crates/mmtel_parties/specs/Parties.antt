@@ -1,8 +1,8 @@
--- Who takes part in a call that a request opens: the account of its caller, the account of its target, and which of them are served
--- (RFC 5502 §6 and §7.2, TS 24.229 §5.7.1.3A). All but the caller's account is decided of what is never private.
+-- Who takes part in a call that a request opens: the account of its caller, the account of its target, and which of them are served (RFC 5502 §6 and §7.2, TS 24.229 §5.7.1.3A).
+-- All except the caller's account is determined by what is never private.
 --
--- A trusted peer may name the user who is served and the session case, in P-Served-User. Of that case the user alone decides. Else the caller is known by what the peer
--- asserts of it, and the target by the Request-URI.
+-- A trusted peer may name the user who is served and the session case, in P-Served-User. That user alone determines the side of that case. Otherwise the caller is identified by
+-- what the peer asserts of it, and the target by the Request-URI.
 use Rattle.std.specs.Prelude.{ℕ, Bool, true, false, Option, Some, None, List, codes, if◌then◌else◌}
 use Rattle.std.specs.Str.{bytes_eq}
 use Rattle.mmtel_scan.specs.Chain.{◌>>=◌}
@@ -24,7 +24,7 @@ use Rattle.mmtel_parties.specs.declared.parties.Parties.{Parties}
 
 -- ---- the user who is served
 
--- what the first P-Served-User says: a trusted peer's alone is believed
+-- what the first P-Served-User asserts: only that of a trusted peer is believed
 abbrev pub believed_user : HeardMessage → ServedUser
 believed_user m = if m.trusted then m.served else served_in None
 
@@ -40,7 +40,7 @@ sides_of Terminating = Target
 abbrev pub account_by : List AccountIdentity → Option Uri → Option Account
 account_by accounts identity = identity >>= account_of accounts
 
--- the account of a URI; none of one that cannot be read or is of another scheme than sip and tel
+-- the account of a URI; none where it does not parse or has another scheme than sip and tel
 abbrev pub account_in : List AccountIdentity → List ℕ → Option Account
 account_in accounts uri = account_by accounts (or_no_uri (uri_of uri))
 
@@ -56,12 +56,12 @@ target_from accounts start (Some uri) = account_in accounts uri
 
 -- ---- registration
 
--- what the parameter regstate says; any other word says nothing
+-- the registration state of the parameter regstate; any other word is none
 abbrev pub state_of : Option (List ℕ) → Option RegistrationState
 state_of None = None
 state_of (Some word) = if bytes_eq word (codes "reg") then Some Registered else if bytes_eq word (codes "unreg") then Some Unregistered else None
 
--- what is said of the registration of the target: nothing of one that is not named
+-- the registration state that is asserted of the target: none of a target that is not named
 abbrev pub registration_by : SessionCase → (regstate : Option (List ℕ)) → Option RegistrationState
 registration_by NoCase regstate = None
 registration_by Originating regstate = None
@@ -69,7 +69,7 @@ registration_by Terminating regstate = state_of regstate
 
 -- ---- the parties
 
--- of a request whose caller is of this account, with the user who is believed to be served
+-- of a request whose caller has this account, with the user who is believed to be served
 abbrev pub parties_by : List AccountIdentity → (caller : Option Account) → Start → ServedUser → Parties
 parties_by accounts caller start user = record {
   origin = caller;
@@ -78,7 +78,7 @@ parties_by accounts caller start user = record {
   registration = registration_by user.session_case user.regstate;
 }
 
--- of a message that was heard
+-- of a received message
 abbrev pub parties_of : List AccountIdentity → HeardMessage → Parties
 parties_of accounts m = parties_by accounts (caller_account accounts m) m.start (believed_user m)
 
@@ -107,6 +107,6 @@ origin_served p = if serves_origin p.served then p.origin else None
 abbrev pub target_served : Parties → Option Account
 target_served p = if serves_target p.served then p.target else None
 
--- whom the server serves: each account on a side that is served
+-- the accounts that the server serves: each one on a side that is served
 abbrev pub served_accounts : Parties → Served
 served_accounts p = record { origin = origin_served p; target = target_served p; both = serves_both p.served }

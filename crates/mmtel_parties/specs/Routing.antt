@@ -1,4 +1,4 @@
--- The way of an attempt: which Route values it keeps, and to which peer it goes (RFC 3261 §16.4 and §16.6, loose routing).
+-- The route of an attempt: which Route values it keeps, and to which peer it is sent (RFC 3261 §16.4 and §16.6, loose routing).
 use Rattle.std.specs.Prelude.{ℕ, ◌==◌, Bool, false, ◌&&◌, Option, Some, None, List, [], ◌∷◌, drop, if◌then◌else◌}
 use Rattle.std.specs.Option.{unwrap_or}
 use Rattle.std.specs.Str.{bytes_eq}
@@ -13,7 +13,7 @@ use Rattle.mmtel_trust.specs.declared.parties.Route.{Route}
 
 -- ---- the values that are kept
 
--- the URI names the server's address; 5060 is meant where it has no port (RFC 3261 §19.1.2)
+-- the URI names the server's address; without a port it is 5060 (RFC 3261 §19.1.2)
 abbrev pub names_server : Addr → Uri → Bool
 names_server sip (Sip user host port params headers) = bytes_eq host (ip_text sip.ip) && unwrap_or port 5060 == sip.port
 names_server sip (Tel number params) = false
@@ -33,7 +33,7 @@ kept_routes sip values = if begins_with_own sip values then drop 1 values else v
 
 -- ---- the peer
 
--- the peer to which a Route value leads: none where it is no sip URI
+-- the peer to which a Route value is routed: none where it is no sip URI
 abbrev pub led_to : List Route → Option Uri → Option Peer
 led_to table None = None
 led_to table (Some (Sip user host port params headers)) = route_of (Sip user host port params headers) table

@@ -1,4 +1,4 @@
-//! Laws of the definitions that contracts cite: each is the contract of a function that does nothing.
+//! Theorems about the definitions that contracts cite: each is the contract of a function that does nothing.
 ghost use Rattle.std.specs.Prelude.{◌≡◌, ◌++◌, ◌∷◌, true, false, List, ℕ, Some};
 ghost use Rattle.mmtel_lex.specs.declared.values.NameAddr.{NameAddr};
 ghost use Rattle.mmtel_lex.specs.declared.values.Param.{Param};
@@ -15,21 +15,19 @@ ghost use Rattle.mmtel_parties.specs.Parties.{account_in, origin_served, parties
 
 use mmtel_trust::equal_masks_decide_alike;
 
-/// Nobody but a trusted peer is believed: the caller of another has no account, both sides are served, the target's account is that of the Request-URI,
-/// and nothing is said of its registration.
+/// Only a trusted peer is believed: of a request from another one the caller has no account, both sides are served, the target's account is that of the Request-URI, and nothing
+/// is known of its registration.
 pub fn strangers_are_not_believed()
     ensures parties { (accounts : List AccountIdentity) (m : Message Start) → parties_of accounts (heard false m) ≡ unbelieved accounts m.start }
 {}
 
-/// Of several P-Served-User lines the first counts: what stands behind it changes nothing of what is said of the user,
-/// and nothing of who is served as the caller.
+/// Of several P-Served-User lines the first counts: what follows it changes neither what is asserted of the user nor who is served as the caller.
 pub fn first_served_user_counts()
     ensures said { (before after : List Line) (value : List ℕ) → served_line before ≡ Some value → served_by (served_line (before ++ after)) ≡ served_by (served_line before) }
     ensures origin { (before after : List Line) (value : List ℕ) → served_line before ≡ Some value → served_origin (before ++ after) ≡ served_origin before }
 {}
 
-/// The user whom a trusted peer names as served decides alone for its side: the account of that side is the user's, or none,
-/// whoever the caller is and whatever was requested.
+/// The user whom a trusted peer names as served determines its side alone: the account of that side is the user's, or none, whoever the caller is and whatever was requested.
 pub fn served_user_alone_decides()
     ensures origin { (es : List AccountIdentity) (m : Message Start) (user : NameAddr) → NamesUser m user → case_of user.params ≡ Originating →
         (parties_of es (heard true m)).origin ≡ account_in es user.uri }
@@ -42,8 +40,8 @@ pub fn served_origin_restricts()
     ensures account { (accounts : List AccountIdentity) (m : HeardMessage) → origin_served (parties_of accounts m) ≡ served_account accounts m }
 {}
 
-/// Nothing private decides of the parties but the account of the caller: two messages that are equal in what is never private,
-/// and whose callers are of one account, have the same parties; so have two messages of equal masks.
+/// The only private fact on which the parties depend is the account of the caller: two messages that are equal in what is never private, and whose callers have the same account,
+/// have the same parties; so have two messages of equal masks.
 pub fn parties_rest_on_the_mask()
     ensures public { (es : List AccountIdentity) (m n : HeardMessage) → public_part m ≡ public_part n → caller_account es m ≡ caller_account es n →
         parties_of es m ≡ parties_of es n }
@@ -52,8 +50,8 @@ pub fn parties_rest_on_the_mask()
     equal_masks_decide_alike();
 }
 
-/// A global number and the target that is made of it are of one account, where each identity of an account names both alike:
-/// where no sip URI has the number as its user but one of the home domain that says `user=phone`.
+/// A global number and the target that is made of it have the same account, where each identity of an account names both or neither: where no sip URI has the number as its user
+/// except one of the home domain with `user=phone`.
 pub fn numbers_are_found_alike()
     ensures account { (es : List AccountIdentity) (home ds : List ℕ) (ps : List Param) → AreDigits ds → AllNameAlike es home ds →
         account_of es (new_target home (Tel (43 ∷ ds) ps)) ≡ account_of es (Tel (43 ∷ ds) ps) }

@@ -1,4 +1,5 @@
-//! Who takes part in a call, and where its attempts go: the accounts of caller and target, which of them is served, targets and the home domain, Route values and the next hop.
+//! Who takes part in a call, and where its attempts are sent: the accounts of caller and target, which of them is served, targets and the home domain, Route values and the next
+//! hop.
 #![tactic(auto)]
 
 mod laws;

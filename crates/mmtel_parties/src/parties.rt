@@ -16,16 +16,16 @@ use mmtel_trust::{Accounts, Identities, asserted, name_addr_in, uri_of};
 use mmtel_types::Account;
 use std::alloc::Global;
 
-/// Who takes part in a call that a request opens, and who of them is served.
+/// Who takes part in a call that a request opens, and which of them is served.
 #[derive(Clone, Copy, Debug, PartialEq, Eq)]
 pub struct Parties {
-    /// The account of the caller, whether it is served or not; None where it is of no account.
+    /// The account of the caller, whether it is served or not; None where it has no account.
     pub origin: Option<Account>,
-    /// The account of the first target, whether it is served or not; None where it is of no account.
+    /// The account of the first target, whether it is served or not; None where it has no account.
     pub target: Option<Account>,
     /// Which of them are served.
     pub served: ServedSides,
-    /// What a trusted peer says of the registration of the user whom it names as the target; None where it says nothing.
+    /// The registration state that a trusted peer asserts of the user whom it names as the target; None where it asserts none.
     pub registration: Option<RegistrationState>,
 }
 
@@ -126,7 +126,7 @@ pub fn account_of(accounts: &Accounts, identities: &Identities) -> Option<Accoun
     }
 }
 
-/// The account of the user who is served as the caller, or else by who the message says that its sender is.
+/// The account of the user who is served as the caller, or else of the identities that the message asserts of its sender.
 fn origin_of(
     alloc: Global,
     accounts: &Accounts,
@@ -163,7 +163,7 @@ fn target_of(
     }
 }
 
-/// What a value of `regstate` says.
+/// The registration state of a value of `regstate`.
 fn state_of(word: Option<&[u8]>) -> Option<RegistrationState>
     ensures { result ≡ state_of (option_copied word.entry) }
 {
@@ -179,7 +179,7 @@ fn state_of(word: Option<&[u8]>) -> Option<RegistrationState>
     }
 }
 
-/// What is said of the registration of the target.
+/// The registration state that is asserted of the target.
 fn registration_of(user: &Option<NameAddr>) -> Option<RegistrationState>
     ensures { result ≡ registration_by (served_in user.now).session_case (served_in user.now).regstate }
 {
@@ -198,13 +198,13 @@ fn registration_of(user: &Option<NameAddr>) -> Option<RegistrationState>
 impl Parties {
     /// The parties of a message that came from a peer that is trusted or not.
     ///
-    /// A P-Served-User is believed of a trusted peer alone, and of several the first counts. The user whom it names is served, as the caller (`orig`)
-    /// or as the target (`term`), and of that side it alone decides: where it is of no account, that side is of none.
-    /// Else the caller's account is that of the sip identity that the peer asserts, or else of the tel identity, and the target's that of the Request-URI.
+    /// A P-Served-User is believed only of a trusted peer, and of several the first counts. The user whom it names is served, as the caller (`orig`) or as the target (`term`),
+    /// and it alone determines that side: where it has no account, that side has none. Otherwise the caller's account is that of the sip identity that the peer asserts, or else
+    /// of the tel identity, and the target's that of the Request-URI.
     ///
     /// # Errors
     ///
-    /// Want of memory alone.
+    /// Out of memory only.
     pub fn of(
         alloc: Global,
         accounts: &Accounts,
@@ -246,7 +246,7 @@ impl Parties {
         }
     }
 
-    /// Whom the server serves in the call.
+    /// The accounts that the server serves in the call.
     pub fn served_accounts(&self) -> Served
         ensures exact { result ≡ served_accounts self.now }
     {

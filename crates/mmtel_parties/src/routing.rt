@@ -1,4 +1,4 @@
-//! The way of an attempt: its Route values, and the peer to which it goes (RFC 3261 §16.4 and §16.6).
+//! The route of an attempt: its Route values, and the peer to which it is sent (RFC 3261 §16.4 and §16.6).
 ghost use Rattle.std.specs.Prelude.{◌≡◌, IfOk, IfSome, Some, drop, true};
 ghost use Rattle.mmtel_trust.specs.Asserted.{uri_in};
 ghost use Rattle.mmtel_trust.specs.Peers.{has_number};
@@ -10,11 +10,11 @@ use mmtel_trust::{PeerTable, uri_in};
 use mmtel_types::{Addr, Peer};
 use std::alloc::Global;
 
-/// Whether the URI names the server's address: a sip URI whose host is its IP address and whose port is its port. 5060 is meant where it has none (RFC 3261 §19.1.2).
+/// Whether the URI names the server's address: a sip URI whose host is its IP address and whose port is its port. Without a port it is 5060 (RFC 3261 §19.1.2).
 ///
 /// # Errors
 ///
-/// Want of memory alone.
+/// Out of memory only.
 pub fn names_server(alloc: Global, sip: Addr, uri: &Uri) -> Result<bool, NoMemory>
     ensures exact { IfOk result (λ named. named ≡ names_server sip uri.now) }
 {
@@ -47,7 +47,7 @@ fn begins_with_own(alloc: Global, sip: Addr, values: &[Text]) -> Result<bool, No
     }
 }
 
-/// The values but the first.
+/// The values without the first.
 fn without_first(values: List<Text>) -> List<Text>
     ensures { result ≡ drop 1 values }
 {
@@ -58,11 +58,11 @@ fn without_first(values: List<Text>) -> List<Text>
     }
 }
 
-/// Of the Route values of a request those that each attempt of its call keeps: all but a first one that names the server (RFC 3261 §16.4).
+/// The Route values of a request that each attempt of its call keeps: all except a first one that names the server (RFC 3261 §16.4).
 ///
 /// # Errors
 ///
-/// Want of memory alone; the values are then given up.
+/// Out of memory only; the values are then dropped.
 pub fn kept_routes(alloc: Global, sip: Addr, values: List<Text>) -> Result<List<Text>, NoMemory>
     ensures exact { IfOk result (λ kept. kept ≡ kept_routes sip values) }
 {
@@ -73,7 +73,7 @@ pub fn kept_routes(alloc: Global, sip: Addr, values: List<Text>) -> Result<List<
     }
 }
 
-/// The peer to which a sip URI leads; None for a tel URI.
+/// The peer to which a sip URI is routed; None for a tel URI.
 fn sip_peer(peers: &PeerTable, uri: &Uri) -> Option<Peer>
     ensures peer { result ≡ led_to peers.now.routes (Some uri.now) }
     ensures known { IfSome result (λ p. has_number p peers.now.known ≡ true) }
@@ -84,7 +84,7 @@ fn sip_peer(peers: &PeerTable, uri: &Uri) -> Option<Peer>
     }
 }
 
-/// The peer to which a Route value leads: that of its host; None where it is no sip URI, or nobody leads there.
+/// The peer to which a Route value is routed: that of its host; None where it is no sip URI, or no route matches its host.
 fn led_to(alloc: Global, peers: &PeerTable, value: &[u8]) -> Result<Option<Peer>, NoMemory>
     ensures peer { IfOk result (λ peer. peer ≡ led_to peers.now.routes (uri_in value.now)) }
     ensures known { IfOk result (λ peer. IfSome peer (λ p. has_number p peers.now.known ≡ true)) }
@@ -95,12 +95,12 @@ fn led_to(alloc: Global, peers: &PeerTable, value: &[u8]) -> Result<Option<Peer>
     }
 }
 
-/// The peer to which an attempt goes, by the Route values that it keeps and its target: that of the first value's host, and none where nobody leads there; without a value
+/// The peer to which an attempt is sent, by the Route values that it keeps and its target: that of the first value's host, and none where no route matches that; without a value
 /// that of the target (RFC 3261 §16.6).
 ///
 /// # Errors
 ///
-/// Want of memory alone.
+/// Out of memory only.
 pub fn next_hop(
     alloc: Global,
     peers: &PeerTable,
@@ -108,7 +108,7 @@ pub fn next_hop(
     target: &Uri,
 ) -> Result<Option<Peer>, NoMemory>
     ensures exact { IfOk result (λ peer. peer ≡ next_hop peers.now.routes routes.now target.now) }
-    // It leads to a peer of the table.
+    // The peer is one of the table.
     ensures known { IfOk result (λ peer. IfSome peer (λ p. has_number p peers.now.known ≡ true)) }
 {
     match routes {

@@ -5,7 +5,7 @@ ghost use Rattle.mmtel_parties.specs.Parties.{serves_both, serves_origin, serves
 /// Which sides of a call are served (RFC 5502 §6: `sescase`).
 #[derive(Clone, Copy, Debug, PartialEq, Eq)]
 pub enum ServedSides {
-    /// No user is named as served: caller and target are.
+    /// No user is named as served: both caller and target are.
     Both,
     /// `orig`: the caller alone.
     Origin,

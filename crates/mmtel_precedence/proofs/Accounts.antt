@@ -1,4 +1,4 @@
--- A target without a served account is as one of an account with an empty record, registered and in no call.
+-- A target without a served account has the results of an account with an empty record, registered and in no call.
 use Rattle.std.proofs.Common.{◌≡◌, ℕ, Bool, true, List, [], ◌∷◌, ◌++◌, refl}
 use Rattle.std.specs.Prelude.{Option, Some, None, unwrap_or, nat_lt}
 use Rattle.std.specs.Option.{option_map, option_map_or}
@@ -20,7 +20,7 @@ nobody = record { sheet = empty_sheet; registered = true; live = 0 }
 abbrev pub account_says : Circumstances → Option AccountState → List Says
 account_says c served = option_map_or (services_on_arrival c) served []
 
--- what was said first, then what is said later
+-- the first decision, then the later ones
 abbrev pub then_said : Says → Says → Says
 then_said Nothing later = later
 then_said (Refuses cause) later = Refuses cause

@@ -1,4 +1,4 @@
--- Callers that answer alike: the outcome sees the answers alone.
+-- Equivalent callers: the outcome depends on the truth values of identity parts alone.
 use Rattle.std.proofs.Common.{◌≡◌, ℕ, zero, suc, ◌+◌, ◌-◌, Bool, List, [], ◌∷◌, ◌++◌, refl, ap, ◌∙◌}
 use Rattle.std.specs.Prelude.{Option, Some, None, not, option_and_then, slice_get, if◌then◌else◌, is_none}
 use Rattle.std.specs.Option.{option_map, option_map_or}
@@ -30,14 +30,14 @@ use Rattle.mmtel_precedence.specs.Laws.{diversion_rules, AnswerAlikeTo, AlikeCal
 use Rattle.mmtel_precedence.proofs.Accounts.{account_says}
 use Rattle.mmtel_precedence.proofs.Nexts.{from_next, refused_for, unless_reached, go_further}
 
--- what the crates below say of callers that answer alike
+-- the theorems of the crates below about equivalent callers
 abbrev pub FirstIsSame : Type 0
 FirstIsSame = (asks asks2 : Who → Bool) (c : Circumstances) (when : When) (rules : List Rule) → AnswerAlike asks asks2 (identity_parts rules) → first_that_holds (asked c asks) when rules ≡ first_that_holds (asked c asks2) when rules
 
 abbrev pub BarsSame : Type 0
 BarsSame = (asks asks2 : Who → Bool) (c : Circumstances) (rules : List Rule) → AnswerAlike asks asks2 (identity_parts rules) → is_barred (asked c asks) rules ≡ is_barred (asked c asks2) rules
 
--- the call, with these answers
+-- the call, with these truth values
 abbrev asking : Call → (Who → Bool) → Call
 asking call asks = record call { asks = asks }
 
@@ -50,7 +50,7 @@ diversion-alike first asks asks2 c when (Some part) h =
 due_on-alike : FirstIsSame → (asks asks2 : Who → Bool) (c : Circumstances) (when : When) (sheet : Sheet) → AnswerAlikeTo sheet asks asks2 → due_on (asked c asks) when sheet ≡ due_on (asked c asks2) when sheet
 due_on-alike first asks asks2 c when sheet h = ap (option_map (due_of (own_bound sheet))) (diversion-alike first asks asks2 c when sheet.diversion h.diversion)
 
--- the services, by what depends on the answers
+-- the services, by what depends on the truth values
 services_by : Circumstances → AccountState → Bool → Option DueDiversion → Option DueDiversion → List Says
 services_by c account barred on_arrival when_busy =
     refuses_if (rejects_anonymous c account.sheet) causes.AnonymousRejected
@@ -68,7 +68,7 @@ services-alike first bars asks asks2 c account h =
     ∙ ap (λ due. services_by c account (bars_incoming (asked c asks2) account.sheet) due (due_on (asked c asks) event.Busy account.sheet)) (due_on-alike first asks asks2 c (event.Arrival account.registered) account.sheet h)
     ∙ ap (λ due. services_by c account (bars_incoming (asked c asks2) account.sheet) (due_on (asked c asks2) (event.Arrival account.registered) account.sheet) due) (due_on-alike first asks asks2 c event.Busy account.sheet h)
 
--- the answers are alike for the account that is served, if one is
+-- the truth values are the same for the account that is served, if one is
 abbrev AlikeAt : (asks asks2 : Who → Bool) → Option AccountState → Type 0
 AlikeAt asks asks2 None = Unit {0}
 AlikeAt asks asks2 (Some account) = AnswerAlikeTo account.sheet asks asks2
@@ -99,7 +99,7 @@ next_on-alike first asks asks2 call k served now NoReply later h = ap (λ due. d
 next_on-alike first asks asks2 call k served now (Deflection target rang) later h = ap (λ due. diverted_or call served now due (causes.Relayed 480) later) refl
 next_on-alike first asks asks2 call k served now (Other code) later h = refl
 
--- what is next, by what was said
+-- the outcome at a target, by the decision
 next_at-alike : FirstIsSame → (asks asks2 : Who → Bool) (says : Says) (call : Call) (k : ℕ) (reach : Reach) (endings : List Ended) → AlikeAt asks asks2 reach.served → next_at says (asking call asks) k reach endings ≡ next_at says (asking call asks2) k reach endings
 next_at-alike first asks asks2 Nothing call k reach [] h = refl
 next_at-alike first asks asks2 Nothing call k reach (ended ∷ later) h = next_on-alike first asks asks2 call k reach.served ended.at ended.how later h
@@ -115,7 +115,7 @@ target-alike : FirstIsSame → BarsSame → (asks asks2 : Who → Bool) (call : 
 target-alike first bars asks asks2 call k uri by h =
     ap (λ said. record { uri = uri; by = by; offer = offer_by said (reach_of call k uri by).served }) (said-alike first bars asks asks2 call k (reach_of call k uri by) h)
 
--- at a target, where what comes of each diversion is the same
+-- at a target, where the outcome of each diversion is the same
 from_next-same : (target : Target) (onward onward2 : DueDiversion → List Ended → Outcome) → ((due : DueDiversion) (later : List Ended) → onward due later ≡ onward2 due later) → (next : Next) → from_next target onward next ≡ from_next target onward2 next
 from_next-same target onward onward2 same (Rests result) = refl
 from_next-same target onward onward2 same (IsDue due later) = same due later
@@ -132,7 +132,7 @@ outcome_from-alike first bars asks asks2 call h (suc left) k uri by endings =
     ∙ from_next-same (target_at (asking call asks2) k uri by) _ _
     (λ due later. ap (unless_reached (is_reached due.bound (call.received + k)) (target_at (asking call asks2) k uri by) due) (outcome_from-alike first bars asks asks2 call h left (k + 1) (new_target call.home due.forward.target) (Some due) later)) (next_after (asking call asks2) k uri by endings)
 
--- by what the opening refuses
+-- by the refusal at the opening
 opened-alike : FirstIsSame → BarsSame → (asks asks2 : Who → Bool) (call : Call) → ((k : ℕ) (uri : Uri) (by : Option DueDiversion) → AlikeAt asks asks2 (reach_of call k uri by).served) →
     (refusal : Option Cause) (endings : List Ended) →
     option_map_or refused_at_once refusal (outcome_from (asking call asks) (call.bound - call.received) 0 call.first None endings)

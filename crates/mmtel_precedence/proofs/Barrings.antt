@@ -1,4 +1,4 @@
--- What the calls of barring answer, as services say it.
+-- The results of barring, as decisions of services.
 use Rattle.std.proofs.Common.{◌≡◌, ℕ, Bool, true, false, List, ◌∷◌, refl, ap, ◌∙◌}
 use Rattle.std.specs.Prelude.{Option, Some, None, is_some, if◌then◌else◌}
 use Rattle.std.specs.Option.{option_map, option_map_or}
@@ -12,7 +12,7 @@ use Rattle.mmtel_barring.specs.Barring.{incoming_refusal, is_anonymous_refused, 
 use Rattle.mmtel_barring.specs.declared.bars.Refusal.TheVariants as refusals
 use Rattle.mmtel_precedence.specs.Services.{AccountState, Says, refuses_if, first_said, said_by, bars_outgoing, services_after_barring, services_on_arrival}
 
--- the law of barring: a call is barred where some rule holds and none that holds lets it through
+-- the theorem about barring: a call is barred where some rule holds and none that holds allows it
 abbrev pub IsBarredLaw : Type 0
 IsBarredLaw = (c : Circumstances) (rules : List Rule) → is_some (barred_by c rules) ≡ is_barred c rules
 
@@ -20,7 +20,7 @@ is_some-option_map : {A B : Type 0} (f : A → B) (o : Option A) → is_some (op
 is_some-option_map f None = refl
 is_some-option_map f (Some x) = refl
 
--- outgoing barring answers a rule exactly where it bars
+-- outgoing barring returns a rule exactly where it bars
 is_some-outgoing_bar : IsBarredLaw → (c : Circumstances) (part : Option BarPart) → is_some (outgoing_bar c part) ≡ is_barred c (rules_of part)
 is_some-outgoing_bar law c None = refl
 is_some-outgoing_bar law c (Some part) = is_some-option_map _ (barred_by c part.rules) ∙ law c part.rules
@@ -35,7 +35,7 @@ said_by-part : (anonymous : Bool) (found : Option ℕ) (later : List Says) →
 said_by-part true found later = refl
 said_by-part false found later = said_by-rule found later
 
--- incoming barring says what the two first services do
+-- incoming barring decides as the first two services do
 said_by-incoming : IsBarredLaw → (c : Circumstances) (part : Option BarPart) (later : List Says) →
     said_by (incoming_refusal c part) (first_said later)
     ≡ first_said (refuses_if (option_map_or (is_anonymous_refused c) part false) causes.AnonymousRejected ∷ refuses_if (is_barred c (rules_of part)) causes.IncomingBarred ∷ later)
@@ -44,7 +44,7 @@ said_by-incoming law c (Some part) later =
     said_by-part (is_anonymous_refused c part) (barred_by c part.rules) later
     ∙ ap (λ b. first_said (refuses_if (is_anonymous_refused c part) causes.AnonymousRejected ∷ refuses_if b causes.IncomingBarred ∷ later)) (law c part.rules)
 
--- the same of the circumstances of a call
+-- the same of the facts of a call
 pub is_some-outgoing : IsBarredLaw → (c : Circumstances) (sheet : Sheet) → is_some (outgoing_bar c sheet.outgoing) ≡ bars_outgoing c sheet
 is_some-outgoing law c sheet = is_some-outgoing_bar law c sheet.outgoing
 

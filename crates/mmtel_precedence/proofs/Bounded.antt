@@ -41,7 +41,7 @@ made-from_next : (target : Target) (onward : DueDiversion → List Ended → Out
 made-from_next target onward (Rests result) = made-last target result
 made-from_next target onward (IsDue due later) = refl
 
--- ---- no more diversions than are left
+-- ---- no more diversions than remain
 
 most-passed : (by : Option DueDiversion) (passed : Option Passed) (made : Passed → ℕ) (most : ℕ) → ((p : Passed) → made p ≤ most) → one_for by ≤ most → option_map_or made passed (one_for by) ≤ most
 most-passed by None made most each least = least
@@ -151,13 +151,13 @@ plain-at (Diverts due) call k reach endings h = plain-diverted (is_refused call 
 plain-after : (call : Call) (k : ℕ) (uri : Uri) (by : Option DueDiversion) (endings : List Ended) → IsPlainNext (next_after call k uri by endings)
 plain-after call k uri by endings = plain-at (said_on_arrival call k (reach_of call k uri by)) call k (reach_of call k uri by) endings (plain-arrival call k (reach_of call k uri by))
 
--- ---- what is owed of the outcome from a target on, that is reached after k diversions
+-- ---- what is to be shown of the outcome from a target on that is reached after k diversions
 
 -- what is due after j more diversions is made
 abbrev IsMade : Call → (j k : ℕ) → Uri → Option DueDiversion → List Ended → Type 0
 IsMade call j k uri by endings = (passed : Passed) × (passed_from call j k uri by endings ≡ Some passed) × IsBelow call (k + j) passed
 
--- or refuses the call
+-- or the call is refused
 abbrev IsRefused : Call → (j k : ℕ) → Uri → Option DueDiversion → List Ended → Bool → Type 0
 IsRefused call j k uri by endings busy = (passed : Passed) × (passed_from call j k uri by endings ≡ Some passed) × (IsBelow call (k + j) passed → ⊥) × (busy ≡ (passed.due.cause == 486))
 
@@ -191,7 +191,7 @@ none-refused call k uri by endings made result e plain f (suc j) busy same = abs
 same-passed : (p q : Passed) (due : Option Passed) → due ≡ Some p → due ≡ Some q → q ≡ p
 same-passed p q due f g = let same : Some q ≡ Some p = sym g ∙ f in cc
 
--- at the same place
+-- at the same target
 below-here : (call : Call) (k n : ℕ) (p q : Passed) → q ≡ p → n ≡ k → IsBelow call n q → IsBelow call k p
 below-here call k n p q same e below = subst (λ m. IsBelow call m p) e (subst (IsBelow call n) same below)
 
@@ -213,9 +213,9 @@ stopped-refused call k uri by endings made p e above f zero busy same = (
 )
 stopped-refused call k uri by endings made p e above f (suc j) busy same = absurd (omega arith)
 
--- ---- a diversion is due below its bound, and this is owed of what comes of it
+-- ---- a diversion is due below its bound, and this is to be shown of its outcome
 
--- what is due after j more diversions behind this one
+-- what is due after j more diversions after this one
 abbrev later_passed : Call → (j : ℕ) → (k : ℕ) → Passed → Option Passed
 later_passed call j k passed = passed_from call j (k + 1) (new_target call.home passed.due.forward.target) (Some passed.due) passed.later
 
@@ -255,7 +255,7 @@ IsBound call k p false = IsBelow call k p
 abbrev IsStop : Call → (k : ℕ) → (DueDiversion → Bool) → Type 0
 IsStop call k stops = (p : Passed) (b : Bool) → stops p.due ≡ b → IsBound call k p b
 
--- this is owed of what comes of each diversion that is made there
+-- this is to be shown of the outcome of each diversion that is made there
 abbrev AreExact : Call → (k : ℕ) → (DueDiversion → Bool) → (DueDiversion → List Ended → Outcome) → Type 0
 AreExact call k stops onward = (due : DueDiversion) (later : List Ended) → stops due ≡ false → IsExact call (k + 1) (new_target call.home due.forward.target) (Some due) later (onward due later)
 

@@ -60,7 +60,7 @@ later-end call account now NoReply kept later = later-ended call account now Non
 later-end call account now (Deflection target rang) kept later = later-ended call account now (Some target) _ kept later
 later-end call account now (Other code) kept later = refl
 
--- ---- moves go on
+-- ---- moves continue
 
 abbrev GoesOn : Call → ℕ → Kept → List Ended → Type 0
 GoesOn call n kept later = (fewer : ℕ) × (fewer ≤ n) × (moves fewer call (with_later kept later) ≡ with_later (moves n call kept) later)
@@ -105,7 +105,7 @@ of_the_whole call sooner later n m enough =
     let (fewer, same) = moves-on call n m (at_first call sooner) later in
     ap outcome_so_far same ∙ moves_give_outcome call (sooner ++ later) (fewer + m) (omega arith)
 
--- ---- targets that were reached stay
+-- ---- targets that were reached remain
 
 targets-gone_on : (refusal : Option Cause) (kept : Kept) (target : Uri) (due : DueDiversion) → (gone_on refusal kept target due).targets ≡ kept.targets
 targets-gone_on None kept target due = refl
@@ -130,7 +130,7 @@ targets-end call account now NoReply kept = targets-ended call account now None 
 targets-end call account now (Deflection target rang) kept = targets-ended call account now (Some target) _ kept
 targets-end call account now (Other code) kept = refl
 
--- one more is noted
+-- one more is recorded
 abbrev OneMore : List Target → Kept → Type 0
 OneMore targets kept = (target : Target) × (kept.targets ≡ targets ++ target ∷ [])
 
@@ -191,7 +191,7 @@ begins call sooner later =
 
 -- ---- one after the other
 
--- the moves from what is kept, over any later endings, are moves from the first over all
+-- the moves from a state, over any later endings, are moves from the first state over all
 abbrev Follows : Call → Kept → List Ended → Type 0
 Follows call kept heard = (later : List Ended) (m : ℕ) → (before : ℕ) × (moves m call (with_later kept later) ≡ moves (before + m) call (at_first call (heard ++ later)))
 

@@ -22,7 +22,7 @@ said_barred c account e h =
     ap (λ b. first_said (refuses_if b causes.AnonymousRejected ∷ refuses_if (bars_incoming c account.sheet) causes.IncomingBarred ∷ services_after_barring c account)) e
     ∙ ap (λ b. first_said (refuses_if b causes.IncomingBarred ∷ services_after_barring c account)) h
 
--- what refuses first decides, whatever is said later
+-- the first refusal decides, whatever the later decisions are
 first_said-refused : (says later : List Says) (why : Cause) → first_said says ≡ Refuses why → first_said (says ++ later) ≡ Refuses why
 first_said-refused [] later why e = absurd cc
 first_said-refused (Nothing ∷ says) later why e = first_said-refused says later why e

@@ -31,11 +31,11 @@ next_at-where other Nothing call k reach (ended ∷ later) = next_on-where other
 next_at-where other (Refuses cause) call k reach endings = refl
 next_at-where other (Diverts due) call k reach endings = refl
 
--- things stand the same when the call reaches the target after k diversions
+-- the states are the same when the call reaches the target after k diversions
 abbrev StandsSame : (ℕ → Standing) → Call → ℕ → Type 0
 StandsSame other call k = standing_after call k ≡ standing_after (where_later other call) k
 
--- what is next, and what is said of the target, by how things stand
+-- the outcome at the target, and the facts of the target, by the state
 abbrev next_in : Call → (k : ℕ) → Uri → Option DueDiversion → List Ended → Standing → Next
 next_in call k uri by endings standing = next_at (said_on_arrival call k (reach_in standing call uri by)) call k (reach_in standing call uri by) endings
 
@@ -53,7 +53,7 @@ target-same other call k uri by e = ap (target_in call k uri by) (sym e)
 
 -- ---- from one target on
 
--- the targets stand the same that the call reaches from here on
+-- the states are the same at the targets that the call reaches from here on
 abbrev Agrees : (ℕ → Standing) → Call → ℕ → Outcome → Type 0
 Agrees other call k outcome = (j : ℕ) → j < length outcome.targets → StandsSame other call (k + j)
 
@@ -85,7 +85,7 @@ unless-same : (other : ℕ → Standing) (call : Call) (k : ℕ) (stops : Bool) 
 unless-same other call k true target due outcome outcome2 same h = refl
 unless-same other call k false target due outcome outcome2 same h = ap (then_reached target) (same (agrees-after other call k target outcome h))
 
--- what comes of each diversion is the same where its targets stand the same
+-- the outcome of each diversion is the same where the states at its targets are the same
 after-same : (other : ℕ → Standing) (call : Call) (k : ℕ) (stops : DueDiversion → Bool) (target : Target) (onward onward2 : DueDiversion → List Ended → Outcome) →
     ((due : DueDiversion) (later : List Ended) → Agrees other call (k + 1) (onward due later) → onward2 due later ≡ onward due later) →
     (next : Next) → Agrees other call k (from_next target (λ due later. unless_reached (stops due) target due (onward due later)) next) →
@@ -109,7 +109,7 @@ outcome_from-same other call (suc left) k uri by endings h =
     ∙ after-same other call k stops (target_at call k uri by) (λ due later. after_due call left k due later) onward2
     (λ due later. outcome_from-same other call left (k + 1) (new_target call.home due.forward.target) (Some due) later) (next_after call k uri by endings) h
 
--- by what the opening refuses
+-- by the refusal at the opening
 opened-same : (other : ℕ → Standing) (call : Call) (endings : List Ended) (refusal : Option Cause) →
     (let from = outcome_from call (call.bound - call.received) 0 call.first None endings in
     let from2 = outcome_from (where_later other call) (call.bound - call.received) 0 call.first None endings in

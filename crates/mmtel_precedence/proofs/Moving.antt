@@ -7,13 +7,13 @@ use Rattle.mmtel_precedence.specs.Moves.{Kept, Phase, Ringing, Over, moves, move
 abbrev pub kept_at : ℕ → List Target → Phase → List Ended → Kept
 kept_at done targets phase endings = record { done = done; targets = targets; phase = phase; endings = endings }
 
--- what is over stays so
+-- a call that ended does not change
 pub moves-over : (n : ℕ) (call : Call) (done : ℕ) (targets : List Target) (result : Result) (endings : List Ended) → moves n call (kept_at done targets (Over result) endings) ≡ kept_at done targets (Over result) endings
 unfolding moves
 moves-over zero call done targets result endings = refl
 moves-over (suc n) call done targets result endings = moves-over n call done targets result endings
 
--- what rings goes on to ring while nothing comes
+-- a call that rings continues to ring while no attempt ends
 pub moves-ringing : (n : ℕ) (call : Call) (done : ℕ) (targets : List Target) (account : AccountState) → moves n call (kept_at done targets (Ringing account) []) ≡ kept_at done targets (Ringing account) []
 unfolding moves
 moves-ringing zero call done targets account = refl

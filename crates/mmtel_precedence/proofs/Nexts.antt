@@ -1,4 +1,4 @@
--- An outcome by what is next at a target.
+-- An outcome by the outcome at a target.
 use Rattle.std.proofs.Common.{ℕ, ◌+◌, ◌==◌, Bool, true, false, List}
 use Rattle.std.specs.Prelude.{Some, if◌then◌else◌}
 use Rattle.mmtel_types.specs.declared.causes.Cause.TheVariants as causes
@@ -8,7 +8,7 @@ use Rattle.mmtel_targets.specs.Targets.{new_target}
 use Rattle.mmtel_precedence.specs.Targets.{Next, Rests, IsDue}
 use Rattle.mmtel_precedence.specs.Outcome.{outcome_from}
 
--- the target is the last, or this comes of the diversion that is due
+-- the target is the last, or this is the outcome of the diversion that is due
 abbrev pub from_next : Target → (onward : DueDiversion → List Ended → Outcome) → Next → Outcome
 from_next target onward (Rests result) = last_reached target result
 from_next target onward (IsDue due later) = onward due later
@@ -17,7 +17,7 @@ from_next target onward (IsDue due later) = onward due later
 abbrev pub refused_for : Target → DueDiversion → Outcome
 refused_for target due = last_reached target (Final (causes.TooManyDiversions (due.cause == 486)))
 
--- it does where the bound is reached, else this comes behind the target
+-- it does where the bound is reached, else this follows the target
 abbrev pub unless_reached : Bool → Target → DueDiversion → Outcome → Outcome
 unless_reached stops target due outcome = if stops then refused_for target due else then_reached target outcome
 
@@ -26,7 +26,7 @@ pub unless_reached-cases : (P : Outcome → Type 0) (stops : Bool) (target : Tar
 unless_reached-cases P true target due outcome refused behind = refused
 unless_reached-cases P false target due outcome refused behind = behind
 
--- what comes of a diversion that is due after k others, where one more and so many behind it are left below the configured bound
+-- the outcome of a diversion that is due after k others, where it and so many after it are left below the configured bound
 abbrev pub after_due : Call → (left k : ℕ) → DueDiversion → List Ended → Outcome
 after_due call left k due later = outcome_from call left (k + 1) (new_target call.home due.forward.target) (Some due) later
 

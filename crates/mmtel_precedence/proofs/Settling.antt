@@ -1,4 +1,4 @@
--- Moves come to the outcome: by the diversions that are left below the bound.
+-- Moves give the outcome: by the number of diversions that are left below the bound.
 use Rattle.std.proofs.Common.{◌≡◌, ℕ, zero, suc, ◌+◌, ◌-◌, ◌*◌, ◌≤◌, ◌<◌, ◌==◌, Bool, true, false, List, [], ◌∷◌, ◌++◌, refl, ap, sym, ◌∙◌, append_assoc, arith}
 use Rattle.std.specs.Prelude.{Option, Some, None, unwrap_or, min, not, nat_le, nat_lt, if◌then◌else◌, is_none}
 use Rattle.std.specs.List.{AllByRecursion}
@@ -24,23 +24,23 @@ use Rattle.mmtel_precedence.proofs.Accounts.{nobody, then_said, first_said-accou
 use Rattle.mmtel_precedence.proofs.Moving.{kept_at, moves-over, moves-ringing, moves-suc}
 use Rattle.mmtel_precedence.proofs.Nexts.{from_next, refused_for, unless_reached, after_due, go_further}
 
--- an outcome behind targets that were reached before
+-- an outcome after targets that were reached before
 abbrev pub behind : List Target → Outcome → Outcome
 behind targets outcome = record { targets = targets ++ outcome.targets; result = outcome.result }
 
--- so many moves from here come to the outcome, behind these targets
+-- so many moves from here give the outcome, after these targets
 abbrev pub Settles : ℕ → Call → Kept → List Target → Outcome → Type 0
 Settles n call kept targets outcome = outcome_so_far (moves n call kept) ≡ behind targets outcome
 
--- what comes of a diversion that is due at a target and that outgoing barring lets pass
+-- the state after a diversion that is due at a target and that outgoing barring does not refuse
 abbrev pub Onward : Type 0
 Onward = Target → DueDiversion → List Ended → Outcome
 
--- the bound's answer
+-- the decision by the bound
 abbrev pub by_bound : Call → ℕ → DueDiversion → Option Cause
 by_bound call k due = if is_within call.received k (bound_of call.bound due.bound) then None else Some (causes.TooManyDiversions (due.cause == 486))
 
--- going on by the bound settles to it, after k diversions and with this many moves
+-- continuing by the bound gives the outcome, after k diversions and with this many moves
 abbrev pub GoesOn : Call → ℕ → ℕ → Onward → Type 0
 GoesOn call k least onward =
     (n : ℕ) (target : Target) (due : DueDiversion) (targets : List Target) (phase : Phase) (later : List Ended) → least ≤ n →
@@ -68,11 +68,11 @@ settles-due call k least onward goes n served now target due targets phase later
     settles-diversion call k least onward goes n (bars_outgoing (of_target call now (new_target call.home due.forward.target)) (unwrap_or served nobody).sheet) target due targets phase later enough
     ∙ ap (λ b. behind targets (from_next target (onward target) (if b then Rests (Final causes.OutgoingBarred) else IsDue due later))) (sym (is_refused-account call served now due))
 
--- the bound that the account sets which is served
+-- the bound of the account that is served
 abbrev bound_at : Option AccountState → Option ℕ
 bound_at served = own_bound (unwrap_or served nobody).sheet
 
--- an ending for which rules may ask a diversion
+-- an ending for which rules may require a diversion
 settles-rules : (call : Call) (k least : ℕ) (onward : Onward) → GoesOn call k least onward →
     (n : ℕ) (served : Option AccountState) (now : ℕ) (chosen : Option Chosen) (cause : Cause) (target : Target) (targets : List Target) (phase : Phase) (later : List Ended) → least ≤ n →
     (let due = option_map (due_of (bound_at served)) chosen in
@@ -125,7 +125,7 @@ settles-offer call k least onward goes n reach target targets (ended ∷ later) 
 abbrev target_by : Says → Option AccountState → Uri → Option DueDiversion → Target
 target_by says served uri by = record { uri = uri; by = by; offer = offer_by says served }
 
--- what is said of any target, whoever is served
+-- the decision at any target, whoever is served
 abbrev said_of_any : Bool → Bool → Says
 said_of_any unknown no_peer = first_said (refuses_if unknown causes.NoAccount ∷ refuses_if no_peer causes.NoRoute ∷ [])
 
@@ -141,7 +141,7 @@ settles-unrefused call k least onward goes n false true reach uri by targets pha
 settles-unrefused call k least onward goes n false false reach uri by targets phase endings enough =
     settles-offer call k least onward goes n reach (record { uri = uri; by = by; offer = Offered (is_waiting reach.served) }) targets endings enough
 
--- a diversion that services say is due has the bound of their account
+-- a diversion that services decide has the bound of their account
 abbrev IsOwn : (bound : Option ℕ) → Says → Type 0
 IsOwn bound Nothing = Unit {0}
 IsOwn bound (Refuses cause) = Unit {0}
@@ -187,7 +187,7 @@ own-services c account = own-first_said (own_bound account.sheet) (services_on_a
 abbrev bounded : DueDiversion → (bound : Option ℕ) → DueDiversion
 bounded due bound = record { forward = due.forward; cause = due.cause; bound = bound }
 
--- a target, by what the services said
+-- a target, by the decision of the services
 settles-said : (call : Call) (k least : ℕ) (onward : Onward) → GoesOn call k least onward →
     (n : ℕ) (says : Says) (reach : Reach) (uri : Uri) (by : Option DueDiversion) (targets : List Target) (phase : Phase) (endings : List Ended) → IsOwn (bound_at reach.served) says → least ≤ n →
     (let said = then_said says (said_of_any reach.is_unknown (is_none reach.peer)) in
@@ -214,7 +214,7 @@ settles-reaching call k least onward goes n uri by targets endings enough =
     ∙ ap (λ said. behind targets (from_next (target_by said (reach_of call k uri by).served uri by) (onward (target_by said (reach_of call k uri by).served uri by)) (next_at said call k (reach_of call k uri by) endings)))
     (sym (first_said-account (of_caller call k (reach_of call k uri by).at) (reach_of call k uri by).served (refuses_if (reach_of call k uri by).is_unknown causes.NoAccount ∷ refuses_if (is_none (reach_of call k uri by).peer) causes.NoRoute ∷ [])))
 
--- the moves from the target after k diversions come to the outcome from there
+-- the moves from the target after k diversions give the outcome from there
 abbrev pub SettlesFrom : Call → ℕ → Type 0
 SettlesFrom call left =
     (k n : ℕ) (uri : Uri) (by : Option DueDiversion) (targets : List Target) (endings : List Ended) → left ≡ call.bound - (call.received + k) → 2 * (left + 1) ≤ n →
@@ -228,7 +228,7 @@ is_within-at (Some own) configured count h = let least : min configured own ≤ 
 within-min : (own configured count : ℕ) → count < configured → nat_lt count (min configured own) ≡ not (nat_le own count)
 within-min own configured count h = grind (arith, nat_tests)
 
--- below that one, it is for the account's own bound to say
+-- below that one, the account's own bound decides
 is_within-below : (own : Option ℕ) (configured count : ℕ) → count < configured → nat_lt count (bound_of configured own) ≡ not (is_reached own count)
 is_within-below None configured count h = grind (arith, nat_tests)
 is_within-below (Some own) configured count h = within-min own configured count h
@@ -263,7 +263,7 @@ settles-from call (suc left) k zero uri by targets endings e enough = absurd (om
 settles-from call (suc left) k (suc zero) uri by targets endings e enough = absurd (omega arith)
 settles-from call (suc left) k (suc (suc n)) uri by targets endings e enough = settles-reaching call k (2 * (left + 1)) _ (goes_on-below call left k (settles-from call left) e) n uri by targets endings (omega arith)
 
--- by what the opening refuses
+-- by the refusal at the opening
 settles-opened : (refusal : Option Cause) (call : Call) (endings : List Ended) (n : ℕ) → moves_enough call ≤ n →
     outcome_so_far (moves n call (kept_at 0 [] (first_phase refusal call) endings)) ≡ option_map_or refused_at_once refusal (outcome_from call (call.bound - call.received) 0 call.first None endings)
 settles-opened None call endings n enough = settles-from call (call.bound - call.received) 0 n call.first None [] endings (omega arith) enough

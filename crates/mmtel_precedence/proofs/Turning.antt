@@ -1,4 +1,4 @@
--- Turns are moves.
+-- Next steps are moves.
 use Rattle.std.proofs.Common.{◌≡◌, ℕ, zero, suc, Bool, true, false, List, [], ◌∷◌, refl, ap, sym, ◌∙◌}
 use Rattle.std.specs.Prelude.{Option, Some, None, is_none, option_and_then, unwrap_or}
 use Rattle.std.specs.Option.{option_map}
@@ -79,7 +79,7 @@ endings_are_moves call reach now (Other code) kept = refl
 
 -- ---- a whole call
 
--- the rules of an account that is served: a target of it, so that the law on ends speaks of it
+-- the rules of an account that is served: a target of it, so that the theorem about ends applies to it
 abbrev served_by : AccountState → Reach
 served_by account = record { at = 0; served = Some account; is_unknown = false; peer = None }
 

@@ -1,22 +1,22 @@
--- How an attempt that was offered ended, by what came of it (RFC 3261 §9, §15, §17.1.1 and §21, TS 24.604 §4.5.2.6).
+-- How an attempt that was offered ended: by a response, a timer, or its caller (RFC 3261 §9, §15, §17.1.1 and §21, TS 24.604 §4.5.2.6).
 use Rattle.std.specs.Prelude.{ℕ, ◌==◌, ◌&&◌, ◌||◌, not, nat_le, Bool, true, false, if◌then◌else◌, Option, Some, None}
 use Rattle.mmtel_lex.specs.declared.values.Uri.{Uri}
 pub use Rattle.mmtel_sip_rules.specs.Statuses.{is_provisional, is_redirection, is_success}
 use Rattle.mmtel_precedence.specs.Calls.{End, Answer, Cancel, Unacknowledged, UserBusy, NotReachable, NoReply, Deflection, Other}
 
--- what came of an attempt that was offered
+-- the outcome of an attempt that was offered
 pub data AttemptEvent : Type 0 where
   -- a response with this status, whose first Contact is this target, where it can be read
   Response : (code : ℕ) → (target : Option Uri) → AttemptEvent
-  -- no response at all, until the INVITE was given up (RFC 3261 §17.1.1.2, Timer B)
+  -- no response at all until the client transaction timed out (RFC 3261 §17.1.1.2, Timer B)
   Silence : AttemptEvent
-  -- the no-reply time of the record passed, which begins with the first response that rings
+  -- the no-reply time of the record passed, which begins with the first ringing response
   NoReplyTime : AttemptEvent
-  -- the longest time that an attempt may take passed, which begins with the offer
+  -- the maximum time of an attempt passed, which begins with the offer
   LongestTime : AttemptEvent
-  -- the caller gave up, by CANCEL or BYE (RFC 3261 §9 and §15)
+  -- the caller abandoned the call, by CANCEL or BYE (RFC 3261 §9 and §15)
   CallerGaveUp : AttemptEvent
-  -- the caller did not acknowledge a reliable answer in its time, which begins when the answer is sent to it (RFC 3262 §3)
+  -- the caller did not acknowledge a reliable response in its time, which begins when the response is sent to it (RFC 3262 §3)
   AckTime : AttemptEvent
 
 -- the target rings (RFC 3261 §21.1.2 to §21.1.5)
@@ -31,7 +31,7 @@ is_user_busy code = code == 486 || code == 600
 abbrev pub is_unreachable : ℕ → Bool
 is_unreachable code = code == 408 || (code == 500 || code == 503)
 
--- a 3xx deflects the call where it is a 302 with a target; else it is as a 480
+-- a 3xx deflects the call where it is a 302 with a target; else it counts as a 480
 abbrev pub end_by_redirection : ℕ → Option Uri → (rang : Bool) → End
 end_by_redirection code None rang = Other 480
 end_by_redirection code (Some target) rang = if code == 302 then Deflection target rang else Other 480
@@ -48,12 +48,12 @@ end_by_final code target rang =
 abbrev pub end_by_response : ℕ → Option Uri → (rang : Bool) → Option End
 end_by_response code target rang = if is_provisional code then None else Some (end_by_final code target rang)
 
--- the longest time that an attempt may take is over
+-- the maximum time of an attempt passed
 abbrev pub end_by_time : (rang : Bool) → End
 end_by_time true = NoReply
 end_by_time false = NotReachable 408
 
--- the end, if what came is one
+-- the end of the attempt, where this outcome is one
 abbrev pub end_by : AttemptEvent → (rang : Bool) → Option End
 end_by (Response code target) rang = end_by_response code target rang
 end_by Silence rang = Some (NotReachable 408)

@@ -1,4 +1,4 @@
--- What is told of a call, and what is said of it (TS 24.604 §4.5.2.6, TS 24.611 §4.5.2, TS 24.615 §4.5.5).
+-- The inputs of a call, and its outcome (TS 24.604 §4.5.2.6, TS 24.611 §4.5.2, TS 24.615 §4.5.5).
 use Rattle.std.specs.Prelude.{ℕ, zero, suc, Bool, List, [], ◌∷◌, Option, unwrap_or}
 use Rattle.std.specs.Option.{option_map}
 use Rattle.mmtel_types.specs.declared.causes.Cause.{Cause}
@@ -16,19 +16,19 @@ use Rattle.mmtel_targets.specs.declared.served.RegistrationState.{RegistrationSt
 use Rattle.mmtel_targets.specs.declared.served.Served.{Served}
 use Rattle.mmtel_precedence.specs.Services.{AccountState, DueDiversion}
 
--- ---- what is told
+-- ---- inputs
 
 -- how an attempt that was offered ended
 pub data End : Type 0 where
   -- a 2xx
   Answer : End
-  -- the caller gave up
+  -- the caller abandoned the call
   Cancel : End
-  -- the caller did not acknowledge a reliable answer that it was sent (RFC 3262 §3)
+  -- the caller did not acknowledge a reliable response that it was sent (RFC 3262 §3)
   Unacknowledged : End
   -- a 486 or 600: user determined user busy
   UserBusy : (code : ℕ) → End
-  -- a 408, 500 or 503 before it rang, or silence, which is a 408
+  -- a 408, 500 or 503 before it rang, or a transaction timeout, which counts as a 408
   NotReachable : (code : ℕ) → End
   -- it rang for too long
   NoReply : End
@@ -37,13 +37,13 @@ pub data End : Type 0 where
   -- any other final response
   Other : (code : ℕ) → End
 
--- an end, and the moment at which it came
+-- an end, and its moment
 pub record Ended : Type 0 where
   pub at : ℕ
   pub how : End
 
--- how things stood when the call reached a target: the moment; and, by the numbers of accounts, the records in force and the ends of registrations,
--- and the calls that are not over: one for each that is the account's own, this call too, and one for each that is offered to it, this call never
+-- the state when the call reached a target: the moment; and, by the numbers of accounts, the records in force and the ends of registrations, and the live calls: one for each that
+-- is the account's own, including this call, and one for each that is offered to it, never including this call
 pub record Standing : Type 0 where
   pub at : ℕ
   pub sheets : ℕ → Option Sheet
@@ -52,7 +52,8 @@ pub record Standing : Type 0 where
 
 -- a call
 pub record Call : Type 0 where
-  -- the words of its Privacy (RFC 3323); whom the server serves in it (the session cases of RFC 5502), and the registration of its target that was told, if one was
+  -- the words of its Privacy (RFC 3323); which users the server serves in it (the session cases of RFC 5502), and the registration state of its target that was given with the
+  -- call, if one was
   pub privacy : PrivacySet
   pub served : Served
   pub registration : Option RegistrationState
@@ -61,61 +62,61 @@ pub record Call : Type 0 where
   pub has_identity : Bool
   -- the kinds of media that it offers
   pub media : List (List ℕ)
-  -- the diversions that its History-Info told when it came in, and the bound
+  -- the diversions that its History-Info listed when it came in, and the bound
   pub received : ℕ
   pub bound : ℕ
-  -- the home domain, the digits of the home country where they are known, the accounts by their identities, and the peer that leads to a target, if one does
+  -- the home domain, the digits of the home country where they are known, the accounts by their identities, and the peer that is the route to a target, if there is one
   pub home : List ℕ
   pub country : Option (List ℕ)
   pub account_of : Uri → Option Account
   pub peer_of : Uri → Option Peer
   -- its first target
   pub first : Uri
-  -- how things stood when it opened, which is when it reached its first target; and when it reached the target of its next diversion after so many others
+  -- the state when it was opened, which is when it reached its first target; and when it reached the target of its next diversion after so many others
   pub opening : Standing
   pub later : ℕ → Standing
 
--- ---- what follows from it
+-- ---- derived values
 
--- how things stood when it reached a target after k diversions
+-- the state when it reached a target after k diversions
 abbrev pub standing_after : Call → (k : ℕ) → Standing
 standing_after call zero = call.opening
 standing_after call (suc k) = call.later k
 
--- the record of an account; an account that has none is as one whose record is empty
+-- the record of an account; an account without one counts as one whose record is empty
 abbrev pub sheet_at : Standing → Account → Sheet
 sheet_at standing account = unwrap_or (standing.sheets account.0) empty_sheet
 
--- the record of the account that is served as the caller, if one is, as it stood at the opening
+-- the record of the account that is served as the caller, if one is, as it was at the opening
 abbrev pub origin_sheet : Call → Option Sheet
 origin_sheet call = option_map (sheet_at call.opening) call.served.origin
 
--- the caller hides who it is (OIR, TS 24.607 §4.5.2)
+-- the caller's identity is restricted (OIR, TS 24.607 §4.5.2)
 abbrev pub caller_hides : Call → Bool
 caller_hides call = is_caller_restricted call.privacy (origin_sheet call)
 
--- the account is registered: as was told, or else until its registration ends
+-- the account is registered: as was given with the call, or else until its registration ends
 abbrev pub is_registered_at : Standing → (told : Option RegistrationState) → Account → Bool
 is_registered_at standing told account = is_registered told (is_in_table (standing.ends account.0) standing.at)
 
--- the account as it stood then
+-- the account in that state
 abbrev pub account_in : Standing → (told : Option RegistrationState) → Account → AccountState
 account_in standing told account = record { sheet = sheet_at standing account; registered = is_registered_at standing told account; live = standing.live account.0 }
 
--- a target as it stood when the call reached it
+-- a target in the state when the call reached it
 pub record Reach : Type 0 where
   -- the moment
   pub at : ℕ
   -- the account that is served there
   pub served : Option AccountState
-  -- it is of the home domain and no account's, and no telephone number that a diversion brought there
+  -- it is of the home domain and of no account, and no telephone number that is the target of a diversion
   pub is_unknown : Bool
-  -- the peer that leads to it, if one does
+  -- the peer that is the route to it, if there is one
   pub peer : Option Peer
 
--- ---- what is said of it
+-- ---- outcome
 
--- whether a call that reached a target was offered to it, and as waiting
+-- whether a call that reached a target was offered to it, and whether as waiting
 pub data Offer : Type 0 where
   NotOffered : Offer
   Offered : (waiting : Bool) → Offer

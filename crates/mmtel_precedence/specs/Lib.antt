@@ -1,4 +1,4 @@
--- what public clauses cite: the decisions, what a whole call comes to, and the laws
+-- definitions that public contracts cite: the decisions, the outcome of a whole call, and the theorems
 pub mod Told
 pub mod Services
 pub mod Verdicts
@@ -12,4 +12,4 @@ pub mod Turns
 pub mod Extension
 pub mod Laws
 
--- What private functions alone cite: nothing.
+-- Definitions that only private functions cite: none.

@@ -1,4 +1,4 @@
--- What refuses a call as it opens (RFC 3323 §4.2, RFC 5502 §4, TS 24.611 §4.5.2).
+-- Why a call is refused at its opening (RFC 3323 §4.2, RFC 5502 §4, TS 24.611 §4.5.2).
 use Rattle.std.specs.Prelude.{Bool, false, ◌&&◌, if◌then◌else◌, Option, Some, None}
 use Rattle.std.specs.Option.{option_map_or}
 use Rattle.mmtel_types.specs.declared.causes.Cause.{Cause}
@@ -12,11 +12,12 @@ use Rattle.mmtel_precedence.specs.Services.{bars_outgoing}
 use Rattle.mmtel_precedence.specs.Calls.{Call, origin_sheet}
 use Rattle.mmtel_precedence.specs.Targets.{of_target}
 
--- it asks for privacy of its session, which cannot be given, and is to fail without
+-- it requests session privacy, which the server cannot provide, and is to fail without it
 abbrev pub asks_critically : PrivacySet → Bool
 asks_critically words = words.session && words.critical
 
--- by the words of its Privacy, by whom it is served for, and by the record of the account that is served as the caller, whose own barring is asked of the target; in this order
+-- by the words of its Privacy, by the user for whom it is served, and by the record of the account that is served as the caller, whose own barring is evaluated for the target; in
+-- this order
 abbrev pub refusal_by : PrivacySet → Served → Option Sheet → Circumstances → Option Cause
 refusal_by words served sheet c =
     if asks_critically words then Some causes.Critical
@@ -24,6 +25,6 @@ refusal_by words served sheet c =
     else if option_map_or (bars_outgoing c) sheet false then Some causes.OutgoingBarred
     else None
 
--- what refuses the call
+-- why the call is refused
 abbrev pub refusal_at_opening : Call → Option Cause
 refusal_at_opening call = refusal_by call.privacy call.served (origin_sheet call) (of_target call call.opening.at call.first)

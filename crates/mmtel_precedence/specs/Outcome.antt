@@ -1,7 +1,7 @@
--- What a call comes to: which targets it reaches, why, to which of them it is offered, and how it ends, by the records as they stood when it reached their accounts (TS
--- 24.604 §4.5.2.6, TS 24.611 §4.5.2, TS 24.615 §4.5.5).
+-- The outcome of a call: which targets it reaches, why, to which of them it is offered, and how it ends, by the records in force when it reached their accounts (TS 24.604
+-- §4.5.2.6, TS 24.611 §4.5.2, TS 24.615 §4.5.5).
 --
--- It is told from how its attempts ended, one after the other. The server never has that list: it decides one move at a time.
+-- It is a function of how its attempts ended, one after the other. The server never has that list: it decides one move at a time.
 use Rattle.std.specs.Prelude.{ℕ, zero, suc, ◌+◌, ◌-◌, if◌then◌else◌, List, Option, Some, None}
 use Rattle.std.specs.Option.{option_map_or}
 use Rattle.mmtel_lex.specs.declared.values.Uri.{Uri}
@@ -12,9 +12,9 @@ use Rattle.mmtel_precedence.specs.Opening.{refusal_at_opening}
 use Rattle.mmtel_targets.specs.Targets.{new_target}
 use Rattle.mmtel_precedence.specs.Targets.{Rests, IsDue, next_after, target_at}
 
--- From the target that the call reaches after k diversions, where so many more are left below the configured bound: it rests there, or a diversion is due. Where none is
--- left, or as many were made and received as the account that diverts lets pass, that diversion refuses the call, as busy where it is for a busy user (RFC 4458 §2); else it
--- leads to the next target, in the same step.
+-- From the target that the call reaches after k diversions, where so many more are left below the configured bound: it stops there, or a diversion is due. Where none is left, or
+-- as many were made and received as the account that diverts allows, that diversion refuses the call, as busy where it is for a busy user (RFC 4458 §2); else it leads to the next
+-- target, in the same step.
 unfoldable pub outcome_from : Call → (left : ℕ) → (k : ℕ) → Uri → Option DueDiversion → List Ended → Outcome
 outcome_from call zero k uri by endings =
     elim (next_after call k uri by endings) [
@@ -29,6 +29,6 @@ outcome_from call (suc left) k uri by endings =
           else then_reached (target_at call k uri by) (outcome_from call left (k + 1) (new_target call.home due.forward.target) (Some due) later)
     ]
 
--- The whole call, whose attempts ended so: what refuses it at its opening, or else what comes of it from its first target on.
+-- The whole call, whose attempts ended so: why it is refused at its opening, or else its outcome from its first target on.
 abbrev pub outcome : Call → List Ended → Outcome
 outcome call endings = option_map_or refused_at_once (refusal_at_opening call) (outcome_from call (call.bound - call.received) 0 call.first None endings)

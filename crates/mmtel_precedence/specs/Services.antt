@@ -1,4 +1,4 @@
--- What the services of one account say of a call, in their precedence: barring before diversion, diversion before waiting (TS 24.604 §4.6, TS 24.611 §4.6, TS 24.615 §4.6).
+-- The decision of the services of one account on a call, in their precedence: barring before diversion, diversion before waiting (TS 24.604 §4.6, TS 24.611 §4.6, TS 24.615 §4.6).
 use Rattle.std.specs.Prelude.{ℕ, Bool, false, not, min, nat_le, if◌then◌else◌, List, [], ◌∷◌, Option, Some, None, option_and_then}
 use Rattle.std.specs.Option.{option_map, option_map_or}
 use Rattle.mmtel_types.specs.declared.causes.Cause.{Cause}
@@ -16,13 +16,13 @@ use Rattle.mmtel_barring.specs.Barring.{is_anonymous_refused, rules_of}
 use Rattle.mmtel_barring.specs.declared.bars.Refusal.{Refusal}
 use Rattle.mmtel_barring.specs.declared.bars.Refusal.TheVariants as refusals
 
--- an account as it stands: its record, whether it is registered, and how many calls it has that are not over, as caller or as called party, without the attempt that is to be made
+-- an account at a moment: its record, whether it is registered, and how many live calls it has, as caller or as called party, without the attempt that is to be made
 pub record AccountState : Type 0 where
   pub sheet : Sheet
   pub registered : Bool
   pub live : ℕ
 
--- a diversion that is due: where to, who is told what, and why; and the bound that the account which diverts sets, where it sets one
+-- a diversion that is due: where to, who is notified of what, and the cause; and the bound that the account which diverts sets, where it sets one
 pub record DueDiversion : Type 0 where
   pub forward : Forward
   pub cause : ℕ
@@ -33,7 +33,7 @@ abbrev pub bound_of : (configured : ℕ) → (own : Option ℕ) → ℕ
 bound_of configured None = configured
 bound_of configured (Some own) = min configured own
 
--- the account's own bound lets no diversion pass where there are so many
+-- the account's own bound allows no further diversion where there are so many
 abbrev pub is_reached : (own : Option ℕ) → (count : ℕ) → Bool
 is_reached None count = false
 is_reached (Some own) count = nat_le own count
@@ -42,7 +42,7 @@ is_reached (Some own) count = nat_le own count
 abbrev pub own_bound : Sheet → Option ℕ
 own_bound sheet = option_and_then (λ (part : DiversionPart). part.bound) sheet.diversion
 
--- what a service says of a call
+-- the decision of a service on a call
 pub data Says : Type 0 where
   Nothing : Says
   Refuses : (cause : Cause) → Says
@@ -55,21 +55,21 @@ abbrev pub diverts_by : Option DueDiversion → Says
 diverts_by None = Nothing
 diverts_by (Some due) = Diverts due
 
--- the first service that says something decides
+-- the first service with a decision decides
 abbrev pub first_said : List Says → Says
 first_said [] = Nothing
 first_said (Nothing ∷ later) = first_said later
 first_said (Refuses cause ∷ later) = Refuses cause
 first_said (Diverts due ∷ later) = Diverts due
 
--- the diversion that the account's record asks for
+-- the diversion that the account's record requires
 abbrev pub due_of : (bound : Option ℕ) → Chosen → DueDiversion
 due_of bound chosen = record { forward = chosen.forward; cause = chosen.cause; bound = bound }
 
 abbrev pub due_on : Circumstances → When → Sheet → Option DueDiversion
 due_on c when sheet = option_map (due_of (own_bound sheet)) (diversion_of c when sheet)
 
--- callers that hide who they are are refused (anonymous communication rejection, TS 24.611 §4.5.2)
+-- anonymous callers are refused (anonymous communication rejection, TS 24.611 §4.5.2)
 abbrev pub rejects_anonymous : Circumstances → Sheet → Bool
 rejects_anonymous c sheet = option_map_or (is_anonymous_refused c) sheet.incoming false
 
@@ -77,30 +77,30 @@ rejects_anonymous c sheet = option_map_or (is_anonymous_refused c) sheet.incomin
 abbrev pub bars_incoming : Circumstances → Sheet → Bool
 bars_incoming c sheet = is_barred c (rules_of sheet.incoming)
 
--- outgoing communication barring refuses the target, which is the other party then
+-- outgoing communication barring refuses the target, which is then the other party
 abbrev pub bars_outgoing : Circumstances → Sheet → Bool
 bars_outgoing c sheet = is_barred c (rules_of sheet.outgoing)
 
--- ---- the services of an account that a call reaches, in their precedence, each list by the next
+-- ---- the services of an account that a call reaches, in their precedence; each list is used by the next
 
--- by the number of its calls: its diversion of a busy user, and network determined user busy
+-- by the number of its calls: its diversion for a busy user, and network determined user busy
 abbrev pub services_of_capacity : Circumstances → AccountState → List Says
 services_of_capacity c account =
     diverts_by (if is_busy account.live account.sheet then due_on c Busy account.sheet else None) ∷ refuses_if (is_busy account.live account.sheet) NetworkBusy ∷ []
 
--- before them, by its diversion on arrival, and its registration
+-- before them: its diversion on arrival, and its registration
 abbrev pub services_after_barring : Circumstances → AccountState → List Says
 services_after_barring c account =
     diverts_by (due_on c (Arrival account.registered) account.sheet) ∷ refuses_if (not account.registered) NotRegistered ∷ services_of_capacity c account
 
--- and before all, by its barring of incoming calls
+-- and before all: its barring of incoming calls
 abbrev pub services_on_arrival : Circumstances → AccountState → List Says
 services_on_arrival c account =
     refuses_if (rejects_anonymous c account.sheet) AnonymousRejected ∷ refuses_if (bars_incoming c account.sheet) IncomingBarred ∷ services_after_barring c account
 
--- ---- what private calls cite
+-- ---- definitions that only private functions cite
 
--- what the refusal of a caller says, if there is one, before what is said later
+-- the refusal of a caller, if there is one, before the later decisions
 abbrev pub said_by : Option Refusal → Says → Says
 said_by None later = later
 said_by (Some refusals.Anonymous) later = Refuses AnonymousRejected

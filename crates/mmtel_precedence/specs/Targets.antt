@@ -1,5 +1,5 @@
--- What comes of a call at one target: what the services of the account that is served there say when it is reached, and of the ending of its attempt (TS 24.604 §4.5.2.6,
--- TS 24.611 §4.5.2, TS 24.615 §4.5.5).
+-- What is done with a call at one target: the decision of the services of the account that is served there when it is reached, and after the ending of its attempt (TS 24.604
+-- §4.5.2.6, TS 24.611 §4.5.2, TS 24.615 §4.5.5).
 use Rattle.std.specs.Prelude.{ℕ, ◌+◌, Bool, true, false, nat_lt, if◌then◌else◌, List, [], ◌∷◌, ◌++◌, Option, Some, None, is_none, option_and_then}
 use Rattle.std.specs.Option.{option_map, option_map_or, option_or}
 use Rattle.mmtel_types.specs.declared.causes.Cause.{Cause}
@@ -30,25 +30,25 @@ abbrev pub served_at : Call → Option DueDiversion → Uri → Option Account
 served_at call None uri = call.served.target
 served_at call (Some due) uri = diverted_served call.served (call.account_of uri)
 
--- the registration that was told is that of the first target
+-- the registration state that was given with the call is that of the first target
 abbrev pub told_at : Call → Option DueDiversion → Option RegistrationState
 told_at call None = call.registration
 told_at call (Some due) = None
 
--- whose the target is: the account that is served for it, or else that which has it
+-- the account of the target: the one that is served for it, or else the one that has it as an identity
 abbrev pub account_for : Call → Option DueDiversion → Uri → Option Account
 account_for call by uri = option_or (served_at call by uri) (call.account_of uri)
 
--- the diversion was to a telephone number, which is diverted to in the home domain
+-- the diversion was to a telephone number, to which calls are diverted in the home domain
 abbrev pub is_by_number : Option DueDiversion → Bool
 is_by_number None = false
 is_by_number (Some due) = is_global_number due.forward.target
 
--- of the home domain, and no account's; a telephone number that a diversion brought there need be no account's
+-- of the home domain, and of no account; a telephone number that is the target of a diversion need not be of an account
 abbrev pub is_nobodys : Call → Option DueDiversion → Uri → Bool
 is_nobodys call by uri = is_unknown call.home (account_for call by uri) (record { uri = uri; of_number = is_by_number by })
 
--- the target, by how things stand
+-- the target, in this state
 abbrev pub reach_in : Standing → Call → Uri → Option DueDiversion → Reach
 reach_in standing call uri by = record {
   at = standing.at;
@@ -57,15 +57,15 @@ reach_in standing call uri by = record {
   peer = call.peer_of uri;
 }
 
--- the target that is reached after k diversions, the last of which led to it, by how things stood then
+-- the target that is reached after k diversions, the last of which led to it, in the state when it was reached
 abbrev pub reach_of : Call → (k : ℕ) → Uri → Option DueDiversion → Reach
 reach_of call k uri by = reach_in (standing_after call k) call uri by
 
--- a diversion came before the target that is reached after k diversions: one that the call was received with, or one that was made
+-- a diversion came before the target that is reached after k diversions: one with which the call was received, or one that was made
 abbrev pub is_diverted : Call → (k : ℕ) → Bool
 is_diverted call k = nat_lt 0 (call.received + k)
 
--- what is known of the call at a moment, where its caller is the other party, at the target that is reached after k diversions
+-- the facts of the call at a moment, where its caller is the other party, at the target that is reached after k diversions
 abbrev pub of_caller : Call → (k : ℕ) → ℕ → Circumstances
 of_caller call k now = record {
   asks = call.asks;
@@ -77,8 +77,8 @@ of_caller call k now = record {
   abroad = false;
 }
 
--- what the services of the account that is served there say, in their precedence; then, whoever is served: a target of the home domain that is no account's is refused, and
--- one to which no peer leads
+-- the decision of the services of the account that is served there, in their precedence; then, whoever is served: a target of the home domain that is of no account is refused, and
+-- one to which no peer is the route
 abbrev pub said_on_arrival : Call → (k : ℕ) → Reach → Says
 said_on_arrival call k reach =
     first_said (option_map_or (services_on_arrival (of_caller call k reach.at)) reach.served [] ++ refuses_if reach.is_unknown causes.NoAccount
@@ -88,7 +88,7 @@ said_on_arrival call k reach =
 abbrev pub is_waiting : Option AccountState → Bool
 is_waiting served = option_map_or (λ (account : AccountState). nat_lt 0 account.live) served false
 
--- the call is offered where nothing was said
+-- the call is offered where no service decided
 abbrev pub offer_by : Says → Option AccountState → Offer
 offer_by Nothing served = Offered (is_waiting served)
 offer_by (Refuses cause) served = NotOffered
@@ -105,7 +105,7 @@ abbrev pub party_of : Uri → Identities2
 party_of (Sip user host port params headers) = record { sip = Some (Sip user host port params headers); tel = None }
 party_of (Tel number params) = record { sip = None; tel = Some (Tel number params) }
 
--- what is known of the call at a moment, where this target is the other party; whether the call was diverted is not asked then
+-- the facts of the call at a moment, where this target is the other party; whether the call was diverted is not evaluated then
 abbrev pub of_target : Call → ℕ → Uri → Circumstances
 of_target call now target = record {
   asks = identity_holds (party_of target);
@@ -122,11 +122,11 @@ abbrev pub is_refused : Call → Option AccountState → (now : ℕ) → DueDive
 is_refused call served now due =
     option_map_or (λ (account : AccountState). bars_outgoing (of_target call now (new_target call.home due.forward.target)) account.sheet) served false
 
--- the diversion by the rules of the account for what happened; none where no account is served
+-- the diversion by the rules of the account for the event; none where no account is served
 abbrev pub due_at : Circumstances → When → Option AccountState → Option DueDiversion
 due_at c when served = option_and_then (λ (account : AccountState). due_on c when account.sheet) served
 
--- a deflection goes to the target of the response, and hides nothing
+-- a deflection goes to the target of the response, and reveals everything
 abbrev pub deflected_to : Uri → (bound : Option ℕ) → ℕ → DueDiversion
 deflected_to target bound cause = record {
   forward = record {
@@ -145,9 +145,9 @@ abbrev pub deflection_at : Option AccountState → Uri → (rang : Bool) → Opt
 deflection_at served target rang =
     option_and_then (λ (account : AccountState). option_map (deflected_to target (own_bound account.sheet)) (deflection_of account.sheet rang)) served
 
--- ---- what is next
+-- ---- the outcome at a target
 
--- the call goes no further; or a diversion is due that outgoing barring lets pass, and so many endings are still to come
+-- the call goes no further; or a diversion is due that outgoing barring does not refuse, and these endings are pending
 pub data Next : Type 0 where
   Rests : (result : Result) → Next
   IsDue : (due : DueDiversion) → (later : List Ended) → Next
@@ -172,7 +172,7 @@ next_on call k served now NoReply later = diverted_or call served now (due_at (o
 next_on call k served now (Deflection target rang) later = diverted_or call served now (deflection_at served target rang) (causes.Relayed 480) later
 next_on call k served now (Other code) later = Rests (Final (causes.Relayed code))
 
--- by what was said when the target was reached; a call that was offered rests until its attempt ends, with the account as it stood when it was reached
+-- by the decision when the target was reached; an offered call remains there until its attempt ends, with the account as it was when the target was reached
 abbrev pub next_at : Says → Call → (k : ℕ) → Reach → List Ended → Next
 next_at Nothing call k reach [] = Rests Pending
 next_at Nothing call k reach (ended ∷ later) = next_on call k reach.served ended.at ended.how later

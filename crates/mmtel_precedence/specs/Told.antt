@@ -1,4 +1,4 @@
--- What the values of the program tell: accounts and targets as they stand, diversions, turns and ends of attempts.
+-- The values of the program as seen in contracts: accounts and targets, diversions, next steps and ends of attempts.
 use Rattle.std.specs.Prelude.{ℕ, Some}
 use Rattle.std.specs.Option.{option_map}
 use Rattle.mmtel_sheet_values.specs.declared.values.Sheet.{Sheet}
@@ -24,7 +24,7 @@ use Rattle.mmtel_precedence.specs.Calls.{End, UserBusy, NotReachable, NoReply, D
 use Rattle.mmtel_precedence.specs.Turns.{Turn, TurnOffer, TurnDivert, TurnRefuse, AfterEnd, EndDivert, EndRefuse}
 use Rattle.mmtel_precedence.specs.Verdicts.{Decision, Ends, Forwards, Offers}
 
--- the account as it stands, with this record
+-- the account at this moment, with this record
 abbrev pub standing : CallFacts → Sheet → AccountState
 standing c sheet = record { sheet = sheet; registered = c.registered; live = c.live }
 
@@ -50,7 +50,7 @@ told_due d = record {
   bound = d.bound;
 }
 
--- a turn at a target
+-- the next step at a target
 abbrev pub told_turn : program.Turn → Turn
 told_turn (turns.Offer peer waiting) = TurnOffer peer waiting
 told_turn (turns.Divert due) = TurnDivert (told_due due)
@@ -79,7 +79,7 @@ told_timeout timeouts.Silence = Silence
 told_timeout timeouts.NoReplyTime = NoReplyTime
 told_timeout timeouts.LongestTime = LongestTime
 
--- ---- what private calls cite
+-- ---- definitions that only private functions cite
 
 -- what is decided on arrival
 abbrev pub told_arrival : Arrival → Decision

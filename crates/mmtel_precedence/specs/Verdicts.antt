@@ -1,5 +1,5 @@
--- One decision: what the services of an account say of a call that reaches it, or of an attempt that ended (TS 24.604 §4.5.2.6, TS 24.611 §4.5.2, TS 24.615 §4.5.5); and
--- what stands before each diversion.
+-- One decision: that of the services of an account on a call that reaches it, or on an attempt that ended (TS 24.604 §4.5.2.6, TS 24.611 §4.5.2, TS 24.615 §4.5.5); and what is
+-- checked before each diversion.
 use Rattle.std.specs.Prelude.{ℕ, ◌==◌, Bool, nat_lt, if◌then◌else◌, Option, Some, None}
 use Rattle.std.specs.Option.{option_map}
 use Rattle.mmtel_types.specs.declared.causes.Cause.{Cause}
@@ -23,25 +23,25 @@ use Rattle.mmtel_precedence.specs.Services.{services_on_arrival}
 pub data Decision : Type 0 where
   -- it is offered to the target
   Offers : (waiting : Bool) → Decision
-  -- it is diverted; without a forward to where the user's device deflects it
+  -- it is diverted; where there is no forward, to the target of the device's deflection
   Forwards : (forward : Option Forward) → (cause : ℕ) → Decision
   -- it is refused
   Ends : (cause : Cause) → Decision
 
--- what a verdict of the program says
+-- a verdict of the program, as seen here
 abbrev pub shown : Verdict → Decision
 shown (verdicts.Offer waiting) = Offers waiting
 shown (verdicts.Divert None cause) = Forwards None cause
 shown (verdicts.Divert (Some forward) cause) = Forwards (Some forward.now) cause
 shown (verdicts.Refuse cause) = Ends cause
 
--- by what the services say; a call waits where the user has another one
+-- by the decision of the services; a call waits where the user has another one
 abbrev pub decision_by : Says → (live : ℕ) → Decision
 decision_by Nothing live = Offers (nat_lt 0 live)
 decision_by (Refuses cause) live = Ends cause
 decision_by (Diverts due) live = Forwards (Some due.forward) due.cause
 
--- the diversion that the rules ask for, else the cause
+-- the diversion that the rules require, else the cause
 abbrev pub forwards_or : Option DueDiversion → Cause → Decision
 forwards_or None cause = Ends cause
 forwards_or (Some due) cause = Forwards (Some due.forward) due.cause
@@ -62,15 +62,15 @@ verdict_of c account (Other code) = Ends (causes.Relayed code)
 
 -- ---- before a diversion
 
--- a diversion for which there are too many refuses the call, as busy where it is for a busy user (RFC 4458 §2)
+-- a diversion for which the bound is reached refuses the call, as busy where it is for a busy user (RFC 4458 §2)
 abbrev pub too_many : (cause : ℕ) → Cause
 too_many cause = causes.TooManyDiversions (cause == 486)
 
--- what the bound refuses
+-- the refusal by the bound
 abbrev pub refusal_at_bound : (received done bound cause : ℕ) → Option Cause
 refusal_at_bound received done bound cause = if is_within received done bound then None else Some (too_many cause)
 
--- what refuses a diversion, if anything does: first the outgoing barring of the account that diverts, where the new target is the other party; then the bound
+-- why a diversion is refused, if it is: first by the outgoing barring of the account that diverts, where the new target is the other party; then by the bound
 abbrev pub go_on_of : Circumstances → Sheet → (received done bound cause : ℕ) → Option Cause
 go_on_of c sheet received done bound cause = if bars_outgoing c sheet then Some causes.OutgoingBarred else refusal_at_bound received done bound cause
 
@@ -79,16 +79,16 @@ abbrev pub refusal_before_diversion : Circumstances → Option Sheet → (receiv
 refusal_before_diversion c None received done configured due = refusal_at_bound received done (bound_of configured due.bound) due.cause
 refusal_before_diversion c (Some sheet) received done configured due = go_on_of c sheet received done (bound_of configured due.bound) due.cause
 
--- ---- what private calls cite
+-- ---- definitions that only private functions cite
 
--- the diversion that the rules ask for after an attempt that failed so
+-- the diversion that the rules require after an attempt that failed so
 abbrev pub diversion_after : Circumstances → Sheet → Failure → Option Chosen
 diversion_after c sheet (failures.UserBusy code) = diversion_of c event.Busy sheet
 diversion_after c sheet (failures.NotReachable code) = diversion_of c event.NotReachable sheet
 diversion_after c sheet failures.NoReply = diversion_of c event.NoAnswer sheet
 diversion_after c sheet (failures.Other code) = None
 
--- the cause by which the call is refused, where they ask for none
+-- the cause by which the call is refused, where they require none
 abbrev pub cause_of : Failure → Cause
 cause_of (failures.UserBusy code) = causes.Relayed code
 cause_of (failures.NotReachable code) = causes.Unreachable code

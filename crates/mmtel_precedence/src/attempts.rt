@@ -9,27 +9,27 @@ use mmtel_lex::Uri;
 use mmtel_sip_rules::is_redirection;
 use mmtel_types::Cause;
 
-/// Which time of an attempt passed.
+/// Which timer of an attempt fired.
 #[derive(Clone, Copy, Debug, PartialEq, Eq)]
 pub enum AttemptTimeout {
-    /// That in which any response has to come, until the INVITE is given up (RFC 3261 §17.1.1.2, Timer B).
+    /// Timer B of the client transaction: no response at all (RFC 3261 §17.1.1.2).
     Silence,
-    /// The no-reply time of the record, which begins with the first response that rings.
+    /// The no-reply time of the record, which begins with the first ringing response.
     NoReplyTime,
-    /// The longest time that an attempt may take, which begins with the offer.
+    /// The maximum time of an attempt, which begins with the offer.
     LongestTime,
 }
 
 /// Why an attempt failed.
 #[derive(Clone, Copy, Debug, PartialEq, Eq)]
 pub enum Failure {
-    /// The target answered that it is busy, with this status: user determined user busy.
+    /// The target is busy, with this status: user determined user busy.
     UserBusy(u16),
     /// The target cannot be reached, by this status.
     NotReachable(u16),
     /// The target rang for too long.
     NoReply,
-    /// The target answered with this other final status.
+    /// The target responded with this other final status.
     Other(u16),
 }
 
@@ -47,12 +47,12 @@ impl Failure {
     }
 }
 
-/// How an attempt that was offered ended, where it was not answered and its caller did not give up.
+/// How an attempt that was offered ended, where it was not answered by a 2xx and its caller did not abandon the call.
 #[derive(Clone, Copy)]
 pub enum AttemptEnd<'a> {
     /// It failed.
     Failed(Failure),
-    /// The target's device diverts the call elsewhere (communication deflection, a 302).
+    /// The target's device deflects the call (communication deflection, a 302).
     Deflected {
         /// Where to.
         target: &'a Uri,
@@ -61,14 +61,14 @@ pub enum AttemptEnd<'a> {
     },
 }
 
-/// Whether a response with this status says that the target rings: 180 to 183 (RFC 3261 §21.1.2 to §21.1.5). It takes no memory.
+/// Whether a response with this status means that the target rings: 180 to 183 (RFC 3261 §21.1.2 to §21.1.5). It allocates nothing.
 pub fn rings(code: u16) -> bool
     ensures exact { result ≡ rings code }
 {
     180 <= code && code <= 183
 }
 
-/// Whether the user is busy, as it determined itself.
+/// Whether the status is user determined user busy.
 fn is_user_busy(code: u16) -> bool
     ensures { result ≡ is_user_busy code }
 {
@@ -92,10 +92,10 @@ fn end_by_redirection<'a>(code: u16, target: Option<&'a Uri>, rang: bool) -> Att
     }
 }
 
-/// How a final response from 300 ends an attempt that rang before or did not; the target is the URI of its first Contact value, where that can be read as a sip or tel URI.
+/// How a final response from 300 ends an attempt, which rang before or did not; the target is the URI of its first Contact value, where that can be read as a sip or tel URI.
 ///
-/// 486 and 600 are user determined user busy. 408, 500 and 503 before it rang are a target that cannot be reached. A 302 with a target deflects the call, and any other 3xx
-/// counts as a 480. Any other status is that. It takes no memory.
+/// 486 and 600 are user determined user busy. 408, 500 and 503 before it rang mean a target that cannot be reached. A 302 with a target deflects the call, and any other 3xx counts
+/// as a 480. Any other status is a failure with that status. It allocates nothing.
 pub fn end_by_final<'a>(code: u16, target: Option<&'a Uri>, rang: bool) -> AttemptEnd<'a>
     requires { 300 ≤ code }
     ensures exact { told_end result ≡ end_by_final code (option_copied target.entry) rang }
@@ -112,8 +112,8 @@ pub fn end_by_final<'a>(code: u16, target: Option<&'a Uri>, rang: bool) -> Attem
     AttemptEnd::Failed(Failure::Other(code))
 }
 
-/// How a time that passed ends an attempt that rang before or did not: silence, which counts as 408, as a target that cannot be reached; the no-reply time without a reply, and
-/// so the longest time where it rang, else as a target that cannot be reached. It takes no memory.
+/// How a timer that fired ends an attempt, which rang before or did not: a transaction timeout, which counts as 408, as a target that cannot be reached; the no-reply time as no
+/// reply, and so the maximum time where it rang, else as a target that cannot be reached. It allocates nothing.
 pub fn end_by_timeout(timeout: AttemptTimeout, rang: bool) -> AttemptEnd<'static>
     ensures exact { Some (told_end result) ≡ end_by (told_timeout timeout) rang }
 {

@@ -21,7 +21,7 @@ use mmtel_sheet_values::Sheet;
 use mmtel_types::Cause;
 use mmtel_waiting::is_busy;
 
-/// What the services of an account decide of a call that reaches it.
+/// The decision of the services of an account on a call that reaches it.
 #[derive(Clone, Copy)]
 pub enum Arrival<'a> {
     /// It is offered to the target.
@@ -35,7 +35,7 @@ pub enum Arrival<'a> {
     Refuse(Cause),
 }
 
-/// What is decided of a call that reaches a registered account which its rules for an arrival do not divert: by the calls that the account has.
+/// The decision on a call that reaches a registered account which its rules for an arrival do not divert: by the number of calls of the account.
 fn by_capacity<'a>(f: &Facts, a: &ServedAccount<'a>) -> Arrival<'a>
     ensures { let facts = f.entry.now in let account = told_account a.entry.now in told_arrival result
         ≡ decision_by (first_said (services_of_capacity (known facts) account)) account.live }
@@ -51,7 +51,7 @@ fn by_capacity<'a>(f: &Facts, a: &ServedAccount<'a>) -> Arrival<'a>
     }
 }
 
-/// What is decided of a call that reaches an account which does not refuse its caller.
+/// The decision on a call that reaches an account which does not refuse its caller.
 fn on_arrival<'a>(f: &Facts, a: &ServedAccount<'a>) -> Arrival<'a>
     ensures { let facts = f.entry.now in let account = told_account a.entry.now in told_arrival result
         ≡ decision_by (first_said (services_after_barring (known facts) account)) account.live }
@@ -66,7 +66,7 @@ fn on_arrival<'a>(f: &Facts, a: &ServedAccount<'a>) -> Arrival<'a>
     }
 }
 
-/// What services say of a refusal of the account's barring of incoming calls, or of none.
+/// The decision by the refusal of the account's barring of incoming calls, or without one.
 fn by_refusal<'a>(refusal: Option<Refusal>, f: &Facts, a: &ServedAccount<'a>) -> Arrival<'a>
     ensures { let facts = f.entry.now in let account = told_account a.entry.now in
         told_arrival result ≡ decision_by (said_by refusal (first_said (services_after_barring (known facts) account))) account.live }
@@ -78,8 +78,8 @@ fn by_refusal<'a>(refusal: Option<Refusal>, f: &Facts, a: &ServedAccount<'a>) ->
     }
 }
 
-/// What is decided of a call that reaches an account, in this order: anonymous communication rejection; incoming barring; the diversion rules without an event and for
-/// not-registered; a target that is not registered; where the account has as many calls as it may have, its busy rules and then network determined user busy.
+/// The decision on a call that reaches an account, in this order: anonymous communication rejection; incoming barring; the diversion rules without an event and for not-registered;
+/// a target that is not registered; where the account has as many calls as it may have, its busy rules and then network determined user busy.
 pub fn arrived<'a>(f: &Facts, a: &ServedAccount<'a>) -> Arrival<'a>
     ensures { let facts = f.entry.now in let account = told_account a.entry.now in told_arrival result
         ≡ decision_by (first_said (services_on_arrival (known facts) account)) account.live }
@@ -88,7 +88,7 @@ pub fn arrived<'a>(f: &Facts, a: &ServedAccount<'a>) -> Arrival<'a>
     by_refusal(incoming(a.sheet, f), f, a)
 }
 
-/// The diversion that the rules of the record ask for after an attempt that failed so.
+/// The diversion that the rules of the record require after an attempt that failed so.
 pub fn asked_after<'a>(f: &Facts, s: &'a Sheet, failure: Failure) -> Option<Diversion<'a>>
     ensures { let facts = f.entry.now in option_map shown_diversion result ≡ diversion_after (known facts) s.now failure }
 {
@@ -100,7 +100,7 @@ pub fn asked_after<'a>(f: &Facts, s: &'a Sheet, failure: Failure) -> Option<Dive
     }
 }
 
-/// The verdict of what is decided on arrival.
+/// The verdict of the decision on arrival.
 fn on_arriving(arrival: Arrival<'_>) -> Verdict<'_>
     ensures { shown result ≡ told_arrival arrival.entry }
 {
@@ -127,7 +127,7 @@ fn on_failure<'a>(f: &Facts, s: &'a Sheet, failure: Failure) -> Verdict<'a>
     }
 }
 
-/// The verdict of a deflection: it is made, where the account allows it, else the call is refused by a 480.
+/// The verdict on a deflection: it is made, where the account allows it, else the call is refused by a 480.
 fn on_deflection(cause: Option<u16>) -> Verdict<'static>
     ensures { shown result ≡ deflects_or cause }
 {
@@ -140,7 +140,7 @@ fn on_deflection(cause: Option<u16>) -> Verdict<'static>
     }
 }
 
-/// The account whose services are asked, with its record.
+/// The account whose services are evaluated, with its record.
 fn account_of<'a>(c: &CallFacts, s: &'a Sheet) -> ServedAccount<'a>
     ensures { told_account result ≡ standing c.entry.now s.now }
 {
@@ -151,12 +151,12 @@ fn account_of<'a>(c: &CallFacts, s: &'a Sheet) -> ServedAccount<'a>
     }
 }
 
-/// What the services of the account decide of a call that comes to it, or of an attempt that ended there: it is offered, as waiting or not; diverted, by a rule or by
+/// The verdict of the services of the account on a call that reaches it, or after an attempt that ended there: it is offered, as waiting or not; diverted, by a rule or by
 /// deflection; or refused.
 ///
-/// On arrival, in this order: anonymous communication rejection; incoming barring; the diversion rules without an event and for not-registered; a target that is not
-/// registered; where the account has as many calls as it may have, its busy rules and then network determined user busy. After an attempt the rules for its ending come
-/// first, then its cause. It asks what `turn_at` and `turn_on` ask, and takes no memory.
+/// On arrival, in this order: anonymous communication rejection; incoming barring; the diversion rules without an event and for not-registered; a target that is not registered;
+/// where the account has as many calls as it may have, its busy rules and then network determined user busy. After an attempt the rules for its ending come first, then its cause.
+/// It decides what `turn_at` and `turn_on` decide, and allocates nothing.
 pub fn verdict<'a>(c: &CallFacts, s: &'a Sheet, e: Ending) -> Verdict<'a>
     ensures exact { let call = c.entry.now in shown result ≡ verdict_of (known call.facts) (standing call s.now) e }
 {
@@ -178,7 +178,7 @@ pub fn bars_outgoing(s: &Sheet, f: &Facts) -> bool
     outgoing(s, f).is_some()
 }
 
-/// What the bound refuses: the diversions that the call was received with and those that were made are together at the bound or above (TS 24.604 §4.5.2.6); the refusal is as
+/// The refusal by the bound: the diversions with which the call was received and those that were made are together at the bound or above (TS 24.604 §4.5.2.6); the refusal is as
 /// for a busy user where the cause of the diversion is 486.
 fn refusal_at_bound(received: u16, done: u16, bound: u16, cause: u16) -> Option<Cause>
     ensures { result ≡ refusal_at_bound received done bound cause }
@@ -189,9 +189,9 @@ fn refusal_at_bound(received: u16, done: u16, bound: u16, cause: u16) -> Option<
     Some(Cause::TooManyDiversions { busy: cause == 486 })
 }
 
-/// What refuses a diversion that is due; None where it is made. The sheet is that of the account that diverts, and the facts name the new target as the other party: its
-/// outgoing barring comes first (TS 24.611 §4.5.2). Then the bound: the diversions that the call was received with and those that were made are together at the bound or
-/// above (TS 24.604 §4.5.2.6); the refusal is as for a busy user where the cause of the diversion is 486. It takes no memory.
+/// Why a diversion that is due is refused; None where it is made. The sheet is that of the account that diverts, and the facts name the new target as the other party: its outgoing
+/// barring comes first (TS 24.611 §4.5.2). Then the bound: the diversions with which the call was received and those that were made are together at the bound or above (TS 24.604
+/// §4.5.2.6); the refusal is as for a busy user where the cause of the diversion is 486. It allocates nothing.
 pub fn go_on(
     s: &Sheet,
     f: &Facts,
@@ -218,9 +218,9 @@ fn bound_of(configured: u16, own: Option<u8>) -> u16
     }
 }
 
-/// What refuses a diversion that is due; None where it is made. The sheet is that of the account that diverts, None where no account is served, and the facts name the new
-/// target as the other party. So many diversions the call was received with, and so many were made; the bound is the lesser of the configured one and that of the account.
-/// It takes no memory.
+/// Why a diversion that is due is refused; None where it is made. The sheet is that of the account that diverts, None where no account is served, and the facts name the new target
+/// as the other party. The two counts are of the diversions with which the call was received and of those that were made; the bound is the lesser of the configured one and that of
+/// the account. It allocates nothing.
 pub fn refusal_before_diversion(
     s: Option<&Sheet>,
     f: &Facts,

@@ -1,7 +1,8 @@
-//! The precedence of the services: whether a call that reaches an account is offered, diverted or refused, what follows the ending of each attempt, and what stands before
-//! each diversion (TS 24.604, TS 24.611, TS 24.615).
+//! The precedence of the services: whether a call that reaches an account is offered, diverted or refused, what is done after the ending of each attempt, and what is checked
+//! before each diversion (TS 24.604, TS 24.611, TS 24.615).
 //!
-//! What a whole call does is the definition Outcome of `specs/`; a law says that these decisions, taken one by one, come to it. No call takes memory, so a decision never fails.
+//! The result of a whole call is the definition Outcome of `specs/`; a theorem states that these decisions, taken one by one, give it. No call allocates, so a decision never
+//! fails.
 #![tactic(auto)]
 
 mod attempts;

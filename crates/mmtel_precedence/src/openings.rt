@@ -1,4 +1,4 @@
-//! What refuses a call as it opens.
+//! Why a call is refused at its opening.
 ghost use Rattle.std.specs.Prelude.{◌≡◌, false};
 ghost use Rattle.std.specs.Option.{option_copied, option_map_or};
 ghost use Rattle.mmtel_rules.specs.Circumstances.{known};
@@ -11,7 +11,7 @@ use mmtel_sheet_values::Sheet;
 use mmtel_targets::Served;
 use mmtel_types::{Cause, PrivacySet};
 
-/// Whether privacy of the session is asked for, and the call is to fail where it cannot be given (RFC 3323 §4.2).
+/// Whether session privacy is requested, and the call is to fail where it cannot be provided (RFC 3323 §4.2).
 fn asks_critically(p: &PrivacySet) -> bool
     ensures { result ≡ asks_critically p.now }
 {
@@ -28,11 +28,11 @@ fn bars_target(s: Option<&Sheet>, f: &Facts) -> bool
     }
 }
 
-/// What refuses a call as it opens; None where it goes to its first target.
+/// Why a call is refused at its opening; None where it goes to its first target.
 ///
-/// In this order: it asks for critical privacy of its session, which cannot be given (RFC 3323 §4.2); it is served for a user of no account (RFC 5502 §4);
+/// In this order: it requests critical privacy of its session, which the server cannot provide (RFC 3323 §4.2); it is served for a user of no account (RFC 5502 §4);
 /// the account that is served as the caller bars its own call (TS 24.611 §4.5.2).
-/// The sheet is the record of that account, None where no caller is served; the facts name the first target as the other party. It takes no memory.
+/// The sheet is the record of that account, None where no caller is served; the facts name the first target as the other party. It allocates nothing.
 pub fn refused_at_opening(
     p: &PrivacySet,
     served: &Served,

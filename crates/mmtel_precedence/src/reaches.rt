@@ -1,4 +1,4 @@
-//! Targets as they stand when a call reaches them.
+//! Targets in the state when a call reaches them.
 ghost use Rattle.std.specs.Prelude.{◌≡◌};
 ghost use Rattle.mmtel_precedence.specs.Targets.{party_of};
 
@@ -7,29 +7,29 @@ use mmtel_rules::Identities2;
 use mmtel_sheet_values::Sheet;
 use mmtel_types::Peer;
 
-/// The account that is served at a target, as it stands when the call reaches it.
+/// The account that is served at a target, in the state when the call reaches it.
 #[derive(Clone, Copy)]
 pub struct ServedAccount<'a> {
     /// Its record.
     pub sheet: &'a Sheet,
     /// It is registered.
     pub registered: bool,
-    /// Its calls that are not over, as caller or as called party, without the attempt that is to be made.
+    /// Its live calls, as caller or as called party, without the attempt that is to be made.
     pub live: u32,
 }
 
-/// A target as it stands when the call reaches it.
+/// A target in the state when the call reaches it.
 #[derive(Clone, Copy)]
 pub struct Reached<'a> {
     /// The account that is served there, if one is.
     pub served: Option<ServedAccount<'a>>,
-    /// It is of the home domain and no account's, as `is_unknown` of a target says.
+    /// It is of the home domain and of no account (`is_unknown` of a target).
     pub is_unknown: bool,
-    /// The peer that leads to it, if one does.
+    /// The peer that is the route to it, if there is one.
     pub peer: Option<Peer>,
 }
 
-/// The URI as the only identity of a party, as which the outgoing barring of an account is asked of a new target. It takes no memory.
+/// The URI as the only identity of a party, for which the outgoing barring of an account is evaluated for a new target. It allocates nothing.
 pub fn party_of(uri: Uri) -> Identities2
     ensures exact { result ≡ party_of uri }
 {

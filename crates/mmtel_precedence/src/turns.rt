@@ -1,4 +1,4 @@
-//! What is done next with a call.
+//! The next step of a call.
 ghost use Rattle.std.specs.Prelude.{◌≡◌, option_and_then};
 ghost use Rattle.std.specs.Option.{option_copied};
 ghost use Rattle.mmtel_types.specs.declared.causes.Cause.TheVariants.{Relayed};
@@ -18,27 +18,27 @@ use mmtel_rules::Facts;
 use mmtel_sheet_values::{Forward, Sheet};
 use mmtel_types::{Cause, Peer};
 
-/// A diversion that is due: where the call goes, who is told what of it, and why. It is made unless `go_on` refuses it.
+/// A diversion that is due: where the call goes, who is notified of what about it, and the cause. It is made unless `go_on` refuses it.
 #[derive(Clone, Copy)]
 pub struct Onward<'a> {
     /// The target, as the rule or the device names it.
     pub target: &'a Uri,
-    /// The caller is told that the call is diverted.
+    /// The caller is notified that the call is diverted.
     pub notify_caller: bool,
-    /// The caller is told where to.
+    /// The diverted-to identity is revealed to the caller.
     pub reveal_to_caller: bool,
-    /// The caller is told by whom.
+    /// The identity of the diverting user is revealed to the caller.
     pub reveal_served_to_caller: bool,
-    /// The target is told by whom.
+    /// The identity of the diverting user is revealed to the target.
     pub reveal_to_target: bool,
-    /// Why (RFC 4458 §2).
+    /// The cause (RFC 4458 §2).
     pub cause: u16,
     /// The bound on the diversions of a call that the account which diverts sets, where it sets one.
     pub bound: Option<u8>,
 }
 
 impl<'a> Onward<'a> {
-    /// Whether the caller is told of the diversion (TS 24.604 §4.5.2.6): where the rule says so, whatever the cause.
+    /// Whether the caller is notified of the diversion (TS 24.604 §4.5.2.6): where the rule says so, whatever the cause.
     pub fn tells_caller(&self) -> bool
         ensures exact { result ≡ self.entry.now.notify_caller }
     {
@@ -51,7 +51,7 @@ impl<'a> Onward<'a> {
 pub enum Turn<'a> {
     /// It is offered to the target.
     Offer {
-        /// The peer that leads there.
+        /// The peer that is the route to it.
         peer: Peer,
         /// The user has another call already, so this one waits (communication waiting).
         waiting: bool,
@@ -81,7 +81,7 @@ fn own_bound(sheet: &Sheet) -> Option<u8>
     }
 }
 
-/// The diversion that a rule asks for.
+/// The diversion by a rule.
 fn by_rule(forward: &Forward, cause: u16, bound: Option<u8>) -> Onward<'_>
     ensures { told_due result ≡ record { forward = forward.now; cause = cause; bound = bound } }
 {
@@ -96,7 +96,7 @@ fn by_rule(forward: &Forward, cause: u16, bound: Option<u8>) -> Onward<'_>
     }
 }
 
-/// The diversion by the target's device, which hides nothing.
+/// The diversion by the target's device, which reveals everything.
 fn by_device(target: &Uri, cause: u16, bound: Option<u8>) -> Onward<'_>
     ensures { told_due result ≡ deflected_to target.now bound cause }
 {
@@ -111,7 +111,7 @@ fn by_device(target: &Uri, cause: u16, bound: Option<u8>) -> Onward<'_>
     }
 }
 
-/// A target that no service refused: it may still be nobody's, or out of reach.
+/// A target that no service refused: it may still be of no account, or without a route.
 fn offer_unless(is_unknown: bool, peer: Option<Peer>, waiting: bool) -> Turn<'static>
     ensures { told_turn result ≡ offer_turn is_unknown peer waiting }
 {
@@ -124,7 +124,7 @@ fn offer_unless(is_unknown: bool, peer: Option<Peer>, waiting: bool) -> Turn<'st
     }
 }
 
-/// The turn at a target where the services of its account, which has this record, decided so.
+/// The next step at a target, by this decision of the services of its account, which has this record.
 fn turn_by<'a>(
     decided: Arrival<'a>,
     sheet: &Sheet,
@@ -144,7 +144,7 @@ fn turn_by<'a>(
     }
 }
 
-/// The turn at a target of this account.
+/// The next step at a target of this account.
 fn turn_of<'a>(f: &Facts, a: &ServedAccount<'a>, is_unknown: bool, peer: Option<Peer>) -> Turn<'a>
     ensures { let facts = f.entry.now in let account = told_account a.entry.now in told_turn result
         ≡ turn_by (decision_by (first_said (services_on_arrival (known facts) account)) account.live) (own_bound account.sheet) is_unknown peer }
@@ -152,9 +152,9 @@ fn turn_of<'a>(f: &Facts, a: &ServedAccount<'a>, is_unknown: bool, peer: Option<
     turn_by(arrived(f, a), a.sheet, is_unknown, peer)
 }
 
-/// What is done with a call at a target that it reached: what the services of the account decide that is served there, as `verdict` says;
-/// then, whoever is served, a target of the home domain that is no account's is refused, and one to which no peer leads.
-/// The facts name the caller as the other party. It takes no memory.
+/// What is done with a call at a target that it reached: what the services of the account that is served there decide (`verdict`);
+/// then, whoever is served, a target of the home domain that is of no account is refused, and one to which no peer is the route.
+/// The facts name the caller as the other party. It allocates nothing.
 pub fn turn_at<'a>(f: &Facts, r: &Reached<'a>) -> Turn<'a>
     ensures exact { let facts = f.entry.now in told_turn result ≡ turn_at (known facts) (told_reach facts.now r.entry.now) }
 {
@@ -164,7 +164,7 @@ pub fn turn_at<'a>(f: &Facts, r: &Reached<'a>) -> Turn<'a>
     }
 }
 
-/// What is done after an attempt that failed so: what the rules of the record ask for, else the call is refused.
+/// What is done after an attempt that failed so: the diversion that the rules of the record require, else the call is refused.
 fn on_failure<'a>(f: &Facts, s: Option<&'a Sheet>, failure: Failure) -> AfterEnding<'a>
     ensures { let facts = f.entry.now in told_after result ≡ turn_on (known facts) (option_copied s.entry) (told_failure failure) }
 {
@@ -194,7 +194,7 @@ fn on_deflection<'a>(s: Option<&'a Sheet>, target: &'a Uri, rang: bool) -> After
 }
 
 /// What is done with a call after an attempt that ended so: the rules for that ending come first, and then its cause. The sheet is the record under which it was offered, None
-/// where the target is of no account; the facts name the caller as the other party. It takes no memory.
+/// where the target is of no account; the facts name the caller as the other party. It allocates nothing.
 pub fn turn_on<'a>(f: &Facts, s: Option<&'a Sheet>, e: &AttemptEnd<'a>) -> AfterEnding<'a>
     ensures exact { let facts = f.entry.now in told_after result ≡ turn_on (known facts) (option_copied s.entry) (told_end e.entry.now) }
 {

@@ -1,4 +1,4 @@
-//! What is decided of a call.
+//! The verdict on a call.
 
 use mmtel_sheet_values::Forward;
 use mmtel_types::Cause;
@@ -13,9 +13,9 @@ pub enum Verdict<'a> {
     },
     /// A diversion is due.
     Divert {
-        /// Where the call goes, by the rule; None where it goes where the target's device deflects it.
+        /// Where the call goes, by the rule; None where it goes to the target of the device's deflection.
         forward: Option<&'a Forward>,
-        /// Why (RFC 4458 §2).
+        /// The cause (RFC 4458 §2).
         cause: u16,
     },
     /// It is refused.

@@ -1,4 +1,4 @@
--- What events say after one more, and what is true of those of every list of deeds.
+-- What events say after one more, and what is true of those of every list of operations.
 use Rattle.std.proofs.Common.{◌≡◌, ◌==◌, ◌||◌, ◌&&◌, nat_lt, Bool, true, false, not, cond, ℕ, ◌+◌, ◌<◌, ◌≤◌, List, [], ◌∷◌, ◌++◌, length, Option, Some, None, refl, sym, ap, subst, ◌∙◌, arith}
 use Rattle.std.proofs.lemmas.List.{length-append}
 use Rattle.std.proofs.lemmas.List.Elements.{filter-append}
@@ -14,7 +14,7 @@ use Rattle.mmtel_reliable.specs.Histories.{Relayed, Acknowledged, Left}
 use Rattle.mmtel_reliable.specs.declared.racks.Rack.{Rack}
 use Rattle.mmtel_reliable.specs.declared.acks.Answer.{Answer}
 
--- ---- answers below and above a number
+-- ---- responses below and above a number
 
 abbrev pub AllBelow : ℕ → List Answer → Type 0
 AllBelow n = AllByRecursion (λ answer. answer.own < n)
@@ -60,7 +60,7 @@ rise_end [] last rise below = (tt, tt)
 rise_end (answer ∷ answers) last rise below =
     (all_end (λ (other : Answer). answer.own < other.own) answers last rise.0 below.0, rise_end answers last rise.1 below.1)
 
--- ---- answers that were acknowledged are left out
+-- ---- responses that were acknowledged are removed
 
 abbrev left_out : (Answer → Bool) → List Answer → List Answer
 left_out test = filter (λ answer. not (test answer))
@@ -103,10 +103,10 @@ first_left_out first rest all =
     let itself : (first.own == first.own) ≡ true = grind (arith, nat_tests) in
     rw itself (kept_above first.own rest all)
 
--- ---- what is kept from event to event
+-- ---- what each event preserves
 
 pub record IsKept (events : List Event) : Type 0 where
-  -- own numbers that were given are at most so many
+  -- own numbers that were used are at most that many
   pub attempt_below : AllBelow (length (relayed events) + 1) (of_attempt events)
   pub others_below : AllBelow (length (relayed events) + 1) (acknowledged events)
   -- what is not acknowledged has higher ones than what is
@@ -169,7 +169,7 @@ module _ (events : List Event) (answer : Answer) (rest : List Answer) (kept : Is
     above = rw unacknowledged_acknowledged (both_below rest rises.0 aboves.1);
   }
 
--- ---- one deed
+-- ---- one operation
 
 -- the own number is the next one
 pub given_next : (rseq own : ℕ) (acks : AcksView) → own_number rseq acks ≡ Some own → own ≡ acks.given + 1
@@ -182,13 +182,13 @@ given_after rseq own acks e =
     let fits = and_true (comes_next rseq acks.last_relayed && nat_lt (length acks.waiting) most_waiting) (nat_lt acks.given greatest_number) tests.0 in
     (and_true (comes_next rseq acks.last_relayed) (nat_lt (length acks.waiting) most_waiting) fits.0).0
 
--- what is named is the first
+-- what the PRACK names is the first
 pub named_first : (rack : Rack) (cseq : ℕ) (answers : List Answer) (answer : Answer) → named rack cseq answers ≡ Some answer → (rest : List Answer) × (answers ≡ answer ∷ rest)
 named_first rack cseq [] answer e = absurd cc
 named_first rack cseq (first ∷ rest) answer e = (rest, ap (λ (x : Answer). x ∷ rest) (guard_some (is_named rack cseq first) first answer e).1)
 
 module _ (P : List Event → Type 0) (cseq : ℕ) where
-  -- what is true of no events, and is kept by what can come of a deed, is true of those of every list of deeds
+  -- what is true of no events, and is preserved by each result of an operation, is true of those of every list of operations
   pub of_deeds : P []
       → ((events : List Event) (answer : Answer) → answer.own ≡ length (relayed events) + 1 → comes_next answer.callee (last_number events) ≡ true → IsKept events → P events → P (Relayed answer ∷ events))
       → ((events : List Event) (answer : Answer) (rest : List Answer) → unacknowledged events ≡ answer ∷ rest → IsKept events → P events → P (Acknowledged answer ∷ events))

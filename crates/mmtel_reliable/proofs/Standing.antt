@@ -1,4 +1,4 @@
--- The answers as they are kept stand for one deed more.
+-- The state of the responses represents the list of operations after one more operation.
 use Rattle.std.proofs.Common.{◌≡◌, ℕ, ◌+◌, List, [], ◌∷◌, ◌++◌, length, drop, Option, Some, None, is_some, if◌then◌else◌, refl, sym, ap, ◌∙◌}
 use Rattle.mmtel_reliable.specs.Acks.{AcksView, after_ack, after_relay, named, next_attempt, no_answers, own_number, with_answer}
 use Rattle.mmtel_reliable.specs.Histories.{Deed, Event, Stands, acknowledging, events_of, last_number, left_by, relayed, relaying, unacknowledged}

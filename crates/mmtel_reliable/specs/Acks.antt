@@ -1,4 +1,4 @@
--- Reliable provisional answers that are relayed from the callees of a call to its caller (RFC 3262 §3, §4): each gets a number of the server's own, and is to be acknowledged.
+-- Reliable provisional responses that are relayed from the callees of a call to its caller (RFC 3262 §3, §4): each gets a number of the server's own, and is to be acknowledged.
 use Rattle.std.specs.Prelude.{◌==◌, ◌&&◌, ◌+◌, Bool, true, nat_lt, if◌then◌else◌, ℕ, List, [], ◌∷◌, ◌++◌, length, drop, Option, Some, None, is_some}
 use Rattle.std.specs.List.{list_any}
 use Rattle.std.specs.Option.{option_map}
@@ -6,18 +6,18 @@ use Rattle.mmtel_reliable.specs.Racks.{greatest_number}
 use Rattle.mmtel_reliable.specs.declared.racks.Rack.{Rack}
 use Rattle.mmtel_reliable.specs.declared.acks.Answer.{Answer}
 
--- the answers to one INVITE of a caller, as far as they were relayed
+-- the responses to one INVITE of a caller, as far as they were relayed
 pub record AcksView : Type 0 where
   -- the CSeq number of that INVITE
   pub cseq : ℕ
-  -- how many own numbers were given, which are 1, 2, 3 and so on
+  -- how many own numbers were used, which are 1, 2, 3 and so on
   pub given : ℕ
-  -- the callee's number of the last answer of this attempt
+  -- the callee's number of the last response of this attempt
   pub last_relayed : Option ℕ
-  -- the answers of this attempt that are not acknowledged, the oldest first
+  -- the responses of this attempt that are not acknowledged, the oldest first
   pub waiting : List Answer
 
--- one of these answers has this own number
+-- one of these responses has this own number
 abbrev pub has_own : ℕ → List Answer → Bool
 has_own own = list_any (λ answer. answer.own == own)
 
@@ -25,18 +25,18 @@ has_own own = list_any (λ answer. answer.own == own)
 abbrev pub no_answers : ℕ → AcksView
 no_answers cseq = record { cseq = cseq; given = 0; last_relayed = None; waiting = [] }
 
--- so many answers wait at most (RFC 3262 leaves it to whoever relays them)
+-- how many responses may wait at most (RFC 3262 leaves it to whoever relays them)
 abbrev pub most_waiting : ℕ
 most_waiting = 16
 
--- ---- an answer of the callee
+-- ---- a response of the callee
 
--- the callee's number is that of its next answer (§4): its first may have any
+-- the callee's number is that of its next response (§4): its first may have any
 abbrev pub comes_next : ℕ → Option ℕ → Bool
 comes_next rseq None = true
 comes_next rseq (Some last) = rseq == last + 1
 
--- the own number of the callee's answer of this number; None where it is not its next one, where too many wait, or where the numbers are at their end
+-- the own number of the callee's response of this number; None where it is not its next one, where too many wait, or where the numbers are exhausted
 abbrev pub own_number : ℕ → AcksView → Option ℕ
 own_number rseq acks =
     if comes_next rseq acks.last_relayed && nat_lt (length acks.waiting) most_waiting && nat_lt acks.given greatest_number then Some (acks.given + 1) else None
@@ -51,16 +51,16 @@ after_relay rseq acks = with_answer rseq (own_number rseq acks) acks
 
 -- ---- a PRACK of the caller
 
--- it acknowledges this answer to the INVITE of this CSeq number (§3)
+-- it acknowledges this response to the INVITE of this CSeq number (§3)
 abbrev pub is_named : Rack → ℕ → Answer → Bool
 is_named rack cseq answer = rack.answer == answer.own && rack.cseq == cseq && rack.invite
 
--- the answer that it acknowledges, which is the one that has waited longest
+-- the response that it acknowledges, which is the one that has waited longest
 abbrev pub named : Rack → ℕ → List Answer → Option Answer
 named rack cseq [] = None
 named rack cseq (first ∷ rest) = if is_named rack cseq first then Some first else None
 
--- the callee's number of that answer
+-- the callee's number of that response
 abbrev pub callee_number : Rack → AcksView → Option ℕ
 callee_number rack acks = option_map (λ answer. answer.callee) (named rack acks.cseq acks.waiting)
 
@@ -69,6 +69,6 @@ after_ack rack acks = if is_some (named rack acks.cseq acks.waiting) then record
 
 -- ---- the next attempt of the call
 
--- nothing waits, since the answers of an attempt that was left are nobody's; own numbers go on, since the caller has one dialog whoever is asked (§3)
+-- no response waits, since those of an attempt that was left are of no use; own numbers continue, since the caller has one dialog whichever callee is called (§3)
 abbrev pub next_attempt : AcksView → AcksView
 next_attempt acks = record acks { last_relayed = None; waiting = [] }

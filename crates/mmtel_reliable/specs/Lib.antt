@@ -1,4 +1,4 @@
--- What public clauses cite, which a user of the crate has to believe.
+-- What the clauses of public functions cite, which a user of the crate has to trust.
 pub mod Racks
 pub mod Acks
 pub mod Histories

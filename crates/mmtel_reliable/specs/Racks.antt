@@ -1,4 +1,4 @@
--- RAck values (RFC 3262 §7.2): the number of an answer, the CSeq number and the method of the request that it answers, each parted from the next by one blank.
+-- RAck values (RFC 3262 §7.2): the RSeq number of a response, the CSeq number and the method of the request to which it responds, each separated from the next by one blank.
 use Rattle.std.specs.Prelude.{◌≡◌, ◌≤◌, ◌==◌, ◌&&◌, Bool, not, if◌then◌else◌, ℕ, List, ◌∷◌, ◌++◌, length, Option, Some, None, codes}
 use Rattle.std.specs.List.{list_all}
 use Rattle.std.specs.Str.{bytes_eq}
@@ -9,11 +9,11 @@ use Rattle.mmtel_scan.specs.Scanning.{parted}
 use Rattle.mmtel_scan.specs.declared.classes.Class.TheVariants.{Token}
 use Rattle.mmtel_reliable.specs.declared.racks.Rack.{Rack}
 
--- the greatest number of an answer and of a CSeq (RFC 3262 §7.1, RFC 3261 §8.1.1.5): 2^31 - 1
+-- the greatest number of an RSeq and of a CSeq (RFC 3262 §7.1, RFC 3261 §8.1.1.5): 2^31 - 1
 abbrev pub greatest_number : ℕ
 greatest_number = 2147483647
 
--- methods are told apart byte for byte (RFC 3261 §7.1)
+-- methods are compared byte for byte (RFC 3261 §7.1)
 abbrev pub is_invite : List ℕ → Bool
 is_invite method = bytes_eq method (codes "INVITE")
 

@@ -1,4 +1,4 @@
-//! The reliable answers that are relayed to a caller, and their acknowledgement (RFC 3262 §3, §4).
+//! The reliable provisional responses that are relayed to a caller, and their acknowledgement (RFC 3262 §3, §4).
 ghost use Rattle.std.specs.Prelude.{◌≡◌, [], ◌∷◌, IfOk, List};
 ghost use Rattle.mmtel_reliable.specs.Acks.{after_ack, after_relay, callee_number, comes_next, has_own, is_named, next_attempt, no_answers, own_number};
 ghost use Rattle.mmtel_reliable.specs.Histories.{Acknowledges, Deed, Leaves, Relays, Stands};
@@ -9,21 +9,21 @@ use std::alloc::Global;
 use std::collections::VecDeque;
 use std::marker::Model;
 
-/// How many answers may wait for their PRACK at once.
+/// How many responses may wait for their PRACK at once.
 const MOST_WAITING: usize = 16;
 
-/// A reliable answer that was relayed.
+/// A reliable provisional response that was relayed.
 #[derive(Clone, Copy, Debug, PartialEq, Eq)]
 pub struct Answer {
-    /// The server's own number, which its RSeq line says to the caller.
+    /// The server's own number, which the RSeq line sent to the caller has.
     pub own: u32,
-    /// The callee's number, as its RSeq line said it to the server.
+    /// The callee's number, which the RSeq line received from the callee had.
     pub callee: u32,
 }
 
-/// The reliable answers to the INVITE of a caller that were relayed, over all attempts of the call.
+/// The reliable provisional responses to the INVITE of a caller that were relayed, over all attempts of the call.
 ///
-/// The caller has one dialog with the server, whoever is asked: the numbers that it sees are 1, 2, 3 and so on, and those of an attempt are the callee's own.
+/// The caller has one dialog with the server, whichever callee is called: the numbers that it sees are 1, 2, 3 and so on, and those of an attempt are the callee's own.
 #[derive(Drop)]
 pub struct Acks {
     cseq: u32,
@@ -46,11 +46,11 @@ impl Model for Acks {
 }
 
 impl Acks {
-    /// No answer was relayed to the INVITE of this CSeq number. It takes room for 16 answers, so that no other call takes memory.
+    /// A value in which no response was relayed to the INVITE of this CSeq number. It allocates capacity for 16 responses, so that no other function allocates.
     ///
     /// # Errors
     ///
-    /// Want of memory alone.
+    /// Out of memory only.
     pub fn new(alloc: Global, cseq: u32) -> Result<Acks, NoMemory>
         ensures none { IfOk result (λ acks. acks ≡ no_answers cseq) }
         ensures stands { IfOk result (λ acks. Stands acks []) }
@@ -64,9 +64,9 @@ impl Acks {
         })
     }
 
-    /// Relays an answer of the callee that has this number, and gives its own number towards the caller.
+    /// Relays a response of the callee that has this number, and returns its own number towards the caller.
     ///
-    /// It is None exactly where the number is not one more than that of the last answer of this attempt that was relayed (the first may have any), where 16 answers wait for
+    /// It is None exactly where the number is not one more than that of the last response of this attempt that was relayed (the first may have any), where 16 responses wait for
     /// their PRACK, or where the own number would pass 2^31 - 1. Nothing has then changed.
     pub fn relay(&mut self, rseq: u32) -> Option<u32>
         ensures number { result ≡ own_number rseq self.old }
@@ -89,9 +89,9 @@ impl Acks {
         Some(own)
     }
 
-    /// Takes a PRACK of the caller, and gives the callee's number of the answer that it acknowledges.
+    /// Handles a PRACK of the caller, and returns the callee's number of the response that it acknowledges.
     ///
-    /// It is None exactly where it does not name the answer that has waited longest, or the caller's INVITE by its CSeq. Nothing has then changed.
+    /// It is None exactly where the PRACK does not name the response that has waited longest, or the caller's INVITE by its CSeq. Nothing has then changed.
     pub fn acked(&mut self, rack: &Rack) -> Option<u32>
         ensures number { result ≡ callee_number rack.now self.old }
         ensures after { self.new ≡ after_ack rack.now self.old }
@@ -107,7 +107,7 @@ impl Acks {
         }
     }
 
-    /// Leaves the attempt: none of its answers is waited for any more, and the next callee counts from any number. Own numbers go on.
+    /// Leaves the attempt: none of its responses waits any longer, and the next callee may begin with any number. Own numbers continue.
     pub fn next_attempt(&mut self)
         ensures after { self.new ≡ next_attempt self.old }
         ensures stands { (deeds : List Deed) → Stands self.old deeds → Stands self.new (Leaves ∷ deeds) }
@@ -116,7 +116,7 @@ impl Acks {
         self.last_relayed = None;
     }
 
-    /// Whether the answer of this own number, as a deadline has it, waits for its PRACK: it is of the attempt that is under way, and was not acknowledged.
+    /// Whether the response of this own number, as a deadline has it, waits for its PRACK: it belongs to the current attempt, and was not acknowledged.
     pub fn is_waiting(&self, own: u64) -> bool
         ensures test { result ≡ has_own own self.now.waiting }
     {
@@ -126,7 +126,7 @@ impl Acks {
     }
 }
 
-/// Whether the callee's number is that of its next answer.
+/// Whether the callee's number is that of its next response.
 fn comes_next(rseq: u32, last: Option<u32>) -> bool
     ensures { result ≡ comes_next rseq last }
 {
@@ -136,7 +136,7 @@ fn comes_next(rseq: u32, last: Option<u32>) -> bool
     }
 }
 
-/// Whether a PRACK acknowledges this answer to the INVITE of this CSeq number.
+/// Whether a PRACK acknowledges this response to the INVITE of this CSeq number.
 fn is_named(rack: &Rack, cseq: u32, answer: Answer) -> bool
     ensures { result ≡ is_named rack.now cseq answer }
 {

@@ -1,17 +1,17 @@
-//! Laws of the definitions that contracts cite: each is the contract of a function that does nothing.
+//! Theorems about the definitions that contracts cite, each as the contract of a function that does nothing.
 ghost use Rattle.std.specs.Prelude.{◌≡◌, ℕ, List, length};
 ghost use Rattle.std.specs.List.Sorted.{IsStrictlyIncreasing};
 ghost use Rattle.mmtel_reliable.specs.Histories.{acknowledged, AreAwaited, counted, Deed, events_of, Follow, own_numbers, relayed};
 
-/// Whatever was done, the own numbers that were given are 1, 2, 3 and so on, and the callee's numbers of each attempt follow one another.
+/// After any list of operations, the own numbers that were used are 1, 2, 3 and so on, and the callee's numbers of each attempt are consecutive.
 pub fn own_numbers_count_up()
     ensures counted { (cseq : ℕ) (deeds : List Deed) →
         let answers = relayed (events_of cseq deeds) in own_numbers answers ≡ counted (length answers) }
     ensures followed { (cseq : ℕ) (deeds : List Deed) → Follow (events_of cseq deeds) }
 {}
 
-/// Whatever was done, each answer was acknowledged once at most, in the order of own numbers, and none but the oldest of the attempt that was under way which was not yet, so
-/// none of an attempt that was left; it was acknowledged to the callee by the number that this had said.
+/// After any list of operations, each response was acknowledged once at most, in the order of own numbers, and was then the oldest of the current attempt that was not yet
+/// acknowledged, so none of an attempt that was left; it was acknowledged to the callee by the number that the callee had given it.
 pub fn answers_are_acknowledged_in_order()
     ensures once { (cseq : ℕ) (deeds : List Deed) → IsStrictlyIncreasing (own_numbers (acknowledged (events_of cseq deeds))) }
     ensures awaited { (cseq : ℕ) (deeds : List Deed) → AreAwaited (events_of cseq deeds) }

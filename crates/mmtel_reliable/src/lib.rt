@@ -1,4 +1,4 @@
-//! Reliable provisional answers (RFC 3262): what a PRACK says that it acknowledges, and which of the answers that were relayed to the caller it may name.
+//! Reliable provisional responses (RFC 3262): which response a PRACK acknowledges, and which of the responses that were relayed to the caller it may name.
 #![tactic(auto)]
 
 mod acks;

@@ -8,25 +8,25 @@ ghost use Rattle.mmtel_reliable.specs.declared.racks.Rack.{Rack as RackValue};
 use mmtel_lex::LexFault;
 use mmtel_scan::{Class, is_all, number_up_to, part};
 
-/// The greatest number of a response or of a CSeq: both are below 2^31 (RFC 3262 §7.1, RFC 3261 §8.1.1.5).
+/// The greatest number of an RSeq or of a CSeq: both are below 2^31 (RFC 3262 §7.1, RFC 3261 §8.1.1.5).
 pub(crate) const GREATEST_NUMBER: u32 = 2_147_483_647;
 
-/// The value of a RAck line: which answer a PRACK acknowledges, and of which request.
+/// The value of a RAck line: which response a PRACK acknowledges, and to which request.
 #[derive(Clone, Copy, Debug, PartialEq, Eq)]
 pub struct Rack {
-    /// The number of the answer, as its RSeq line said; below 2^31.
+    /// The number of the response, as its RSeq line had it; below 2^31.
     pub answer: u32,
-    /// The CSeq number of the request that was answered; below 2^31.
+    /// The CSeq number of the request to which it responds; below 2^31.
     pub cseq: u32,
     /// Whether that request is an INVITE.
     pub invite: bool,
 }
 
-/// Reads a RAck value: two numbers below 2^31, which may begin with zeros, and a method, each parted from the next by one blank (RFC 3262 §7.2).
+/// Reads a RAck value: two numbers below 2^31, which may begin with zeros, and a method, each separated from the next by one blank (RFC 3262 §7.2).
 ///
 /// # Errors
 ///
-/// `Malformed` exactly where the bytes are no such value. It takes no memory.
+/// `Malformed` exactly where the bytes are no such value. It allocates nothing.
 pub fn read_rack(bytes: &[u8]) -> Result<Rack, LexFault>
     ensures exact { result ≡ ok_or (rack_of bytes.now) Malformed }
     // What is read is what the bytes spell, and what they spell is read.

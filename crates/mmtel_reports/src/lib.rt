@@ -1,4 +1,4 @@
-//! What a run of the program is due to write, and how it writes it and ends.
+//! The report of a run of the program, and how it is written and ends the program.
 #![tactic(auto)]
 
 mod reports;

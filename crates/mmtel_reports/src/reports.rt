@@ -1,4 +1,4 @@
-//! What a run is due to write, and how it writes it.
+//! The report of a run, and how it is written.
 ghost use Rattle.std.specs.Prelude.{◌≡◌, OnOk, OnErr, decimal};
 ghost use Rattle.std.specs.Io.KnownBytes.{Appends};
 ghost use Rattle.mmtel_outside.specs.Counts.{HasCause};
@@ -10,28 +10,28 @@ use mmtel_outside::{Sink, write_all};
 use mmtel_scan::Text;
 use mmtel_types::Failed;
 
-/// What a run is due to write, each with its status.
+/// The report of a run, each with its status.
 #[derive(Drop)]
 pub enum Report {
     /// `usage`, status 1: the words are not of the grammar.
     Usage,
     /// `line N`, status 2: that line is the first that breaks the grammar of its file.
     Line(u64),
-    /// `link`, status 4: the link could not be bound, or not take in what comes next.
+    /// `link`, status 4: the link could not be bound, or could not receive the next event.
     Link,
     /// `file`, status 5: a file could not be read.
     File,
-    /// `keeper`, status 6: the keeper could not be bound, or not be loaded or not give its rows.
+    /// `keeper`, status 6: the keeper could not be bound, or not be loaded or not return its rows.
     Keeper,
     /// `memory`, status 8: memory ran out.
     Memory,
-    /// The listing of what was offered, the charging rows that the keeper holds or the numbers of a workload, status 0; 7 where it is not written whole.
+    /// The listing of the outputs, the charging rows that the keeper holds or the numbers of a workload, status 0; 7 where it is not written whole.
     Listing(Text),
     /// `ok`, status 0, and 7 where it is not written whole: the file is a service record.
     Sound,
-    /// Nothing, status 0: the turns were made, or the link is closed.
+    /// Nothing, status 0: the turns of `serve` are used up, or the link is closed.
     Served,
-    /// The line that tells its first fault, status 3: the file is no service record.
+    /// The line with its first fault, status 3: the file is no service record.
     Unsound(Text),
 }
 
@@ -56,7 +56,7 @@ fn write_line<S: Sink>(out: &mut S, line: u64) -> Result<(), Failed>
     write_all(out, b"\n")
 }
 
-/// Writes a text, and answers its status, which stays where the writing fails.
+/// Writes a text, and returns its status, which is the same where the writing fails.
 fn say<S: Sink>(out: &mut S, text: &[u8], status: u8) -> u8
     ensures wrote { Wrote text.now (written_by S.Sink result out.old out.new) }
     ensures status { result ≡ status }
@@ -74,7 +74,7 @@ fn say_line<S: Sink>(out: &mut S, line: u64, status: u8) -> u8
     status
 }
 
-/// Writes the text of a command that is done, and answers the status.
+/// Writes the text of a command that is done, and returns the status.
 fn write_whole<S: Sink>(out: &mut S, text: &[u8]) -> u8
     ensures wrote { WroteListing text.now (written_by S.Sink result out.old out.new) }
 {
@@ -84,7 +84,7 @@ fn write_whole<S: Sink>(out: &mut S, text: &[u8]) -> u8
     }
 }
 
-/// Writes what is due, and answers the status. It takes no memory.
+/// Writes the report, and returns the status. It allocates nothing.
 pub fn write_report<S: Sink>(due: &Report, out: &mut S) -> u8
     ensures ends { Ends due.now (written_by S.Sink result out.old out.new) }
 {
@@ -102,7 +102,7 @@ pub fn write_report<S: Sink>(due: &Report, out: &mut S) -> u8
     }
 }
 
-/// Says that memory ran out before the words could be kept, and answers the status of that.
+/// Reports that memory ran out before the words could be stored, and returns the status of that.
 pub fn out_of_memory<S: Sink>(out: &mut S) -> u8
     ensures ends { Ends Report.Memory (written_by S.Sink result out.old out.new) }
 {

@@ -1,4 +1,4 @@
-//! The order in which the deadlines of calls and of seats fire.
+//! The order in which the deadlines of calls and of participants fire.
 ghost use Rattle.std.specs.Prelude.{◌≡◌, ◌<◌};
 
 use crate::asserting::assert_right;
@@ -11,7 +11,7 @@ use std::alloc::Global;
 use std::marker::Brand;
 use std::sync::ledger::{Blank, Ledger};
 
-/// What is due of a call.
+/// A deadline of a call.
 fn of_call(what: DueWord) -> Alarm {
     Alarm::OfCall {
         call: CallNo(1),
@@ -19,7 +19,7 @@ fn of_call(what: DueWord) -> Alarm {
     }
 }
 
-/// What is due of a seat.
+/// A deadline of a participant.
 fn of_seat(what: RoomWord) -> Alarm {
     Alarm::OfSeat {
         room: RoomNo(1),
@@ -28,7 +28,7 @@ fn of_seat(what: RoomWord) -> Alarm {
     }
 }
 
-/// Arms a deadline in a step, for a moment.
+/// Arms a timer in a step, for a moment.
 fn arm<L: Ledger>(
     told: &mut Told,
     alarms: &mut Alarms,
@@ -63,7 +63,7 @@ fn word_of(alarm: Alarm) -> &'static [u8] {
     }
 }
 
-/// Takes out the deadlines that are due and tells each, with its moment and step.
+/// Removes the deadlines that are due and writes each, with its moment and step.
 fn tell_due<L: Ledger>(told: &mut Told, alarms: &mut Alarms, steps: &mut Steps<L>, now: u64) {
     for _ in 0..20 {
         if let Some(armed) = alarms.take(now, steps) {
@@ -75,7 +75,7 @@ fn tell_due<L: Ledger>(told: &mut Told, alarms: &mut Alarms, steps: &mut Steps<L
     }
 }
 
-/// By moment, then by the step that armed them, and of one step by what they are, in whatever order they were armed. The last is not due.
+/// By moment, then by the step that armed them, and of one step by their kind, in whatever order they were armed. The last is not due.
 const FIRED: &[u8] = b"session expired 100 3
 no reply 200 1
 no PRACK 200 1
@@ -87,7 +87,7 @@ no ACK of a seat 200 2
 no reply 200 3
 ";
 
-/// The number of the first line that is not told again; 0 where each is. Its looks are counted from nothing.
+/// The number of the first line that differs from the actual one; 0 where none does. Its comparisons are counted from zero.
 fn wrong_counted<L: Ledger>(alloc: Global, blank: Blank) -> usize
     requires name { blank.name ≡ L.name }
     requires parts { blank.parts ≡ L.parts }

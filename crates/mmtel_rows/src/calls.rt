@@ -1,11 +1,11 @@
-//! Calls of two parties (RFC 3261): what each is offered, and when.
+//! Calls of two parties (RFC 3261): what is sent to each, and when.
 //!
-//! Each is a script and the listing that is due, in the form of `cases`. Records stand as comments before the bytes in which they are put.
+//! Each is a script and its expected listing, in the form of `cases`. Records are comments before the bytes in which they are uploaded.
 
 use crate::asserting::assert_right;
 use crate::cases::wrong_run;
 
-/// The runs; the first is cut short in `faults`.
+/// The runs; the first is truncated in `faults`.
 const CALLS: &[u8] =
     br#"~ Bob rings and is busy; the INVITE comes again before each answer, behind the last, just before Timer I ends its transaction, and when it has ended.
 at 0 peer 1|INVITE sip:bob@home.example SIP/2.0|Via: SIP/2.0/UDP 127.0.0.1:5071;branch=z9hG4bKc1|Max-Forwards: 68|From: "Alice" <sip:alice@home.example>;tag=t1
@@ -367,7 +367,7 @@ at 0 to 1|SIP/2.0 400 Bad Request|Via: SIP/2.0/UDP 127.0.0.1:5071;branch=z9hG4bK
 |To: <sip:bob@far.example>;tag=0123456789abcdef-1|Call-ID: c1|CSeq: 7 INVITE|Content-Length: 0|
 "#;
 
-/// The table, which other tests ask of too.
+/// The table, which other tests use too.
 pub fn call_runs() -> &'static [u8] {
     CALLS
 }

@@ -1,9 +1,9 @@
-//! Tables of runs, a text each: a script and the listing that is due, and then the next script.
+//! Tables of runs, a text each: a script and its expected listing, and then the next script.
 //!
-//! A line that begins with `~` says in words what follows it, up to the next such line. Lines that begin with `|` may stand one behind the other, and `\` at the end of a
+//! A line that begins with `~` is a heading for what follows it, up to the next such line. Lines that begin with `|` may follow one another on one line, and `\` at the end of a
 //! line joins it with the next. A script may begin with
-//! settings, as `settings` says; `=status:` is the status that is due in the place of 0, and with `=cut` the listing ends without its last line end. Of a script that begins
-//! with `=server` no program is run but a server, as `serving` says. Where the tests are proved a further run costs its bytes alone.
+//! settings, as `settings` says; `=status:` is the expected status in place of 0, and with `=cut` the listing ends without its last line end. For a script that begins with
+//! `=server` no program is run but a server, as `serving` says. Where the tests are proved a further run costs its bytes alone.
 
 use crate::pages::{Page, add_lines, are_alike};
 use crate::runs::tell;
@@ -13,20 +13,20 @@ use mmtel_scan::part;
 use mmtel_told::cut;
 use std::alloc::Global;
 
-/// What follows a line that begins with `~`, up to the next such line, and what stands behind that one's `~`; None where there is no line.
+/// What follows a line that begins with `~`, up to the next such line, and what follows that one's `~`; None where there is no line.
 pub fn piece(text: &[u8]) -> Option<(&[u8], &[u8])> {
     let (_, text) = part(b'\n', text)?;
     Some(cut(b'~', text))
 }
 
-/// Two pieces, and what stands behind them.
+/// Two pieces, and what follows them.
 pub fn two(text: &[u8]) -> Option<(&[u8], &[u8], &[u8])> {
     let (first, text) = piece(text)?;
     let (second, text) = piece(text)?;
     Some((first, second, text))
 }
 
-/// Tells what comes of a script.
+/// Writes the result of a script.
 fn tell_script(page: &mut Page, script: &[u8]) {
     if setting(script, b"server").is_some() {
         tell_served(page, script);
@@ -35,7 +35,7 @@ fn tell_script(page: &mut Page, script: &[u8]) {
     }
 }
 
-/// Whether the run of a script answers the status that is due and writes this.
+/// Whether the run of a script returns the expected status and writes this.
 pub fn writes(alloc: Global, script: &[u8], listing: &[u8]) -> bool {
     let mut due = Page::new(alloc);
     due.add(setting(script, b"status:").unwrap_or(b"0"));
@@ -67,7 +67,7 @@ pub fn is_right(alloc: Global, script: &[u8], listing: &[u8]) -> bool {
     right
 }
 
-/// The number of the first run of the table that answers or writes something else than is due, from 1; 0 where there is none, of a hundred at most.
+/// The number of the first run of the table that returns or writes something else than expected, from 1; 0 where there is none, of a hundred at most.
 pub fn wrong_run(alloc: Global, table: &[u8]) -> usize {
     let mut rest = table;
     for number in 0..100 {

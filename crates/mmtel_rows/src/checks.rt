@@ -1,4 +1,4 @@
-//! Files that are checked: whether each is a service record, and else its first fault; and files that are not there or cannot be read, and sinks that fail.
+//! Files that are checked: whether each is a service record, and else its first fault; and files that do not exist or cannot be read, and sinks that fail.
 
 use crate::asserting::assert_right;
 use crate::cases::wrong_run;

@@ -1,4 +1,4 @@
-//! What is done with requests.
+//! The decisions on requests.
 
 use crate::asserting::assert_right;
 use crate::pages::{Page, next_line, wrong_line};
@@ -9,11 +9,11 @@ use mmtel_told::cut;
 use mmtel_types::{CallNo, RoomNo, Side, SubNo};
 use std::alloc::Global;
 
-/// A row is a request: `m` where it is merged, `f` where as many calls live as may and `u` where its peer is not trusted; `t` where To has a tag of no dialog, `d` and `e`
-/// where it names that of the caller and of the callee of call 3, `s` that of seat 2 of room 5, `b` that of subscription 7, `x` where it names no account, and `o` where it
-/// offers audio; its method
-/// and Request-URI, and further lines, each ended by `|`. Below it stands what is done with it. A line of `=` switches extensions on or off for the rows below it: `r` reliable
-/// answers, `t` session timers and `m` waiting messages; none is on before.
+/// A row is a request: `m` where it is merged, `f` where the maximum number of calls live and `u` where its peer is not trusted; `t` where To has a tag of no dialog, `d` and `e`
+/// where it names that of the caller and of the callee of call 3, `s` that of participant 2 of conference 5, `b` that of subscription 7, `x` where it names no account, and `o`
+/// where it offers audio; its method
+/// and Request-URI, and further header fields, each ended by `|`. Below it is what is done with it. A line of `=` switches extensions on or off for the rows below it: `r` reliable
+/// provisional responses, `t` session timers and `m` message waiting; none is on before.
 const TABLE: &[u8] = br#"> -- INFO sip:bob@home.example
 405 Allow: INVITE, ACK, CANCEL, BYE, OPTIONS, REGISTER, REFER
 > -- INFO sips:bob@home.example
@@ -334,7 +334,7 @@ fn tell_course(page: &mut Page, course: &Course) {
     page.add(b"\n");
 }
 
-/// What is known of the request of a row beside its message.
+/// The context of the request of a row, in addition to its message.
 fn standing(whence: u8, to: u8) -> Standing {
     let named = match to {
         b'd' => Some(Holder::InCall {
@@ -359,7 +359,7 @@ fn standing(whence: u8, to: u8) -> Standing {
     }
 }
 
-/// Tells what is done with the request of a row.
+/// Writes what is done with the request of a row.
 fn tell_row(page: &mut Page, directory: &Directory, whence: u8, to: u8, row: &[u8]) {
     let (start, further) = cut(b'|', row);
     let mut text = Page::new(page.alloc);
@@ -434,7 +434,7 @@ fn wrong_course(alloc: Global, table: &[u8]) -> usize {
     wrong_line(page, table)
 }
 
-/// Each refusal and the order between them, each method, what enters a dialog, and which INVITEs open a call.
+/// Each refusal and the order between them, each method, which requests enter a dialog, and which INVITEs open a call.
 #[test]
 fn decides(rt: HostRuntime) {
     assert_right(&rt, "TABLE", wrong_course(rt.alloc(), TABLE));

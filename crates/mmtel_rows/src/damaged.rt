@@ -1,6 +1,6 @@
-//! Damaged input, and rows that no call of a keeper takes: datagrams of which a byte is 0, wherever it stands, and how many rows wait in a server whose keeper fails.
+//! Damaged input, and rows that no call of a keeper stores: datagrams of which a byte is 0, at each position, and how many rows wait in a server whose keeper fails.
 //!
-//! The other rows of damaged input and of failing devices stand in `calls`, `faults`, `failing`, `uploads`, `served` and `serves`; the page of this crate lists them.
+//! The other rows of damaged input and of failing devices are in `calls`, `faults`, `failing`, `uploads`, `served` and `serves`; the page of this crate lists them.
 
 use crate::asserting::assert_right;
 use crate::cases::{writes, wrong_run};
@@ -8,7 +8,7 @@ use crate::faults::erins_invite;
 use crate::pages::{Page, is_well};
 use std::alloc::Global;
 
-/// Adds the datagram with 0 in the place of the byte whose digits begin here, at the moment of that place.
+/// Adds the datagram with 0 in place of the byte whose digits begin here, at the moment of that position.
 fn add_zeroed(script: &mut Page, datagram: &[u8], place: usize) {
     script.add(b"at ");
     script.add_number(place as u64 / 2);
@@ -25,7 +25,7 @@ fn add_zeroed(script: &mut Page, datagram: &[u8], place: usize) {
     script.add(b"\n");
 }
 
-/// A script of one datagram for each of these bytes, which is 0 in it.
+/// A script with one datagram for each of these bytes, in which it is 0.
 fn zeroed(script: &mut Page, datagram: &[u8]) {
     for place in 0..datagram.len() {
         if place % 2 == 0 {
@@ -34,10 +34,10 @@ fn zeroed(script: &mut Page, datagram: &[u8]) {
     }
 }
 
-/// Which refusal, from 1, is due where the byte of this place is 0; None where nothing is, since what names the request cannot be read, nor answered.
+/// Which refusal, from 1, is expected where the byte at this position is 0; None where none is, since what identifies the request cannot be read, nor answered.
 ///
-/// A header line with a byte 0 is none of the grammar (RFC 3261 section 25.1). The Request-URI stands at 7, Max-Forwards at 86, and Contact, P-Asserted-Identity, Privacy
-/// and Content-Length from 205 to 317: each is 400 (section 21.4.1). Method and version, Via, From, To, Call-ID and CSeq, their line ends, and the end of the head name the
+/// A header field with a byte 0 is none of the grammar (RFC 3261 section 25.1). The Request-URI is at 7, Max-Forwards at 86, and Contact, P-Asserted-Identity, Privacy and
+/// Content-Length from 205 to 317: each is 400 (section 21.4.1). Method and version, Via, From, To, Call-ID and CSeq, their line ends, and the end of the head identify the
 /// request.
 fn refusal(place: u64) -> Option<u64> {
     if place >= 7 && place < 26 {
@@ -81,7 +81,7 @@ fn are_zeroed_refused(alloc: Global) -> bool {
     is_well(due) && well && right
 }
 
-/// A datagram with a byte 0 is answered by 400 alone, or by nothing, by the line that it stands in.
+/// A datagram with a byte 0 is answered by 400 alone, or by nothing, by the header field that has it.
 #[test]
 fn zeroed_datagrams(rt: HostRuntime) {
     assert!(rt; are_zeroed_refused(rt.alloc()));
@@ -117,7 +117,7 @@ at 400 to 1|BYE sip:bob1@127.0.0.1:5071 SIP/2.0|Via: SIP/2.0/UDP 127.0.0.1:5060;
 rows 2
 "#;
 
-/// Rows that the keeper does not take wait in the server.
+/// Rows that the keeper does not store wait in the server.
 #[test]
 fn waiting_rows(rt: HostRuntime) {
     assert_right(&rt, "WAITING", wrong_run(rt.alloc(), WAITING));

@@ -1,4 +1,4 @@
-//! What is read of events.
+//! The parsed values of events.
 
 use crate::asserting::assert_right;
 use crate::pages::{Page, wrong_line};
@@ -87,7 +87,7 @@ fn tell_told(page: &mut Page, told: &Told) {
     }
 }
 
-/// Tells the moment of an event, and what is read of a datagram.
+/// Writes the moment of an event, and the parsed values of a datagram.
 fn tell(page: &mut Page, directory: &Directory, word: &[u8], event: &Event) {
     page.add(word);
     page.add(b" ");
@@ -102,7 +102,7 @@ fn tell(page: &mut Page, directory: &Directory, word: &[u8], event: &Event) {
     }
 }
 
-/// Tells what is read of a datagram from this port.
+/// Writes the parsed values of a datagram from this port.
 fn tell_datagram(
     page: &mut Page,
     directory: &Directory,
@@ -125,7 +125,7 @@ fn tell_datagram(
     }
 }
 
-/// The bytes of a request, with this line so many times.
+/// The bytes of a request, with this header field so many times.
 fn request(page: &Page, start: &[u8], line: &[u8], times: usize) -> Page {
     let mut lines = Page::new(page.alloc);
     for _ in 0..times {
@@ -137,7 +137,7 @@ fn request(page: &Page, start: &[u8], line: &[u8], times: usize) -> Page {
     text
 }
 
-/// The same bytes with another branch, which is no branch of RFC 3261.
+/// A request with another branch, without the magic cookie of RFC 3261.
 fn misspelled(page: &Page, start: &[u8]) -> Page {
     let mut text = Page::new(page.alloc);
     text.add(start);
@@ -222,7 +222,7 @@ fn wrong_reading(alloc: Global) -> usize {
     wrong_line(page, WANTED)
 }
 
-/// A message of a trusted peer and of another one, a datagram of nobody, each fault of reading, and the moments of all events.
+/// A message of a trusted peer and of another one, a datagram of an unknown address, each parse fault, and the moments of all events.
 #[test]
 fn reads(rt: HostRuntime) {
     assert_right(&rt, "reading", wrong_reading(rt.alloc()));

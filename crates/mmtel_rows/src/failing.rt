@@ -1,8 +1,7 @@
 //! Files, links, keepers and sinks that fail, at each of their first calls, under each command.
 //!
-//! A table is one text: a script with its settings, what comes of it, and rows; and then the next script. A row says further settings, which count before those of the
-//! script; the status that is due; and what comes of it then: lines, in which `+N` stands for the first N lines of what comes of the script by itself. Settings and lines are
-//! each ended by `;`.
+//! A table is one text: a script with its settings, its result, and rows; and then the next script. A row has further settings, which count before those of the script; the
+//! expected status; and its result then: lines, in which `+N` represents the first N lines of the script's own result. Settings and lines are each ended by `;`.
 
 use crate::asserting::assert_right;
 use crate::calls::call_runs;
@@ -12,8 +11,9 @@ use mmtel_scan::{part, plain_number, skip_text};
 use mmtel_told::cut;
 use std::alloc::Global;
 
-/// The keeper is bound by its first call; it is migrated by its second, and loaded by its third, or asked for its rows by its second. The link is bound by its first call; each event takes one call, reading a web
-/// connection one more, and each datagram or reply that it is given one. What comes first decides: the words, the configuration, the script, the keeper, the link, the sink.
+/// The keeper is bound by its first call; it is migrated by its second, and loaded by its third, or asked for its rows by its second. The link is bound by its first call; each
+/// event takes one call, reading a web connection one more, and each datagram or reply that is passed to it one. What comes first decides: the words, the configuration, the
+/// script, the keeper, the link, the sink.
 const FAILING: &[u8] =
     br#"~ serve: Erin calls bob, the operator reads the charges, and the INVITE is sent again, since nobody answered. The link's calls 2, 5, 8 and 10 take in.
 =words:serve|server.cfg|--token|0123456789abcdef|--turns|9
@@ -227,8 +227,8 @@ terminating,2,1,0,200,400,0,ended,0
 =words:workload|--calls|4|--salt|1;/0/+1;
 "#;
 
-/// Bob rings and is busy, and the INVITE comes again before and behind each answer: the link's calls that take in, each of which fails in its turn, and how many of these lines
-/// it was given before.
+/// Bob rings and is busy, and the INVITE is retransmitted before and after each response: the link's calls for input, each of which fails in its turn, and how many of these lines
+/// were sent before.
 const BUSY: &[u8] = b"5071 SIP/2.0 100 Trying
 5071 INVITE sip:bob@home.example SIP/2.0
 5071 SIP/2.0 180 Ringing
@@ -255,7 +255,7 @@ const BUSY_ROWS: &[u8] = b"/0/+9;
 =link:20;/0/+9;
 ";
 
-/// Adds the first so many lines.
+/// Adds the first lines, of this number.
 fn add_front(page: &mut Page, lines: &[u8], digits: &[u8]) {
     let mut rest = lines;
     for _ in 0..plain_number(99, digits).unwrap_or(0) {
@@ -269,7 +269,7 @@ fn add_front(page: &mut Page, lines: &[u8], digits: &[u8]) {
     }
 }
 
-/// Adds what is due by a row, where this comes of the script by itself.
+/// Adds the expected result of a row, where this is the script's own result.
 fn add_due(page: &mut Page, whole: &[u8], due: &[u8]) {
     let mut rest = due;
     for _ in 0..12 {
@@ -289,7 +289,7 @@ fn add_due(page: &mut Page, whole: &[u8], due: &[u8]) {
     }
 }
 
-/// Whether the script with the settings of a row comes to what the row says.
+/// Whether the script with the settings of a row has the result of the row.
 fn is_right(alloc: Global, script: &[u8], whole: &[u8], row: &[u8]) -> bool {
     let (settings, rest) = cut(b'/', row);
     let (status, due) = cut(b'/', rest);
@@ -306,7 +306,7 @@ fn is_right(alloc: Global, script: &[u8], whole: &[u8], row: &[u8]) -> bool {
     is_well(lines) && well && right
 }
 
-/// The number of the first row that is not right, from 1; 0 where each is, of a hundred at most.
+/// The number of the first row that is wrong, from 1; 0 where none is, of a hundred at most.
 fn wrong_row(alloc: Global, script: &[u8], whole: &[u8], rows: &[u8]) -> usize {
     let mut rest = rows;
     for number in 0..100 {
@@ -323,7 +323,7 @@ fn wrong_row(alloc: Global, script: &[u8], whole: &[u8], rows: &[u8]) -> usize {
     100
 }
 
-/// The same of rows over what comes of the script by itself, in which each `|` begins a line.
+/// The same of rows over the script's own result, in which each `|` begins a line.
 fn wrong_lines(alloc: Global, script: &[u8], whole: &[u8], rows: &[u8]) -> usize {
     let mut lines = Page::new(alloc);
     add_lines(&mut lines, whole);
@@ -331,7 +331,7 @@ fn wrong_lines(alloc: Global, script: &[u8], whole: &[u8], rows: &[u8]) -> usize
     if is_well(lines) { wrong } else { 100 }
 }
 
-/// The number of the first script of a table of which a row is not right, from 1; 0 where each is right, of twenty at most.
+/// The number of the first script of a table of which a row is wrong, from 1; 0 where there is none, of twenty at most.
 fn wrong_failure(alloc: Global, table: &[u8]) -> usize {
     let mut rest = table;
     for number in 0..20 {
@@ -354,7 +354,7 @@ fn failing_devices(rt: HostRuntime) {
     assert_right(&rt, "FAILING", wrong_failure(rt.alloc(), FAILING));
 }
 
-/// The number of the first row of a call to one who is busy that is not right, where it is served.
+/// The number of the first row of a call to a busy user that is wrong, where it is served.
 fn wrong_busy(alloc: Global) -> usize {
     let (script, _, _) = two(call_runs()).unwrap_or((b"", b"", b""));
     let mut served = Page::new(alloc);
@@ -364,7 +364,7 @@ fn wrong_busy(alloc: Global) -> usize {
     if is_well(served) { wrong } else { 100 }
 }
 
-/// A link of which a `next` fails is status 4, wherever it is, and it was given what was due before.
+/// A link of which a `next` fails is status 4, wherever it is, and what was due before was sent on it.
 #[test]
 fn failing_links(rt: HostRuntime) {
     assert_right(&rt, "busy", wrong_busy(rt.alloc()));

@@ -1,4 +1,4 @@
-//! Calls over keepers and sinks that fail, and datagrams that are cut short.
+//! Calls over keepers and sinks that fail, and datagrams that are truncated.
 
 use crate::asserting::assert_right;
 use crate::calls::call_runs;
@@ -16,12 +16,12 @@ const DATAGRAM: &[u8] =
     0a502d41737365727465642d4964656e746974793a203c7369703a6572696e406f746865722e6578616d706c653e0d0a507269766163793a2069640d0a436f6e74656e742d4c656e6774683a20300d0a\
     0d0a";
 
-/// These bytes, for another module's test too.
+/// These bytes, for a test of another module too.
 pub fn erins_invite() -> &'static [u8] {
     DATAGRAM
 }
 
-/// A script of one datagram for each beginning of these bytes.
+/// A script of one datagram for each proper prefix of these bytes.
 fn beginnings(script: &mut Page) {
     for place in 0..DATAGRAM.len() {
         if place % 2 == 0 {
@@ -39,14 +39,14 @@ fn are_cut_dropped(alloc: Global) -> bool {
     is_well(script) && right
 }
 
-/// Nothing comes of a datagram that is cut short.
+/// A datagram that is truncated has no result.
 #[test]
 fn cut_datagrams(rt: HostRuntime) {
     assert!(rt; are_cut_dropped(rt.alloc()));
 }
 
-/// Rows that the keeper does not take wait for the end of the next event; the status is 0. The keeper is bound, migrated and loaded; then rows are handed to it, which is its fourth
-/// call. The operator's questions are calls of it too, in the last run its sixth and its eighth.
+/// Rows that the keeper does not store wait for the end of the next event; the status is 0. The keeper is bound, migrated and loaded; then rows are handed to it, which is its
+/// fourth call. The operator's requests are calls of it too, in the last run its sixth and its eighth.
 const FAILING: &[u8] =
     br#"~ A call of alice to bob that ends at 400, when the keeper fails for the first time; then the operator reads the charges twice.
 =keeps:4
@@ -151,8 +151,8 @@ fn failing_rows(rt: HostRuntime) {
     assert_right(&rt, "FAILING", wrong_run(rt.alloc(), failing_runs()));
 }
 
-/// What `charges` answers and writes over the keeper that the first run of these left: the numbers of the keeper's calls that fail, the status and the lines. The run makes
-/// six calls of the keeper, or seven where the fourth fails; `charges` binds it and then asks for the rows, of which the keeper has two, also where it took them late.
+/// What `charges` returns and writes over the keeper that the first run of these left: the numbers of the keeper's calls that fail, the status and the lines. The run makes six
+/// calls of the keeper, or seven where the fourth fails; `charges` binds it and then requests the rows, of which the keeper has two, also where it stored them late.
 const CHARGES: &[u8] =
     b"|0|kind,account,call,began,answered,ended,holds,cause,status;origin,1,1,0,200,400,0,ended,0;terminating,2,1,0,200,400,0,ended,0;
 4|0|kind,account,call,began,answered,ended,holds,cause,status;origin,1,1,0,200,400,0,ended,0;terminating,2,1,0,200,400,0,ended,0;
@@ -162,7 +162,7 @@ const CHARGES: &[u8] =
 4 9|6|keeper;
 ";
 
-/// Whether it is as a row says, behind a run of this script.
+/// Whether it is as a row says, after a run of this script.
 fn is_charged(alloc: Global, script: &[u8], row: &[u8]) -> bool {
     let (keeps, rest) = cut(b'|', row);
     let (status, lines) = cut(b'|', rest);
@@ -180,7 +180,7 @@ fn is_charged(alloc: Global, script: &[u8], row: &[u8]) -> bool {
     is_well(due) && well && right
 }
 
-/// The number of the first row that is not right, from 1; 0 where each is, of a hundred at most.
+/// The number of the first row that is wrong, from 1; 0 where none is, of a hundred at most.
 fn wrong_charge(alloc: Global, script: &[u8], table: &[u8]) -> usize {
     let mut rest = table;
     for number in 0..100 {
@@ -206,7 +206,7 @@ fn charged_rows(rt: HostRuntime) {
     assert_right(&rt, "CHARGES", wrong);
 }
 
-/// Whether a run of the script over a sink that takes seven bytes a write, of which the one behind so many bytes fails, writes these bytes of the listing alone.
+/// Whether a run of the script over a sink that accepts seven bytes a write, of which the one after so many bytes fails, writes these bytes of the listing alone.
 fn is_cut(alloc: Global, script: &[u8], listing: &[u8], place: usize) -> bool {
     let mut case = Page::new(alloc);
     case.add(b"=status:7\n=most:7\n=writes:");
@@ -218,12 +218,12 @@ fn is_cut(alloc: Global, script: &[u8], listing: &[u8], place: usize) -> bool {
     is_well(case) && right
 }
 
-/// Whether it is so for each write.
+/// Whether this holds for each write.
 fn is_cut_anywhere(alloc: Global, script: &[u8], listing: &[u8]) -> bool {
     (0..listing.len()).all(|place| place % 7 != 0 || is_cut(alloc, script, listing, place))
 }
 
-/// Whether it is so of a script and a listing in which each `|` begins a line.
+/// Whether this holds for a script and a listing in which each `|` begins a line.
 fn are_listings_cut(alloc: Global, script: &[u8], listing: &[u8]) -> bool {
     let mut due = Page::new(alloc);
     add_lines(&mut due, listing);
@@ -232,13 +232,13 @@ fn are_listings_cut(alloc: Global, script: &[u8], listing: &[u8]) -> bool {
     cut
 }
 
-/// Whether it is so of the first run of a table.
+/// Whether this holds for the first run of a table.
 fn is_first_cut(alloc: Global, table: &[u8]) -> bool {
     let (script, listing, _) = two(table).unwrap_or((b"", b"", b""));
     are_listings_cut(alloc, script, listing)
 }
 
-/// A listing that a sink cuts short is status 7, wherever it is.
+/// A listing that a sink truncates is status 7, wherever it is.
 #[test]
 fn cut_listings(rt: HostRuntime) {
     assert!(rt; is_first_cut(rt.alloc(), call_runs()));

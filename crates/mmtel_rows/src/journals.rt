@@ -1,4 +1,4 @@
-//! Runs of other tables over a keeper over a journal: the same comes of them, where the calls of the disk fail that make the same calls of the keeper fail.
+//! Runs of other tables over a keeper over a journal: they have the same results, where those calls of the disk fail that make the same calls of the keeper fail.
 
 use crate::asserting::assert_right;
 use crate::cases::{is_right, two};
@@ -8,7 +8,7 @@ use crate::uploads::upload_runs;
 use mmtel_scan::part;
 use std::alloc::Global;
 
-/// Whether a run of this script over a journal, of whose disk these calls fail, lists what is due.
+/// Whether a run of this script over a journal, on a disk of which these calls fail, lists what is expected.
 fn is_right_over(alloc: Global, failing: &[u8], script: &[u8], listing: &[u8]) -> bool {
     let mut case = Page::new(alloc);
     case.add(b"=journal\n=disk:");
@@ -19,7 +19,7 @@ fn is_right_over(alloc: Global, failing: &[u8], script: &[u8], listing: &[u8]) -
     is_well(case) && right
 }
 
-/// The number of the first run of the table that lists something else than is due, from 1; 0 where there is none of those that have a line of numbers, a hundred at most.
+/// The number of the first run of the table with another listing than expected, from 1; 0 where there is none of those that have a line of numbers, a hundred at most.
 fn wrong_over_journals(alloc: Global, table: &[u8], numbers: &[u8]) -> usize {
     let mut rest = table;
     let mut lines = numbers;
@@ -38,15 +38,15 @@ fn wrong_over_journals(alloc: Global, table: &[u8], numbers: &[u8]) -> usize {
     100
 }
 
-/// The calls of the disk that fail in the first runs of the table of uploads. Five calls make and open the journal, and a store has four: a write, a sync, the gate, a sync. In
-/// the second run the first store fails at its write, the third too, and the fourth at its gate: so the operator's question, which closes that first, fails as well.
+/// The calls of the disk that fail in the first runs of the table of uploads. Five calls create and open the journal, and a store has four: a write, a sync, the gate, a sync. In
+/// the second run the first store fails at its write, the third too, and the fourth at its gate: so the operator's request, which closes that first, fails as well.
 const UPLOADS: &[u8] = b"
 6 11 14 15
 
 ";
 
-/// The same of the table of rows that wait. In the first run the gate of the first add fails, and what was asked next closes it; in the second the sync before it; in the third
-/// each write.
+/// The same of the table of rows that wait. In the first run the gate of the first add fails, and the next request closes it; in the second the sync before it; in the third each
+/// write.
 const FAILING: &[u8] = b"8
 7
 6 7 8 9

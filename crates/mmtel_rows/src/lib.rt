@@ -1,8 +1,8 @@
-//! Worked rows over the top call: words, files, a keeper and a sink in memory, with the status and the text that come of them; and tables over the calls right below it: of
-//! the server, and of what is read of events, decided of requests and built of them.
+//! Worked rows over the top function: words, files, a keeper and a sink in memory, with the resulting status and text; and tables over the functions directly below it: of the
+//! server, and of the parsed values of events, the dispositions of requests and the messages built of them.
 //!
-//! What the contracts say needs no test. Here stand whole runs whose texts come from the standards and from the rules of the formats, and runs over files, keepers, links
-//! and sinks that fail, with memory enough, since a body that always answers want of memory meets its contract too.
+//! What the contracts claim needs no test. These are whole runs whose texts come from the standards and from the rules of the formats, and runs over files, keepers, links and
+//! sinks that fail, with enough memory, since a body that always returns out of memory satisfies its contract too.
 #![tactic(auto)]
 
 #[cfg(test)]

@@ -1,5 +1,5 @@
-//! Limits and refusals of a datagram (RFC 3261 §7.3, §8.1.1.7, §8.2, §16.3 and §18.3): what is read of a datagram, what is refused and with which status, and what is
-//! dropped. A datagram has 16,384 bytes and 128 header lines at most.
+//! Limits and refusals of a datagram (RFC 3261 §7.3, §8.1.1.7, §8.2, §16.3 and §18.3): what is read of a datagram, what is refused and with which status, and what is dropped. A
+//! datagram has 16,384 bytes and 128 header fields at most.
 
 use crate::asserting::assert_right;
 use crate::cases::wrong_run;

@@ -1,4 +1,4 @@
-//! Links in memory: what comes over them, and what they were given.
+//! Links in memory: their inputs and outputs.
 
 use crate::pages::{Page, add_script, add_short};
 use crate::settings::{behind_settings, config, numbers, setting, value};
@@ -7,7 +7,7 @@ use mmtel_link::MemoryLink;
 use mmtel_scan::List;
 use mmtel_told::cut;
 
-/// What is heard of the peers of a configuration.
+/// The inputs from the peers of a configuration.
 fn heard_of(page: &mut Page, script: &[u8], directory: &Directory) -> Option<ScriptLink> {
     let mut lines = Page::new(page.alloc);
     add_script(&mut lines, behind_settings(script), true);
@@ -16,7 +16,7 @@ fn heard_of(page: &mut Page, script: &[u8], directory: &Directory) -> Option<Scr
     page.noted(link)
 }
 
-/// What is heard.
+/// The inputs.
 pub fn heard(page: &mut Page, script: &[u8]) -> Option<ScriptLink> {
     let mut text = config(page, script);
     add_short(&mut text, value(script, b"peer:"));
@@ -55,13 +55,13 @@ fn copies(page: &mut Page, events: &[Event]) -> List<Event> {
     list
 }
 
-/// A link of these events, of which those calls fail that the settings say.
+/// A link of these events, of which the calls of the settings fail.
 pub fn link_of(page: &mut Page, script: &[u8], events: &[Event]) -> MemoryLink {
     let events = copies(page, events);
     MemoryLink::new(events, numbers(page, script, b"link:"))
 }
 
-/// A link of what was heard.
+/// A link of these inputs.
 fn link_of_heard(page: &mut Page, script: &[u8], heard: Option<ScriptLink>) -> MemoryLink {
     match heard {
         None => link_of(page, script, &[]),
@@ -73,7 +73,7 @@ fn link_of_heard(page: &mut Page, script: &[u8], heard: Option<ScriptLink>) -> M
     }
 }
 
-/// A link of what a script tells.
+/// A link of the events of a script.
 fn told_link(page: &mut Page, script: &[u8]) -> MemoryLink {
     let mut told = Page::new(page.alloc);
     let heard = heard(&mut told, script);
@@ -81,7 +81,7 @@ fn told_link(page: &mut Page, script: &[u8]) -> MemoryLink {
     link_of_heard(page, script, heard)
 }
 
-/// A link of what a script tells; one over which nothing comes where the settings do not ask for it, and where the configuration or the script is bad.
+/// A link of the events of a script; one without input where the settings do not require it, and where the configuration or the script is bad.
 pub fn link(page: &mut Page, script: &[u8]) -> MemoryLink {
     match setting(script, b"link:") {
         None => MemoryLink::new(List::new(), List::new()),
@@ -89,14 +89,14 @@ pub fn link(page: &mut Page, script: &[u8]) -> MemoryLink {
     }
 }
 
-/// Tells the first line of a text that was given.
+/// Writes the first line of a text that was sent.
 fn tell_first(page: &mut Page, text: &[u8]) {
     let (line, _) = cut(b'\r', text);
     page.add(line);
     page.add(b"\n");
 }
 
-/// Tells a text that was given, its lines behind `|`, but for the first.
+/// Writes a text that was sent, its lines after `|`, except the first.
 fn tell_whole(page: &mut Page, text: &[u8]) {
     let mut lines = Page::new(page.alloc);
     lines.add_ended(b'\r', text, b"");
@@ -107,7 +107,7 @@ fn tell_whole(page: &mut Page, text: &[u8]) {
     drop(lines);
 }
 
-/// Tells a text that was given, and whether it was lost.
+/// Writes a text that was sent, and whether it was lost.
 fn tell_given(page: &mut Page, text: &[u8], lost: bool, whole: bool) {
     if lost {
         page.add(b"lost ");
@@ -119,7 +119,7 @@ fn tell_given(page: &mut Page, text: &[u8], lost: bool, whole: bool) {
     }
 }
 
-/// Tells what a link was given: each datagram behind the port that it goes to, and then the replies.
+/// Writes the outputs of a link: each datagram after the port to which it goes, and then the replies.
 pub fn tell_link(page: &mut Page, link: &MemoryLink, whole: bool) {
     for sent in link.offers() {
         page.add_number(u64::from(sent.to.port));

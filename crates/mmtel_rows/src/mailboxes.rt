@@ -1,6 +1,6 @@
-//! Message waiting (3GPP TS 24.606, RFC 3842, RFC 6665): who subscribes to which mailbox, and what a subscriber is told.
+//! Message waiting (3GPP TS 24.606, RFC 3842, RFC 6665): who subscribes to which mailbox, and what a subscriber is notified of.
 //!
-//! Each is a script and the listing that is due, in the form of `cases`.
+//! Each is a script and its expected listing, in the form of `cases`.
 
 use crate::asserting::assert_right;
 use crate::cases::wrong_run;

@@ -1,4 +1,4 @@
-//! Openings: the INVITE of a caller who asks for privacy, from a trusted peer to one that is not.
+//! Openings: the INVITE of a caller who requests privacy, from a trusted peer to one that is not.
 
 ghost use Rattle.std.specs.Prelude.{◌≡◌, ◌<◌};
 
@@ -14,7 +14,7 @@ use std::alloc::Global;
 use std::marker::Brand;
 use std::sync::ledger::{Blank, Ledger};
 
-/// RFC 3323 §4.1 and RFC 3325 §9.3: who asks for privacy is anonymous towards a network that is not trusted.
+/// RFC 3323 §4.1 and RFC 3325 §9.3: a caller who requests privacy is anonymous towards a network that is not trusted.
 const OPENINGS: &[u8] = br#"~ Erin calls bob, and asks that her identity be kept private.
 at 0 peer 1|INVITE sip:bob@far.example SIP/2.0|Via: SIP/2.0/UDP 127.0.0.1:5071;branch=z9hG4bKa1|Max-Forwards: 68|From: "Erin" <sip:erin@other.example>;tag=a
 |To: <sip:bob@far.example>|Call-ID: c1|CSeq: 7 INVITE|Contact: <sip:erin@127.0.0.1:5071>|P-Asserted-Identity: <sip:erin@other.example>|Privacy: id|Content-Length: 0|
@@ -80,7 +80,7 @@ fn restricted_openings(rt: HostRuntime) {
     assert_right(&rt, "OPENING", wrong_run(rt.alloc(), opening_runs()));
 }
 
-/// Adds what a server offers in so many turns, by the calls right below the top call; the link has ended after the second.
+/// Adds the outputs of a server in so many turns, by the functions directly below the top function; the link has ended after the second.
 fn add_driven<L: Ledger>(
     page: &mut Page,
     server: Server,
@@ -122,7 +122,7 @@ fn add_turns(page: &mut Page, link: &mut ScriptLink, turns: u64) {
     }
 }
 
-/// Adds what a script makes a server offer in so many turns.
+/// Adds the outputs of a server for a script in so many turns.
 fn add_offered(page: &mut Page, script: &[u8], turns: u64) {
     page.add_number(turns);
     if let Some(link) = heard(page, script) {
@@ -132,7 +132,7 @@ fn add_offered(page: &mut Page, script: &[u8], turns: u64) {
     }
 }
 
-/// Adds what is due: nothing in no turn, and the listing in one and in two.
+/// Adds what is expected: nothing in no turn, and the listing in one and in two.
 fn add_due(due: &mut Page, listing: &[u8]) {
     due.add(b"01");
     add_lines(due, listing);
@@ -140,7 +140,7 @@ fn add_due(due: &mut Page, listing: &[u8]) {
     add_lines(due, listing);
 }
 
-/// Whether the script makes a server offer what is due.
+/// Whether the server has the expected outputs for the script.
 fn is_offered(alloc: Global, script: &[u8], listing: &[u8]) -> bool {
     let mut page = Page::new(alloc);
     for turns in 0..3 {
@@ -161,7 +161,7 @@ fn is_first_offered(alloc: Global, table: &[u8]) -> bool {
     }
 }
 
-/// No turn takes nothing; one takes the one event, and one more comes to the end.
+/// Without a turn nothing is received; in one the one event is, and one more reaches the end.
 #[test]
 fn turns_over_an_opening(rt: HostRuntime) {
     assert!(rt; is_first_offered(rt.alloc(), opening_runs()));

@@ -1,4 +1,4 @@
-//! Texts in the making: short lines, scripts, and whether two of them are alike.
+//! Texts while they are built: short lines, scripts, and whether two of them are equal.
 
 use mmtel_scan::{part, plain_number, skip_text};
 use mmtel_told::cut;
@@ -13,7 +13,7 @@ pub fn add_short(page: &mut Page, lines: &[u8]) {
     drop(text);
 }
 
-/// Ends the line, where one has begun.
+/// Ends the line, if it is not ended.
 fn end_line(page: &mut Page) {
     let bytes = page.bytes();
     if !bytes.is_empty() && !bytes.ends_with(b"\n") {
@@ -21,7 +21,7 @@ fn end_line(page: &mut Page) {
     }
 }
 
-/// Adds bytes, without the line ends before which a backslash stands.
+/// Adds bytes, without the line ends that a backslash precedes.
 fn add_joined(page: &mut Page, bytes: &[u8]) {
     let mut rest = bytes;
     for _ in 0..100 {
@@ -40,7 +40,7 @@ fn add_joined(page: &mut Page, bytes: &[u8]) {
     page.add(rest);
 }
 
-/// Adds lines; each `|` begins one, wherever it stands, and a backslash at the end of a line joins it with the next.
+/// Adds lines; each `|` begins one, at any position, and a backslash at the end of a line joins it with the next.
 pub fn add_lines(page: &mut Page, lines: &[u8]) {
     let mut rest = lines;
     for _ in 0..10_000 {
@@ -64,7 +64,7 @@ fn repeat(page: &mut Page, digits: &[u8], lines: &[u8]) {
     }
 }
 
-/// Adds what stands for `THIS^THAT`, of which the one or the other is chosen, or for `NUMBER*LINES`, which are added so many times.
+/// Adds the meaning of `THIS^THAT`, of which the one or the other is chosen, or of `NUMBER*LINES`, which are added so many times.
 fn choose(page: &mut Page, both: &[u8], first: bool) {
     match part(b'^', both) {
         Some((this, that)) => add_lines(page, if first { this } else { that }),
@@ -75,7 +75,7 @@ fn choose(page: &mut Page, both: &[u8], first: bool) {
     }
 }
 
-/// Adds a script, in which `{THIS^THAT}` and `{NUMBER*LINES}` may stand.
+/// Adds a script, which may have `{THIS^THAT}` and `{NUMBER*LINES}`.
 pub fn add_script(page: &mut Page, script: &[u8], first: bool) {
     let mut rest = script;
     for _ in 0..100 {
@@ -92,26 +92,26 @@ pub fn add_script(page: &mut Page, script: &[u8], first: bool) {
     add_lines(page, rest);
 }
 
-/// Whether they have other texts, and nothing went wrong with either.
+/// Whether they have different texts, and neither failed.
 pub fn are_apart(page: &Page, other: &Page) -> bool {
     !page.has_failed() && !other.has_failed() && page.bytes() != other.bytes()
 }
 
-/// The number of the first line, from 1, in which a table is not what was written; 0 where there is none, and nothing went wrong.
+/// The number of the first line, from 1, in which a table differs from what was written; 0 where there is none, and nothing failed.
 pub fn wrong_line(page: Page, table: &[u8]) -> usize {
     let wrong = page.wrong_line(table);
     drop(page);
     wrong
 }
 
-/// Whether nothing went wrong with a text that is wanted no more.
+/// Whether a text that is no longer used did not fail.
 pub fn is_well(page: Page) -> bool {
     let failed = page.has_failed();
     drop(page);
     !failed
 }
 
-/// Whether they have the same text, which is not none, and nothing went wrong with either.
+/// Whether they have the same text, which is not empty, and neither failed.
 pub fn are_alike(page: &Page, other: &Page) -> bool {
     !page.has_failed()
         && !other.has_failed()

@@ -1,6 +1,6 @@
-//! Pairs of runs that differ in who asks for privacy, and what the peer that is not trusted is offered in both, moments included (RFC 3323 §4, RFC 3325 §7).
+//! Pairs of runs that differ in who requests privacy, and what is sent to the untrusted peer in both, moments included (RFC 3323 §4, RFC 3325 §7).
 //!
-//! A script stands for two: of each `{this^that}` one of them has the one, and the other the other.
+//! A script stands for two: where it has `{this^that}`, one of them has the first part and the other the second.
 
 use crate::cases::piece;
 use crate::pages::{Page, are_alike, are_apart};
@@ -8,7 +8,7 @@ use crate::runs::tell;
 use mmtel_scan::part;
 use std::alloc::Global;
 
-/// Writes what a listing has for the second peer.
+/// Writes the part of a listing for the second peer.
 fn show(view: &mut Page, listing: &[u8]) {
     let mut rest = listing;
     let mut is_shown = false;
@@ -29,7 +29,7 @@ fn show(view: &mut Page, listing: &[u8]) {
     }
 }
 
-/// The same of what a run whose status is 0 wrote.
+/// The same of what a run with status 0 wrote.
 fn show_listing(view: &mut Page, written: &[u8]) {
     match written.strip_prefix(b"0\n") {
         Some(listing) => show(view, listing),
@@ -37,7 +37,7 @@ fn show_listing(view: &mut Page, written: &[u8]) {
     }
 }
 
-/// What the second peer is offered in one of the two runs, whose status is to be 0.
+/// What is sent to the second peer in one of the two runs, whose status is to be 0.
 fn seen(alloc: Global, script: &[u8], first: bool) -> Page {
     let mut page = Page::new(alloc);
     tell(&mut page, script, first);
@@ -48,7 +48,7 @@ fn seen(alloc: Global, script: &[u8], first: bool) -> Page {
     view
 }
 
-/// Whether the pair is as it is due: the second peer is offered the same in both, or not.
+/// Whether the pair is as expected: the second peer is sent the same in both, or not.
 fn is_due(alloc: Global, script: &[u8], due: bool) -> bool {
     let one = seen(alloc, script, true);
     let other = seen(alloc, script, false);
@@ -62,7 +62,7 @@ fn is_due(alloc: Global, script: &[u8], due: bool) -> bool {
     right
 }
 
-/// The number of the first pair of a table that is not as it is due, from 1; 0 where there is none, of a hundred at most.
+/// The number of the first pair of a table that is not as expected, from 1; 0 where there is none, of a hundred at most.
 pub fn wrong_pair(alloc: Global, table: &[u8], due: bool) -> usize {
     let mut rest = table;
     for number in 0..100 {

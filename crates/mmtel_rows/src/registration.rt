@@ -1,4 +1,4 @@
-//! Registrations (3GPP TS 24.229 §5.7.1.1; RFC 3261 §10.3): a trusted peer tells that an account registered, or that its registration ended.
+//! Registrations (3GPP TS 24.229 §5.7.1.1; RFC 3261 §10.3): a trusted peer sends REGISTER for an account that registered, or whose registration ended.
 
 use crate::asserting::assert_right;
 use crate::cases::wrong_run;

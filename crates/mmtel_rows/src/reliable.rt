@@ -1,11 +1,11 @@
-//! Reliable provisional answers (RFC 3262) and UPDATE (RFC 3311).
+//! Reliable provisional responses (RFC 3262) and UPDATE (RFC 3311).
 //!
-//! Each is a script and the listing that is due, in the form of `cases`.
+//! Each is a script and its expected listing, in the form of `cases`.
 
 use crate::asserting::assert_right;
 use crate::cases::wrong_run;
 
-/// Reliable answers, and their PRACKs.
+/// Reliable provisional responses, and their PRACKs.
 const RELIABLE: &[u8] =
     br#"~ A reliable 183, its PRACK after 600 ms, and another PRACK of the same answer.
 =further:extension 100rel;
@@ -480,7 +480,7 @@ fn reliable_answers(rt: HostRuntime) {
     assert_right(&rt, "RELIABLE", wrong_run(rt.alloc(), RELIABLE));
 }
 
-/// What is in flight where the attempt is left or the call ends, INVITEs beside it, and late 2xx.
+/// What is in flight where the attempt is left or the call ends, INVITEs next to it, and late 2xx.
 const IN_FLIGHT: &[u8] = br#"~ The target refuses while a PRACK and an UPDATE are in flight.
 =further:extension 100rel;
 at 0 peer 1|INVITE sip:bob@home.example SIP/2.0|Via: SIP/2.0/UDP 127.0.0.1:5071;branch=z9hG4bKc1|Max-Forwards: 68|From: "Alice" <sip:alice@home.example>;tag=t1

@@ -1,4 +1,4 @@
-//! What is built of requests.
+//! What is built from requests.
 
 use crate::asserting::assert_right;
 use crate::pages::{Page, wrong_line};
@@ -9,7 +9,7 @@ use mmtel_message::{Msg, add_bytes, reply_with};
 use mmtel_scan::{List, NoMemory};
 use std::alloc::Global;
 
-/// An INVITE whose Via names another address than it came from.
+/// An INVITE whose Via names another address than that from which it came.
 const OPENING: &[u8] = br#"INVITE sip:bob@far.example SIP/2.0
 Via: SIP/2.0/UDP 10.0.0.9:5071;branch=z9hG4bKa1;rport
 Max-Forwards: 68
@@ -73,7 +73,7 @@ Content-Length: 0
 dialog c1 b a
 "#;
 
-/// Tells a message that was built.
+/// Writes a message that was built.
 fn tell(page: &mut Page, built: Result<Msg, NoMemory>) {
     if let Some(message) = page.noted(built) {
         let text = message.text(page.alloc);
@@ -101,7 +101,7 @@ fn tell_tag(page: &mut Page, request: &Hearing) {
     }
 }
 
-/// A 420 that names an option.
+/// A 420 that names an option tag.
 fn refusal(page: &mut Page) -> Answer {
     let mut named = List::new();
     let added = add_bytes(page.alloc, &mut named, b"Unsupported", b"100rel");
@@ -128,7 +128,7 @@ fn tell_dialog(page: &mut Page, request: &Hearing) {
     }
 }
 
-/// The reply to unreadable bytes that is completed for a peer behind another port.
+/// The reply to unreadable bytes that is completed for a peer at another port.
 fn tell_completed(page: &mut Page, request: &Hearing) {
     let reply = reply_with(page.alloc, 420, b"Bad Extension", &request.message.lines());
     if let Some(reply) = page.noted(reply) {
@@ -174,7 +174,7 @@ fn wrong_reply(alloc: Global) -> usize {
     wrong_line(page, WANTED)
 }
 
-/// A refusal with its line and the server's tag, a reply that is completed, an answer within a dialog, and the dialogs that both requests name.
+/// A refusal with its header field and the server's tag, a reply that is completed, a response within a dialog, and the dialogs that both requests name.
 #[test]
 fn builds(rt: HostRuntime) {
     assert_right(&rt, "reply", wrong_reply(rt.alloc()));

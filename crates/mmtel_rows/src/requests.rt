@@ -1,4 +1,4 @@
-//! A configuration, and messages as they are heard under it.
+//! A configuration, and messages as they are received under it.
 
 use crate::pages::Page;
 use mmtel_answers::Hearing;
@@ -38,7 +38,7 @@ pub fn address(port: u16) -> Addr {
     }
 }
 
-/// What these bytes say, heard of peer 1, who is trusted or not.
+/// The message of these bytes, received from peer 1, which is trusted or not.
 pub fn hearing(page: &mut Page, bytes: &[u8], trusted: bool) -> Option<Hearing> {
     let message = read(page.alloc, bytes);
     let message = page.noted(message)?;
@@ -50,7 +50,7 @@ pub fn hearing(page: &mut Page, bytes: &[u8], trusted: bool) -> Option<Hearing> 
     })
 }
 
-/// Adds a request with this start line but its version, a To tag or none, and further lines, each ended by `|`.
+/// Adds a request with this start line except its version, a To tag or none, and further header fields, each ended by `|`.
 pub fn add_request(page: &mut Page, tagged: bool, start: &[u8], further: &[u8]) {
     let to: &[u8] = if tagged {
         b"\"Bob\" <sip:bob@home.example>;tag=b"
@@ -60,7 +60,7 @@ pub fn add_request(page: &mut Page, tagged: bool, start: &[u8], further: &[u8]) 
     add_request_to(page, to, start, further);
 }
 
-/// The same to this party.
+/// The same with this To.
 pub fn add_request_to(page: &mut Page, to: &[u8], start: &[u8], further: &[u8]) {
     add_request_with(page, to, start, further, b"");
 }

@@ -1,9 +1,10 @@
-//! Rooms: INVITEs to the factory and to rooms, referrals, legs that are taken over out of their calls, and full rooms (RFC 4579 §5, RFC 3515 §2.4, RFC 3891 §3).
+//! Conferences: INVITEs to the factory URI and to conferences, referrals, legs that are taken out of their calls by Replaces, and full conferences (RFC 4579 §5, RFC 3515 §2.4, RFC
+//! 3891 §3).
 
 use crate::asserting::assert_right;
 use crate::cases::wrong_run;
 
-/// A room from its opening to its end, and INVITEs that are refused.
+/// A conference from its creation to its end, and INVITEs that are refused.
 const ROOMS: &[u8] =
     br#"~ Alice talks with bob, asks the factory for a room, and has bob's leg taken over into it (RFC 3891 section 3); he hangs up, and she closes the room.
 at 0 peer 1|INVITE sip:bob@home.example SIP/2.0|Via: SIP/2.0/UDP 127.0.0.1:5071;branch=z9hG4bKc1|Max-Forwards: 68|From: "Alice" <sip:alice@home.example>;tag=t1
@@ -103,7 +104,7 @@ fn rooms(rt: HostRuntime) {
     assert_right(&rt, "ROOMS", wrong_run(rt.alloc(), ROOMS));
 }
 
-/// A room of which all 32 seats are taken.
+/// A conference of which all 32 places are taken.
 const FULL: &[u8] =
     br#"~ Alice talks with bob, opens a room, and so many come that all seats are taken and one more is turned away; she asks for bob's leg.
 at 0 peer 1|INVITE sip:bob@home.example SIP/2.0|Via: SIP/2.0/UDP 127.0.0.1:5071;branch=z9hG4bKc1|Max-Forwards: 68|From: "Alice" <sip:alice@home.example>;tag=t1

@@ -1,6 +1,6 @@
-//! One run of the top call over devices in memory, and what comes of it.
+//! One run of the top function over devices in memory, and its result.
 //!
-//! A script may begin with `settings`, which say what the devices are, and what of them fails.
+//! A script may begin with `settings`, which configure the devices, and which of their calls fail.
 
 use crate::links::{link, tell_link};
 use crate::pages::{Page, add_script, add_short};
@@ -12,7 +12,7 @@ use mmtel_journal::{JournalKeeper, MemoryDisk, make};
 use mmtel_scan::{List, Text, part, plain_number, skip_text};
 use mmtel_types::Account;
 
-/// The words of a replay with the token that the listings have.
+/// The words of a replay, with the token of the listings.
 const REPLAY: &[u8] = b"replay|server.cfg|run.script|--token|0123456789abcdef";
 
 fn add_file(page: &mut Page, files: &mut List<(Text, Text)>, name: &[u8], text: &Page) {
@@ -22,7 +22,7 @@ fn add_file(page: &mut Page, files: &mut List<(Text, Text)>, name: &[u8], text: 
     }
 }
 
-/// Adds the script, with the first or the second of each two.
+/// Adds the script, with the first or the second of each alternative.
 fn add_script_file(page: &mut Page, files: &mut List<(Text, Text)>, script: &[u8], first: bool) {
     let mut text = Page::new(page.alloc);
     add_script(&mut text, behind_settings(script), first);
@@ -48,7 +48,7 @@ fn add_named(page: &mut Page, files: &mut List<(Text, Text)>, script: &[u8]) {
     }
 }
 
-/// Adds the configuration, with what it has in the first or in the second of two runs.
+/// Adds the configuration, with the lines of the first or of the second of two runs.
 fn add_config(page: &mut Page, files: &mut List<(Text, Text)>, script: &[u8], first: bool) {
     let mut config = config(page, script);
     add_short(&mut config, of_pair(script, first));
@@ -56,7 +56,7 @@ fn add_config(page: &mut Page, files: &mut List<(Text, Text)>, script: &[u8], fi
     drop(config);
 }
 
-/// Adds the files that are there.
+/// Adds the files that exist.
 fn add_files(page: &mut Page, files: &mut List<(Text, Text)>, script: &[u8], first: bool) {
     if setting(script, b"no-config").is_none() {
         add_config(page, files, script, first);
@@ -74,7 +74,7 @@ fn files(page: &mut Page, script: &[u8], first: bool) -> MemoryFiles {
     MemoryFiles::new(files, failing)
 }
 
-/// The keeper holds one record more.
+/// Stores one record in the keeper.
 fn store<K: Keeper>(page: &mut Page, keeper: &mut K, record: &[u8]) {
     let (digits, text) = named(page, record);
     let account = match plain_number(99, digits) {
@@ -86,7 +86,7 @@ fn store<K: Keeper>(page: &mut Page, keeper: &mut K, record: &[u8]) {
     drop(text);
 }
 
-/// The keeper holds the records that the settings name.
+/// Stores the records that the settings name in the keeper.
 fn store_all<K: Keeper>(page: &mut Page, keeper: &mut K, script: &[u8]) {
     let mut rest = script;
     for _ in 0..12 {
@@ -102,7 +102,7 @@ fn store_all<K: Keeper>(page: &mut Page, keeper: &mut K, script: &[u8]) {
     }
 }
 
-/// A keeper over a journal that is made on a disk in memory: `make` takes three calls of the disk, and `open` two.
+/// A keeper over a journal that is created on a disk in memory: `make` takes three calls of the disk, and `open` two.
 fn journal(page: &mut Page, script: &[u8]) -> Option<JournalKeeper<MemoryDisk>> {
     let failing = numbers(page, script, b"disk:");
     let mut disk = MemoryDisk::new(page.alloc, failing);
@@ -119,7 +119,7 @@ fn add_word(page: &mut Page, words: &mut List<Text>, word: &[u8]) {
     }
 }
 
-/// Adds the words that `|` parts, at most a dozen.
+/// Adds the words that `|` separates, at most a dozen.
 fn add_words(page: &mut Page, texts: &mut List<Text>, words: &[u8]) {
     let mut rest = words;
     for _ in 0..12 {
@@ -134,7 +134,7 @@ fn add_words(page: &mut Page, texts: &mut List<Text>, words: &[u8]) {
     add_word(page, texts, rest);
 }
 
-/// The words that `|` parts; none where there is no byte.
+/// The words that `|` separates; none where there are no bytes.
 fn texts(page: &mut Page, words: &[u8]) -> List<Text> {
     let mut texts = List::new();
     if !words.is_empty() {
@@ -143,7 +143,7 @@ fn texts(page: &mut Page, words: &[u8]) -> List<Text> {
     texts
 }
 
-/// Writes the status of a run of these words over these files, a line end, what the run writes to the sink, and what the link was given.
+/// Writes the status of a run of these words over these files, a line end, what the run writes to the sink, and the outputs of the link.
 fn tell_over<K: Keeper>(
     page: &mut Page,
     script: &[u8],
@@ -161,7 +161,7 @@ fn tell_over<K: Keeper>(
     drop(link);
 }
 
-/// The same over a sink as the settings say.
+/// The same over a sink as the settings describe it.
 fn tell_to_sink<K: Keeper>(
     page: &mut Page,
     script: &[u8],
@@ -182,7 +182,7 @@ fn tell_to_sink<K: Keeper>(
     }
 }
 
-/// The same of these words, over files as the settings say.
+/// The same of these words, over files as the settings describe them.
 fn tell_run<K: Keeper>(page: &mut Page, script: &[u8], first: bool, words: &[u8], keeper: &mut K) {
     let words = texts(page, words);
     let mut files = files(page, script, first);
@@ -191,7 +191,7 @@ fn tell_run<K: Keeper>(page: &mut Page, script: &[u8], first: bool, words: &[u8]
     drop(words);
 }
 
-/// Makes the first of two runs, whose status is due.
+/// Makes the first of two runs, which has the expected status.
 fn run_before<K: Keeper>(
     page: &mut Page,
     script: &[u8],
@@ -206,7 +206,7 @@ fn run_before<K: Keeper>(
     drop(before);
 }
 
-/// Tells the one run, or the second of two over one keeper.
+/// Writes the one run, or the second of two over one keeper.
 fn tell_runs<K: Keeper>(page: &mut Page, script: &[u8], first: bool, keeper: &mut K) {
     let words = setting(script, b"words:").unwrap_or(REPLAY);
     match setting(script, b"then:") {
@@ -218,13 +218,13 @@ fn tell_runs<K: Keeper>(page: &mut Page, script: &[u8], first: bool, keeper: &mu
     }
 }
 
-/// Tells the runs over a keeper that holds the records that the settings name.
+/// Writes the runs over a keeper that holds the records that the settings name.
 fn tell_keeping<K: Keeper>(page: &mut Page, script: &[u8], first: bool, keeper: &mut K) {
     store_all(page, keeper, script);
     tell_runs(page, script, first, keeper);
 }
 
-/// Tells the runs over a keeper over a journal.
+/// Writes the runs over a keeper over a journal.
 fn tell_over_journal(page: &mut Page, script: &[u8], first: bool) {
     if let Some(mut keeper) = journal(page, script) {
         tell_keeping(page, script, first, &mut keeper);
@@ -232,7 +232,7 @@ fn tell_over_journal(page: &mut Page, script: &[u8], first: bool) {
     }
 }
 
-/// Writes the status of the run of a script, with the first or the second of each two, a line end, and what the run writes; where there is a second run, these of that one.
+/// Writes the status of the run of a script, with the first or the second of each two, a line end, and what the run writes; where there is a second run, those of that one.
 pub fn tell(page: &mut Page, script: &[u8], first: bool) {
     if setting(script, b"journal").is_some() {
         return tell_over_journal(page, script, first);

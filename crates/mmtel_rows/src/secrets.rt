@@ -1,10 +1,10 @@
-//! Pairs of runs of calls and rooms that differ in who asks for privacy, also under two configurations that name that person otherwise, and what the peer that is not trusted
-//! is offered in both, moments included (RFC 3323 §4, RFC 3325 §7).
+//! Pairs of runs of calls and conferences that differ in who requests privacy, also under two configurations that name that person differently, and what is sent to the untrusted
+//! peer in both, moments included (RFC 3323 §4, RFC 3325 §7).
 
 use crate::asserting::assert_right;
 use crate::pairs::wrong_pair;
 
-/// They differ in private places alone, and whoever is asked for answers alike; with rooms, also of whoever opens one, and of whoever is taken over into one.
+/// They differ in private places only, and the other parties respond in the same way; with conferences, also for whoever creates one, and for whoever is taken over into one.
 const ALIKE: &[u8] =
     br#"~ A caller who asks for privacy is answered, acknowledges with lines of her own, and hangs up.
 at 0 peer 1|INVITE sip:bob@far.example SIP/2.0|Via: SIP/2.0/UDP 127.0.0.1:5071;branch=z9hG4bKa1|Max-Forwards: 68
@@ -314,7 +314,7 @@ at 3000 peer 1|BYE sip:room-1@127.0.0.1:5060 SIP/2.0|Via: SIP/2.0/UDP 127.0.0.1:
 |To: <sip:conf@home.example>;tag=0123456789abcdef-1|Call-ID: c0|CSeq: 10 BYE|Content-Length: 0|
 "#;
 
-/// They differ in a place that is not private, or in an answer.
+/// They differ in a place that is not private, or in a response.
 const APART: &[u8] = br#"~ Her INVITE has other hops left.
 at 0 peer 1|INVITE sip:bob@far.example SIP/2.0|Via: SIP/2.0/UDP 127.0.0.1:5071;branch=z9hG4bKa1|Max-Forwards: {68^67}
 |From: "{Erin^Frank}" <sip:{erin^frank}@other.example>;tag=a|To: <sip:bob@far.example>|Call-ID: c1|CSeq: 7 INVITE|Contact: <sip:{erin^frank}@127.0.0.1:5071>
@@ -456,7 +456,7 @@ at 200 peer 1|REFER sip:room-1@127.0.0.1:5060 SIP/2.0|Via: SIP/2.0/UDP 127.0.0.1
 |Refer-To: <sip:{bob^carol}@far.example>|Content-Length: 0|
 "#;
 
-/// They differ in private places alone, and in how the configuration names who is hidden there: nothing by which an account is looked up names her.
+/// They differ in private places only, and in how the configuration names the hidden user there: no identity by which an account is looked up is hers.
 const RENAMED: &[u8] =
     br#"~ The operator's records have her under another name in the other configuration; she asks for privacy, is answered, and hangs up, and her phone names her as phones do.
 =config:sip 127.0.0.1:5060;web 127.0.0.1:8080;home home.example;peer 1 127.0.0.1:5071 trusted;peer 2 127.0.0.1:5072 untrusted;route home.example 1;route far.example 2;
@@ -534,7 +534,7 @@ at 500 peer 1|BYE sip:room-1@127.0.0.1:5060 SIP/2.0|Via: SIP/2.0/UDP 127.0.0.1:5
 |From: "{Alice^Ann}" <sip:{alice^ann}@home.example>;tag=a|To: <sip:conf@home.example>;tag=0123456789abcdef-1|Call-ID: c1|CSeq: 9 BYE|Content-Length: 0|
 "#;
 
-/// She is named where an account is looked up, or is not hidden.
+/// She is named where an account is looked up, or is not restricted.
 const NAMED: &[u8] = br#"~ Bob diverts her by the name that she has in one configuration alone.
 =config:sip 127.0.0.1:5060;web 127.0.0.1:8080;home home.example;peer 1 127.0.0.1:5071 trusted;peer 2 127.0.0.1:5072 untrusted;route home.example 1;route far.example 2;
 =further:account 2 sip:bob@home.example;operator sip:op@home.example;mixer 127.0.0.1 40000;factory sip:conf@home.example;

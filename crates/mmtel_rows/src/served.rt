@@ -1,4 +1,4 @@
-//! Steps of a server, driving it over a link in memory, and which record is in force, and what the keeper holds, where some of its calls fail.
+//! Steps of a server, running it over a link in memory, and which record is in force, and the contents of the keeper, where some of its calls fail.
 
 use crate::asserting::assert_right;
 use crate::cases::{two, writes, wrong_run};
@@ -7,7 +7,7 @@ use mmtel_scan::part;
 use mmtel_told::cut;
 use std::alloc::Global;
 
-/// Of the first run parts are driven below.
+/// Parts of the first run are driven below.
 const SERVED: &[u8] =
     br#"~ An opening, a web connection on which nothing came, a datagram of nobody, and nothing up to 500.
 =server
@@ -219,7 +219,7 @@ fn served(rt: HostRuntime) {
     assert_right(&rt, "SERVED", wrong_run(rt.alloc(), served_runs()));
 }
 
-/// The numbers of the link's calls that fail, for how many turns the server is driven each time, and how each ends: with how many offers.
+/// The numbers of the link's calls that fail, for how many turns the server is driven each time, and how each ends: with how many outputs.
 const PARTS: &[u8] = b"|5|closed 4;
 |100 1 0|closed 4;closed 4;open 4;
 |4 1|open 4;closed 4;
@@ -231,8 +231,8 @@ const PARTS: &[u8] = b"|5|closed 4;
 6|4 9 9|open 4;fault 4;closed 4;
 ";
 
-/// The numbers of the link's calls that fail, for how many turns it is served, how that ends, and what the link was given. Call 5 reads the web connection, and calls 2, 3,
-/// 6 and 9 give.
+/// The numbers of the link's calls that fail, for how many turns it is served, how that ends, and the outputs of the link. Call 5 reads the web connection, and calls 2, 3, 6 and 9
+/// are for output.
 const GIVEN: &[u8] =
     b"|9|closed;5071 SIP/2.0 100 Trying;5072 INVITE sip:bob@far.example SIP/2.0;5072 INVITE sip:bob@far.example SIP/2.0;HTTP/1.1 400 Bad Request;rows 0;
 |1|open;5071 SIP/2.0 100 Trying;5072 INVITE sip:bob@far.example SIP/2.0;rows 0;
@@ -242,7 +242,7 @@ const GIVEN: &[u8] =
 3 5 6|9|closed;5071 SIP/2.0 100 Trying;5072 lost INVITE sip:bob@far.example SIP/2.0;5072 INVITE sip:bob@far.example SIP/2.0;lost HTTP/1.1 400 Bad Request;rows 0;
 ";
 
-/// Whether it ends as a row says where that is set in front of the script, and then all of this is told.
+/// Whether it ends as a row says where that is added before the script, and then all of this is written.
 fn is_right(alloc: Global, set: &[u8], script: &[u8], listing: &[u8], row: &[u8]) -> bool {
     let (link, rest) = cut(b'|', row);
     let (turns, ends) = cut(b'|', rest);
@@ -262,7 +262,7 @@ fn is_right(alloc: Global, set: &[u8], script: &[u8], listing: &[u8], row: &[u8]
     is_well(due) && well && right
 }
 
-/// The number of the first row of a table that is not right, from 1; 0 where each is, of a hundred at most.
+/// The number of the first row of a table that is wrong, from 1; 0 where none is, of a hundred at most.
 fn wrong_part(alloc: Global, set: &[u8], script: &[u8], listing: &[u8], table: &[u8]) -> usize {
     let mut rest = table;
     for number in 0..100 {
@@ -279,8 +279,8 @@ fn wrong_part(alloc: Global, set: &[u8], script: &[u8], listing: &[u8], table: &
     100
 }
 
-/// A link whose first call fails, or a later one; turns that end before the link is closed; a link that is closed, again and again. Call 3 reads the web connection: that
-/// it fails ends the connection alone.
+/// A link whose first call fails, or a later one; turns that end before the link is closed; a link that is closed, again and again. Call 3 reads the web connection: its failure
+/// ends the connection alone.
 #[test]
 fn parts_of_a_run(rt: HostRuntime) {
     let (script, listing, _) = two(served_runs()).unwrap_or((b"", b"", b""));

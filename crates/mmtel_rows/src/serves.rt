@@ -1,9 +1,9 @@
-//! Serving by the top call: a link in memory, over which a script comes, and what it was given; and what the keeper holds behind a run.
+//! Serving by the top function: a link in memory, over which a script comes, and its outputs; and the contents of the keeper after a run.
 
 use crate::asserting::assert_right;
 use crate::cases::wrong_run;
 
-/// The link is bound by its first call; each event takes one call, reading a web connection one more, and each datagram or reply that it is given one.
+/// The link is bound by its first call; each event takes one call, reading a web connection one more, and each datagram or reply that is passed to it one.
 const SERVES: &[u8] =
     br#"~ Erin calls bob, and asks that her identity be kept private (RFC 3323 section 4.1); then the link is closed.
 =words:serve|server.cfg|--token|0123456789abcdef|--turns|9

@@ -1,6 +1,6 @@
 //! Services of the parties of a call (3GPP TS 24.173): presentation and restriction, barring, diversion, waiting.
 //!
-//! Each is a script and the listing that is due, in the form of `cases`. Records stand as comments before the bytes in which they are put.
+//! Each is a script and its expected listing, in the form of `cases`. Records are comments before the bytes in which they are uploaded.
 
 use crate::asserting::assert_right;
 use crate::cases::wrong_run;

@@ -1,10 +1,10 @@
-//! A server: its steps over a keeper in memory, and driving it over a link in memory, whose calls fail by their numbers.
+//! A server: its steps over a keeper in memory, and running it over a link in memory, whose calls fail by their numbers.
 //!
-//! Of the settings of `settings` a script may begin with `=config:`, `=further:`, `=keeps:` and `=record:`, which says what was loaded. `=peer:` is one more peer of the
-//! script, whom the server does not know. With `=turns:` the server is driven so many turns each time, over a link of whose calls those fail that `=link:` says, and how it
-//! ended is told, with how many offers there are then; with `=serve:` it serves such a link for so many turns, and how that ended is told and the first line of all that
-//! the link was given: each datagram behind the port that it goes to, and then the replies; else it takes a step for each event. Then the listing, how many rows wait, and
-//! the records that the keeper holds are told, CR as `^`.
+//! Of the settings of `settings` a script may begin with `=config:`, `=further:`, `=keeps:` and `=record:`, which gives what was loaded. `=peer:` is one more peer of the script,
+//! which the server does not know. With `=turns:` the server is driven so many turns each time, over a link of which the calls of `=link:` fail, and how it ended is written, with
+//! the number of outputs then; with `=serve:` it serves such a link for so many turns, and how that ended is written and the first line of all outputs of the link: each datagram
+//! after the port to which it goes, and then the replies; else it makes a step for each event. Then the listing, how many rows wait, and the records that the keeper holds are
+//! written, CR as `^`.
 
 ghost use Rattle.std.specs.Prelude.{◌≡◌, ◌<◌, ◌≤◌, IfSome};
 
@@ -77,7 +77,7 @@ fn directory(page: &mut Page, script: &[u8]) -> Option<Directory>
     read
 }
 
-/// A server as the settings say.
+/// A server with these settings.
 pub fn server(page: &mut Page, script: &[u8]) -> Option<Server> {
     let directory = directory(page, script)?;
     let token = page.copy(b"0123456789abcdef");
@@ -87,7 +87,7 @@ pub fn server(page: &mut Page, script: &[u8]) -> Option<Server> {
     server.ok()
 }
 
-/// Drives for so many turns, and tells how that ended and how many offers there are then.
+/// Drives for so many turns, and writes how that ended and the number of outputs then.
 fn drive_on<L: Ledger>(
     page: &mut Page,
     server: &mut Server,
@@ -148,7 +148,7 @@ fn serve_on<L: Ledger>(
     drop(link);
 }
 
-/// Takes a step for each event.
+/// Makes a step for each event.
 fn step_all<L: Ledger>(
     page: &mut Page,
     events: &[Event],
@@ -164,7 +164,7 @@ fn step_all<L: Ledger>(
     }
 }
 
-/// Adds the listing of these offers.
+/// Adds the listing of these outputs.
 pub fn add_listing(page: &mut Page, out: &List<Offer>) {
     match listing(page.alloc, out) {
         Ok(text) => {
@@ -184,7 +184,7 @@ fn add_texts(page: &mut Page, records: &[(Account, Text)]) {
     }
 }
 
-/// Tells the record that the keeper holds of each account.
+/// Writes the record that the keeper holds of each account.
 fn add_kept(page: &mut Page, keeper: &mut MemoryKeeper) {
     match keeper.load(page.alloc) {
         Ok(records) => {
@@ -195,7 +195,7 @@ fn add_kept(page: &mut Page, keeper: &mut MemoryKeeper) {
     }
 }
 
-/// The server hears these events, as the settings say; the counter of steps begins here.
+/// The server receives these events, with the settings; the counter of steps begins here.
 fn hear<L: Ledger>(
     page: &mut Page,
     script: &[u8],
@@ -219,7 +219,7 @@ fn hear<L: Ledger>(
     }
 }
 
-/// Tells what a server does at these events, and how many rows wait.
+/// Writes the outputs of a server for these events, and how many rows wait.
 fn tell_heard(
     page: &mut Page,
     script: &[u8],
@@ -244,7 +244,7 @@ fn tell_heard(
     page.add(b"\n");
 }
 
-/// Tells what a server does at these events, and what is kept then.
+/// Writes the outputs of a server for these events, and what is stored then.
 fn tell_server(page: &mut Page, script: &[u8], events: &[Event], server: Server) {
     let mut server = server;
     let mut keeper = MemoryKeeper::new(numbers(page, script, b"keeps:"));
@@ -261,7 +261,7 @@ fn tell_events(page: &mut Page, script: &[u8], events: &[Event]) {
     }
 }
 
-/// Tells what a server does that hears a script, behind the status 0.
+/// Writes the outputs of a server that receives the events of a script, after the status 0.
 pub fn tell_served(page: &mut Page, script: &[u8]) {
     page.add(b"0\n");
     if let Some(heard) = heard(page, script) {

@@ -1,6 +1,6 @@
-//! Session timers (RFC 4028): which sessions are refused, and calls whose session nobody refreshes.
+//! Session timers (RFC 4028): which sessions are refused, and calls whose session is not refreshed.
 //!
-//! Each is a script and the listing that is due, in the form of `cases`.
+//! Each is a script and its expected listing, in the form of `cases`.
 
 use crate::asserting::assert_right;
 use crate::cases::wrong_run;

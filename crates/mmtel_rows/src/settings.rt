@@ -1,13 +1,14 @@
-//! What a script may begin with, a line each, and what they say of the devices of a run.
+//! The settings with which a script may begin, a line each, and their effect on the devices of a run.
 //!
-//! `=words:` the words of the run, parted by `|`; `=config:` another configuration, and `=further:` lines behind it, each ended by `;` (LF) or `^;` (CR LF), and of a pair of
-//! runs `=one:` those behind the one and `=other:` behind the other; `=no-config` and `=no-script` where that file is not there; `=file:NAME LINES` one more; `=record:ACCOUNT LINES` what the keeper holds before; `=reads:`, `=keeps:`, `=writes:` and
-//! `=link:` the numbers of the reads, of the keeper's calls, of the writes and of the link's calls that fail; `=journal` where the keeper is one over a journal in memory, and then
-//! `=disk:` in the place of `=keeps:` the numbers of the calls of its disk that fail; `=room:` and `=most:` how many bytes the sink takes in all
-//! and in one write; `=then:` the words of a second run over the same keeper, and `=before:` the status of the first one, 0 where it is not there.
+//! `=words:` the words of the run, separated by `|`; `=config:` another configuration, and `=further:` lines after it, each ended by `;` (LF) or `^;` (CR LF), and of a pair of
+//! runs `=one:` those after the one and `=other:` after the other; `=no-config` and `=no-script` where that file does not exist; `=file:NAME LINES` one more; `=record:ACCOUNT
+//! LINES` what the keeper holds before; `=reads:`, `=keeps:`, `=writes:` and `=link:` the numbers of the reads, of the keeper's calls, of the writes and of the link's calls that
+//! fail; `=journal` where the keeper is one over a journal in memory, and then `=disk:` in place of `=keeps:` the numbers of the calls of its disk that fail; `=room:` and `=most:`
+//! how many bytes the sink accepts in all and in one write; `=then:` the words of a second run over the same keeper, and `=before:` the status of the first one, 0 where it is
+//! absent.
 //!
-//! With `=link:`, which may name no call, what the script tells comes over a link too, and what that link was given is told behind what was written: each datagram behind the
-//! port that it goes to, and then the replies, the first line of each; with `=whole` each whole, its lines behind `|`, but for the first.
+//! With `=link:`, which may name no call, the events of the script come over a link too, and the outputs of that link are written after what was written: each datagram after the
+//! port to which it goes, and then the replies, the first line of each; with `=whole` each whole, its lines after `|`, except the first.
 
 use crate::pages::{Page, add_short};
 use mmtel_scan::{List, part, plain_number, skip_text};
@@ -36,7 +37,7 @@ pub fn first_setting(script: &[u8]) -> Option<(&[u8], &[u8])> {
     Some((line, later))
 }
 
-/// The value of a setting, of which the key is that which its line begins with.
+/// The value of a setting, whose line begins with this key.
 pub fn setting<'a>(script: &'a [u8], key: &[u8]) -> Option<&'a [u8]> {
     let mut rest = script;
     for _ in 0..12 {
@@ -49,12 +50,12 @@ pub fn setting<'a>(script: &'a [u8], key: &[u8]) -> Option<&'a [u8]> {
     None
 }
 
-/// The value of a setting; none of no bytes.
+/// The value of a setting; no bytes where it is absent.
 pub fn value<'a>(script: &'a [u8], key: &[u8]) -> &'a [u8] {
     setting(script, key).unwrap_or(b"")
 }
 
-/// What stands behind the settings.
+/// What follows the settings.
 pub fn behind_settings(script: &[u8]) -> &[u8] {
     let mut rest = script;
     for _ in 0..12 {
@@ -66,12 +67,12 @@ pub fn behind_settings(script: &[u8]) -> &[u8] {
     rest
 }
 
-/// The word, and what stands behind the blank that follows it.
+/// The word, and what follows the space after it.
 fn word(words: &[u8]) -> (&[u8], &[u8]) {
     cut(b' ', words)
 }
 
-/// The numbers that stand in a setting.
+/// The numbers in a setting.
 pub fn numbers(page: &mut Page, script: &[u8], key: &[u8]) -> List<u64> {
     let mut list = List::new();
     let mut rest = value(script, key);
@@ -89,7 +90,7 @@ pub fn numbers(page: &mut Page, script: &[u8], key: &[u8]) -> List<u64> {
     list
 }
 
-/// How many bytes a setting says; as many as a listing may have where it is not there.
+/// The number of bytes in a setting; the maximum length of a listing where it is absent.
 pub fn bytes_of(script: &[u8], key: &[u8]) -> usize {
     let most: usize = 65_536;
     match plain_number(65_536, value(script, key)) {
@@ -109,7 +110,7 @@ pub fn config(page: &Page, script: &[u8]) -> Page {
     text
 }
 
-/// The lines that the configuration of the first or of the second of two runs has behind it.
+/// The lines after the configuration of the first or of the second of two runs.
 pub fn of_pair(script: &[u8], first: bool) -> &[u8] {
     if first {
         value(script, b"one:")
@@ -118,7 +119,7 @@ pub fn of_pair(script: &[u8], first: bool) -> &[u8] {
     }
 }
 
-/// The name or number that a setting begins with, and its lines behind it.
+/// The name or number with which a setting begins, and its lines after it.
 pub fn named<'a>(page: &Page, setting: &'a [u8]) -> (&'a [u8], Page) {
     let (name, lines) = word(setting);
     let mut text = Page::new(page.alloc);

@@ -1,4 +1,4 @@
-//! What counts is how things stood in the step: which record decides of a call that is under way, whom a row charges, from when to when, and in which order rows come.
+//! The state in the step counts: which record decides about a call in progress, whom a row charges, from when to when, and in which order rows come.
 
 use crate::asserting::assert_right;
 use crate::cases::wrong_run;
@@ -99,7 +99,7 @@ at 100 to 1|SIP/2.0 180 Ringing|Via: SIP/2.0/UDP 127.0.0.1:5071;branch=z9hG4bKa1
 |Call-ID: c1|CSeq: 1 INVITE|Contact: <sip:127.0.0.1:5060>|Content-Length: 0|
 "#;
 
-/// A record is read when the call reaches its account, and by no event before or behind that.
+/// A record is read when the call reaches its account, and by no event before or after that.
 #[test]
 fn records_as_they_stood(rt: HostRuntime) {
     assert_right(&rt, "RECORDS", wrong_run(rt.alloc(), RECORDS));
@@ -150,7 +150,7 @@ origin,1,1,10,100,32100,0,ended,0
 terminating,2,1,10,100,32100,0,ended,0
 "#;
 
-/// Who has a seat is charged, and rows come in the order of the steps that closed them.
+/// Who is a participant is charged, and rows come in the order of the steps that closed them.
 #[test]
 fn rows_as_they_closed(rt: HostRuntime) {
     assert_right(&rt, "ROWS", wrong_run(rt.alloc(), ROWS));

@@ -1,6 +1,6 @@
-//! What a call does at each message and deadline, by the phase in which it is (RFC 3261 §9, §12 to §15).
+//! The result of a call for each message and deadline, by its phase (RFC 3261 §9, §12 to §15).
 //!
-//! Each is a script and the listing that is due, in the form of `cases`. Records stand as comments before the bytes in which they are put.
+//! Each is a script and its expected listing, in the form of `cases`. Records are comments before the bytes in which they are uploaded.
 
 use crate::asserting::assert_right;
 use crate::cases::wrong_run;
@@ -545,7 +545,7 @@ fn answered(rt: HostRuntime) {
     assert_right(&rt, "ANSWERED", wrong_run(rt.alloc(), ANSWERED));
 }
 
-/// One side asks for another session.
+/// One side sends a re-INVITE.
 const ASKING: &[u8] = br#"~ Bob asks alice for another session, and she agrees.
 at 0 peer 1|INVITE sip:bob@home.example SIP/2.0|Via: SIP/2.0/UDP 127.0.0.1:5071;branch=z9hG4bKc1|Max-Forwards: 68|From: "Alice" <sip:alice@home.example>;tag=t1
 |To: <sip:bob@home.example>|Call-ID: call1|CSeq: 7 INVITE|Contact: <sip:alice@127.0.0.1:5071>|P-Asserted-Identity: <sip:alice@home.example>|Content-Length: 0|
@@ -989,7 +989,7 @@ fn asking(rt: HostRuntime) {
     assert_right(&rt, "ASKING", wrong_run(rt.alloc(), ASKING));
 }
 
-/// What comes late, and what is shown to whom.
+/// Late messages, and which identities are passed on to whom.
 const LATE: &[u8] = br#"~ A 200 of another dialog comes in a talking call.
 at 0 peer 1|INVITE sip:bob@home.example SIP/2.0|Via: SIP/2.0/UDP 127.0.0.1:5071;branch=z9hG4bKc1|Max-Forwards: 68|From: "Alice" <sip:alice@home.example>;tag=t1
 |To: <sip:bob@home.example>|Call-ID: call1|CSeq: 7 INVITE|Contact: <sip:alice@127.0.0.1:5071>|P-Asserted-Identity: <sip:alice@home.example>|Content-Length: 0|

@@ -1,5 +1,5 @@
-//! Records over HTTP (3GPP TS 24.623 §5; RFC 9110 §9.3 and §15): who may read, put and delete one, what is refused and with which status, and that one is in force exactly
-//! where the keeper stored it.
+//! Records over HTTP (3GPP TS 24.623 §5; RFC 9110 §9.3 and §15): who may read, put and delete one, what is refused and with which status, and that one is in force exactly where
+//! the keeper stored it.
 
 use crate::asserting::assert_right;
 use crate::cases::wrong_run;
@@ -127,7 +127,7 @@ at 1 web|HTTP/1.1 200 OK|Content-Type: application/toml|Content-Length: 38|Conne
 x5b636f6d6d756e69636174696f6e2d77616974696e675d0a616374697665203d20747275650a
 "#;
 
-/// The table, for another module's test too.
+/// The table, for a test of another module too.
 pub fn upload_runs() -> &'static [u8] {
     UPLOADS
 }

@@ -6,8 +6,8 @@ use crate::pages::{Page, is_well};
 use mmtel_told::cut;
 use std::alloc::Global;
 
-/// What each list of words, parted here by `|`, makes a run write. The name of the configuration is that of a file whose first line is bad, so that a run ends with its
-/// number, and that is no service record; every other name is of no file, and no file is read for words that ask for nothing. `?` stands for a byte that no UTF-8 text has.
+/// What a run of each list of words, separated here by `|`, writes. The name of the configuration is that of a file whose first line is bad, so that a run ends with its number,
+/// and that is no service record; every other name is of no file, and no file is read for words that are no command. `?` represents a byte that no UTF-8 text has.
 const WORDS: &[u8] = b"line 1|replay|c|s|--token|0123456789abcdef
 line 1|replay|c|--token|0123456789abcdef|s
 line 1|replay|--token|0123456789abcdef|c|s
@@ -180,7 +180,7 @@ fn status_of(due: &[u8]) -> u64 {
     }
 }
 
-/// Whether the words of a row make a run write what it says, over three files.
+/// Whether the words of a row make a run write the row's result, over three files.
 fn is_right(alloc: Global, row: &[u8]) -> bool {
     let (due, words) = cut(b'|', row);
     let mut case = Page::new(alloc);
@@ -197,7 +197,7 @@ fn is_right(alloc: Global, row: &[u8]) -> bool {
     is_well(line) && well && right
 }
 
-/// The number of the first row that is not right, from 1; 0 where each is, of two hundred at most.
+/// The number of the first row that is wrong, from 1; 0 where none is, of two hundred at most.
 fn wrong_row(alloc: Global, table: &[u8]) -> usize {
     let mut rest = table;
     for number in 0..200 {

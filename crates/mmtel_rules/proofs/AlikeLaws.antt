@@ -1,4 +1,4 @@
--- Callers that answer the identity parts of the rules alike meet the same decision.
+-- The decision is the same for callers for which the identity parts of the rules have the same truth values.
 use Rattle.std.proofs.Common.{◌≡◌, Bool, ◌&&◌, List, [], ◌∷◌, Option, Some, None, refl, ap}
 use Rattle.std.specs.Prelude.{option_to_list}
 use Rattle.std.specs.List.{AllByRecursion, cons_option, list_any}

@@ -1,4 +1,4 @@
--- Tests of the items of a list, and the least place that passes one.
+-- Tests of the items of a list, and the least index that passes one.
 use Rattle.std.proofs.Common.{◌≡◌, ℕ, suc, Bool, true, false, cond, ◌||◌, List, [], ◌∷◌, ◌++◌, length, Some, None, refl, sym, ap, ◌∙◌, inl, inr, arith}
 use Rattle.std.specs.Prelude.{IfSome, is_some, nat_lt, position}
 use Rattle.std.specs.List.{AllByRecursion, list_any, position_or_len}
@@ -7,7 +7,7 @@ use Rattle.std.proofs.lemmas.Bool.Decides.{nat_tests}
 use Rattle.mmtel_sheet_values.specs.declared.values.Rule.{Rule}
 use Rattle.mmtel_rules.specs.Rules.{IsLeast}
 
--- tests that agree on each item find the same
+-- tests that agree on each item find the same index
 
 pub list_any_alike : {A : Type 0} (p q : A → Bool) (xs : List A) → AllByRecursion (λ x. p x ≡ q x) xs → list_any p xs ≡ list_any q xs
 list_any_alike p q [] a = refl
@@ -24,7 +24,7 @@ pub all_of : {A : Type 0} (P Q : A → Type 0) (xs : List A) → ((x : A) → P 
 all_of P Q [] f a = tt
 all_of P Q (x ∷ xs) f a = (f x a.0, all_of P Q xs f a.1)
 
--- a place is found exactly where some item passes
+-- an index is found exactly where some item passes
 
 found : {A : Type 0} (p : A → Bool) (xs : List A) → nat_lt (position_or_len p xs) (length xs) ≡ list_any p xs
 found p [] = refl
@@ -40,7 +40,7 @@ some_if false n = refl
 pub is_some-position : {A : Type 0} (p : A → Bool) (xs : List A) → is_some (position p xs) ≡ list_any p xs
 is_some-position p xs = some_if (nat_lt (position_or_len p xs) (length xs)) (position_or_len p xs) ∙ found p xs
 
--- an item that passes is found whatever stands around it
+-- an item that passes is found whatever precedes and follows it
 
 pub or_true : (b c : Bool) → c ≡ true → (b || c) ≡ true
 or_true true c e = refl
@@ -50,7 +50,7 @@ pub list_any_within : {A : Type 0} (p : A → Bool) (front back : List A) (x : A
 list_any_within p [] back x e = rw e refl
 list_any_within p (y ∷ front) back x e = or_true (p y) (list_any p (front ++ x ∷ back)) (list_any_within p front back x e)
 
--- what is found is the least place whose rule passes
+-- what is found is the least index whose rule passes
 
 at_least : (test : Rule → Bool) (rules : List Rule) → list_any test rules ≡ true → IsLeast test rules (position_or_len test rules)
 at_least test [] e = absurd cc

@@ -20,7 +20,7 @@ use Rattle.mmtel_rules.specs.declared.values.Identities2.{Identities2}
 use Rattle.mmtel_rules.specs.declared.values.When.{When}
 use Rattle.mmtel_rules.proofs.Places.{is_some-position, list_any_within, position_is_least}
 
--- ---- nobody
+-- ---- a party without identities
 
 nothing_named : (i : Identities2) (us : List Uri) → i.sip ≡ None → i.tel ≡ None → names i us ≡ false
 nothing_named i [] e f = refl
@@ -92,7 +92,7 @@ window_to_come now window w e h = rw (e, beginning_to_come w.from now h) refl
 
 -- ---- barring
 
--- barred exactly where some rule holds and none lets the call through
+-- barred exactly where some rule holds and none allows the call
 
 some_unless : (b : Bool) (found : Option ℕ) → is_some (cond b None found) ≡ (is_some found && not b)
 some_unless true None = refl

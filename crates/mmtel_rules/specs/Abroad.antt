@@ -9,7 +9,7 @@ use Rattle.mmtel_lex.specs.declared.values.Param.{Param}
 use Rattle.mmtel_lex.specs.declared.values.Uri.{Uri}
 use Rattle.mmtel_lex.specs.declared.values.Uri.TheVariants.{Sip, Tel}
 
--- the digits behind a '+'
+-- the digits after a '+'
 abbrev pub behind_plus : List ℕ → Option (List ℕ)
 behind_plus [] = None
 behind_plus (b ∷ s) = if b == 43 then Some s else None
@@ -23,17 +23,17 @@ abbrev pub where_digits : Option (List ℕ) → Option (List ℕ)
 where_digits None = None
 where_digits (Some digits) = if are_digits digits then Some digits else None
 
--- of a sip URI that stands for a number (RFC 3261 §19.1.6)
+-- of a sip URI that represents a telephone number (RFC 3261 §19.1.6)
 abbrev pub of_user : Option (List ℕ) → List Param → Option (List ℕ)
 of_user None params = None
 of_user (Some user) params = if has_user_phone params then where_digits (behind_plus user) else None
 
--- what stands behind the '+' of the global number that the URI is, or stands for
+-- what follows the '+' of the global number that the URI is, or represents
 abbrev pub global_digits : Uri → Option (List ℕ)
 global_digits (Sip user host port params headers) = of_user user params
 global_digits (Tel number params) = behind_plus number
 
--- the first is a front of the second
+-- the first is a prefix of the second
 abbrev pub begins : List ℕ → List ℕ → Bool
 begins [] s = true
 begins (b ∷ bs) [] = false

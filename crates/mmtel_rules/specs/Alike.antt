@@ -1,5 +1,4 @@
--- Callers that answer alike: whoever two callers are, a decision cannot tell them apart where they answer alike to each identity part that it asks, and both or neither
--- have an identity.
+-- Equivalent callers: a decision is the same for two callers for which each identity part that it evaluates has the same truth value, and of whom both or neither have an identity.
 use Rattle.std.specs.Prelude.{◌≡◌, Bool, List}
 use Rattle.std.specs.List.{AllByRecursion, filter_map}
 use Rattle.mmtel_sheet_values.specs.declared.values.Rule.{Rule}
@@ -9,6 +8,6 @@ use Rattle.mmtel_sheet_values.specs.declared.values.Who.{Who}
 abbrev pub identity_parts : List Rule → List Who
 identity_parts rules = filter_map (λ (r : Rule). r.condition.identity) rules
 
--- the answers to each of these parts are the same
+-- each of these parts has the same truth value for both
 abbrev pub AnswerAlike : (asks asks2 : Who → Bool) → List Who → Type 0
 AnswerAlike asks asks2 parts = AllByRecursion (λ who. asks who ≡ asks2 who) parts

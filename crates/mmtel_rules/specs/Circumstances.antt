@@ -1,6 +1,6 @@
--- What is known of a call when rules are asked of it: all that a condition may be about (RFC 4745 §6 and §7, TS 24.604 §4.9.1), and which event happened stands beside it.
+-- The facts of a call when rules are evaluated: all to which a condition may refer (RFC 4745 §6 and §7, TS 24.604 §4.9.1), but for the event that happened, which is separate.
 --
--- The definitions above hand it on whole. What a further kind of condition is about is one more field here, and changes none of them.
+-- The definitions above pass it on whole. A further kind of condition needs one more field here, and changes none of them.
 use Rattle.std.specs.Prelude.{ℕ, Bool, List}
 use Rattle.mmtel_sheet_values.specs.declared.values.Who.{Who}
 use Rattle.mmtel_rules.specs.Identities.{has_identity, identity_holds}
@@ -8,11 +8,11 @@ use Rattle.mmtel_rules.specs.declared.values.Facts.{Facts}
 use Rattle.mmtel_rules.specs.declared.values.Identities2.{Identities2}
 
 pub record Circumstances : Type 0 where
-  -- of the other party, which is the caller, or the target where a call is barred on its way out: whether the identity part of a condition is true of it, and whether it
-  -- has an identity at all
+  -- of the other party, which is the caller, or the target where outgoing barring is evaluated: whether the identity part of a condition is true of it, and whether it has an
+  -- identity at all
   pub asks : Who → Bool
   pub has_identity : Bool
-  -- the caller hides who it is
+  -- the caller is anonymous
   pub restricted : Bool
   -- the kinds of media that are offered
   pub media : List (List ℕ)
@@ -23,7 +23,7 @@ pub record Circumstances : Type 0 where
   -- the target that is the other party is abroad
   pub abroad : Bool
 
--- what the facts of the program tell: of the identities of the other party only which conditions are true of it, and whether it has any
+-- the facts of the program, as seen here: of the identities of the other party only which conditions are true of it, and whether it has any
 abbrev pub known : Facts → Circumstances
 known f = record {
   asks = identity_holds f.caller.now;
@@ -35,10 +35,10 @@ known f = record {
   abroad = f.abroad;
 }
 
--- the same circumstances, with these answers of the other party
+-- the same facts, with these truth values of the identity parts
 abbrev pub asked : Circumstances → (Who → Bool) → Circumstances
 asked k asks = record k { asks = asks }
 
--- the same circumstances, where the other party has these identities
+-- the same facts, where the other party has these identities
 abbrev pub of_party : Identities2 → Circumstances → Circumstances
 of_party i k = record k { asks = identity_holds i; has_identity = has_identity i }

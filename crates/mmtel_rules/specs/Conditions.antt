@@ -1,6 +1,6 @@
--- When a condition holds: each part of it that is there does (RFC 4745 §6, TS 24.604 §4.9.1).
+-- When a condition holds: each part of it that is present does (RFC 4745 §6, TS 24.604 §4.9.1).
 --
--- Of the identities of the other party only the answers count, `asks`, one for each identity part of a condition.
+-- Of the identities of the other party only `asks` counts: a truth value for each identity part of a condition.
 use Rattle.std.specs.Prelude.{ℕ, ◌/◌, ℤ, pos, ◌+ℤ◌, unsigned_abs, int_lt, int_le, nat_le, nat_lt, slice_index_or, Bool, true, false, not, ◌&&◌, ◌||◌, List, Option, Some, None}
 use Rattle.std.specs.Int.{int_div_euclid, int_rem_euclid}
 use Rattle.std.specs.List.{list_any}
@@ -20,11 +20,11 @@ use Rattle.mmtel_rules.specs.declared.values.When.TheVariants.{Arrival, Busy, No
 abbrev pub who_holds : (Who → Bool) → Option Who → Bool
 who_holds asks who = option_map_or asks who true
 
--- what is asked is so: the caller hides who it is, the call was diverted before, the target is abroad
+-- the fact is true, where the condition requires it: the caller is anonymous, the call was diverted before, the target is abroad
 abbrev pub fact_holds : (is_so asked : Bool) → Bool
 fact_holds is_so asked = not asked || is_so
 
--- it is that time, the end of which is past it (RFC 4745 §7.3)
+-- the moment is within that time, the end of which is not in it (RFC 4745 §7.3)
 abbrev pub window_holds : ℕ → Option Window → Bool
 window_holds now None = true
 window_holds now (Some w) = int_le w.from (pos now) && int_lt (pos now) w.until
@@ -41,7 +41,7 @@ weekday minutes = unsigned_abs (int_rem_euclid (int_div_euclid minutes (pos 1_44
 abbrev pub minute_of_day : ℤ → ℕ
 minute_of_day minutes = unsigned_abs (int_rem_euclid minutes (pos 1_440))
 
--- it is one of these hours, the end of which is past them, of one of these days
+-- the moment is within these hours, the end of which is not in them, of one of these days
 abbrev pub hours_hold : Weekly → ℤ → Bool
 hours_hold w minutes = slice_index_or w.days (weekday minutes) false && (nat_le w.from (minute_of_day minutes) && nat_lt (minute_of_day minutes) w.until)
 
@@ -86,16 +86,16 @@ is_arrival Busy = false
 is_arrival NoAnswer = false
 is_arrival NotReachable = false
 
--- the event of the condition happened; one that names none is asked where the call arrives
+-- the event of the condition happened; a condition without an event is evaluated on arrival
 abbrev pub event_holds : When → Option EventWord → Bool
 event_holds when None = is_arrival when
 event_holds when (Some event) = is_event event when
 
--- where the call goes, what became of it before, and the hours of the week
+-- the parts on where the call goes, whether it was diverted before, and the hours of the week
 abbrev pub further_holds : Circumstances → Condition → Bool
 further_holds k c = fact_holds k.diverted c.diverted && (fact_holds k.abroad c.abroad && weekly_holds k.now c.weekly)
 
--- each part that is there holds
+-- each part that is present holds
 unfoldable pub condition_holds : Circumstances → When → Condition → Bool
 condition_holds k when c =
     who_holds k.asks c.identity && (fact_holds k.restricted c.anonymous && (window_holds k.now c.window

@@ -1,7 +1,7 @@
--- What a rule asks of an identity (RFC 4745 §7.1): some `one` equals it, or it is of the domain `many` and no `except` equals it. A party may have two identities, of which
+-- The identity part of a rule (RFC 4745 §7.1): some `one` equals the identity, or it is of the domain `many` and no `except` equals it. A party may have two identities, of which
 -- one suffices, and which no `except` may equal.
 --
--- All that a decision knows of the identities of a party is what `identity_holds` and `has_identity` answer.
+-- All that a decision uses of the identities of a party is `identity_holds` and `has_identity`.
 use Rattle.std.specs.Prelude.{ℕ, Bool, false, not, ◌&&◌, ◌||◌, List, ◌++◌, Option, Some, None, is_some, codes}
 use Rattle.std.specs.List.{list_any}
 use Rattle.std.specs.Option.{option_map_or, option_to_list}

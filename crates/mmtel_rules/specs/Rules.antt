@@ -1,4 +1,5 @@
--- Which rule of a list decides: the least that holds (TS 24.604 §4.9.1), or, where calls are barred, none that holds may allow the call (TS 24.611 §4.9.1 and RFC 4745 §10).
+-- Which rule of a list decides: the first that holds (TS 24.604 §4.9.1), or, in barring, the first that holds unless one that holds allows the call (TS 24.611 §4.9.1 and RFC 4745
+-- §10).
 use Rattle.std.specs.Prelude.{◌≡◌, ℕ, Bool, true, false, not, ◌&&◌, List, ◌∷◌, ◌++◌, length, Option, None, position, if◌then◌else◌}
 use Rattle.std.specs.List.{list_any}
 use Rattle.mmtel_sheet_values.specs.declared.values.Action.{Action}
@@ -12,20 +13,20 @@ use Rattle.mmtel_rules.specs.declared.values.When.TheVariants.{Arrival}
 abbrev pub rule_holds : Circumstances → When → Rule → Bool
 rule_holds k when r = condition_holds k when r.condition
 
--- the least place whose rule holds
+-- the least index whose rule holds
 abbrev pub first_that_holds : Circumstances → When → List Rule → Option ℕ
 first_that_holds k when rules = position (rule_holds k when) rules
 
--- the rule lets calls through; one that diverts them does not
+-- the rule allows calls; one that diverts them does not
 abbrev pub allows : Action → Bool
 allows (Allow allowed) = allowed
 allows (Forward forward) = false
 
--- the moment that barring is asked of: the call arrives, and the user counts as registered
+-- the event at which barring is evaluated: the call arrives, and the user counts as registered
 abbrev pub arrival : When
 arrival = Arrival true
 
--- the rule holds on arrival and lets the call through
+-- the rule holds on arrival and allows the call
 abbrev pub lets_through : Circumstances → Rule → Bool
 lets_through k r = allows r.action && rule_holds k arrival r
 
@@ -33,17 +34,17 @@ lets_through k r = allows r.action && rule_holds k arrival r
 abbrev pub is_let_through : Circumstances → List Rule → Bool
 is_let_through k rules = list_any (lets_through k) rules
 
--- the least place whose rule holds on arrival, where no rule that holds there lets the call through
+-- the least index whose rule holds on arrival, where no rule that holds there allows the call
 abbrev pub barred_by : Circumstances → List Rule → Option ℕ
 barred_by k rules =
     if is_let_through k rules then None else first_that_holds k arrival rules
 
--- the call is barred: some rule holds on arrival, and none that holds there lets it through
+-- the call is barred: some rule holds on arrival, and none that holds there allows it
 abbrev pub is_barred : Circumstances → List Rule → Bool
 is_barred k rules =
     list_any (rule_holds k arrival) rules && not (is_let_through k rules)
 
--- the place is the least whose rule passes the test
+-- the index is the least whose rule passes the test
 pub record IsLeast (test : Rule → Bool) (rules : List Rule) (place : ℕ) : Type 0 where
   pub before : List Rule
   pub rule : Rule

@@ -7,7 +7,7 @@ use crate::conditions::holds;
 use crate::values::{Facts, When};
 use mmtel_sheet_values::{Action, Rule};
 
-/// The least index of a rule that holds; None exactly where none does. It takes no memory.
+/// The least index of a rule that holds; None exactly where none does. It allocates nothing.
 pub fn first(rules: &[Rule], f: &Facts, when: When) -> Option<usize>
     ensures exact { let facts = f.entry.now in result ≡ first_that_holds (known facts) when rules.now }
 {
@@ -16,7 +16,7 @@ pub fn first(rules: &[Rule], f: &Facts, when: When) -> Option<usize>
         .position(|rule| holds(&rule.condition, f, when))
 }
 
-/// Whether the rule lets calls through.
+/// Whether the rule allows calls.
 fn allows(rule: &Rule) -> bool
     ensures { result ≡ allows rule.now.action }
 {
@@ -26,14 +26,14 @@ fn allows(rule: &Rule) -> bool
     }
 }
 
-/// Whether the rule holds as the call arrives at a registered user, and lets it through.
+/// Whether the rule holds as the call arrives at a registered user, and allows it.
 fn lets_through(rule: &Rule, f: &Facts) -> bool
     ensures { let facts = f.entry.now in result ≡ lets_through (known facts) rule.now }
 {
     allows(rule) && holds(&rule.condition, f, When::Arrival { registered: true })
 }
 
-/// Whether one of the rules lets the call through.
+/// Whether one of the rules allows the call.
 fn is_let_through(rules: &[Rule], f: &Facts) -> bool
     ensures { let facts = f.entry.now in result ≡ is_let_through (known facts) rules.now }
 {
@@ -41,7 +41,7 @@ fn is_let_through(rules: &[Rule], f: &Facts) -> bool
 }
 
 /// The least index of a rule that holds as the call arrives at a registered user, where no rule that holds then allows the call; None exactly where none holds or one of
-/// them allows it (TS 24.611 §4.9.1 and RFC 4745 §10). It takes no memory.
+/// them allows it (TS 24.611 §4.9.1 and RFC 4745 §10). It allocates nothing.
 pub fn all_bar(rules: &[Rule], f: &Facts) -> Option<usize>
     ensures exact { let facts = f.entry.now in result ≡ barred_by (known facts) rules.now }
 {

@@ -10,7 +10,7 @@ use mmtel_lex::{List, Text};
 use mmtel_sheet_values::{Condition, EventWord, Weekly, Window};
 use mmtel_types::Moment;
 
-/// Whether it is that time.
+/// Whether the moment is within that time.
 fn window_holds(window: &Option<Window>, now: Moment) -> bool
     ensures { result ≡ window_holds now window.now }
 {
@@ -45,7 +45,7 @@ fn minute_of_day(minutes: i64) -> u16
     minutes.rem_euclid(1440) as u16
 }
 
-/// Whether it is one of the hours of one of the days.
+/// Whether the moment is within the hours of one of the days.
 fn hours_hold(weekly: &Weekly, minutes: i64) -> bool
     ensures { result ≡ hours_hold weekly.now minutes }
 {
@@ -53,7 +53,7 @@ fn hours_hold(weekly: &Weekly, minutes: i64) -> bool
     weekly.days[weekday(minutes)] && weekly.from <= minute && minute < weekly.until
 }
 
-/// Whether it is one of those hours of the week.
+/// Whether the moment is within those hours of the week.
 fn weekly_holds(weekly: &Option<Weekly>, now: Moment) -> bool
     ensures { result ≡ weekly_holds now weekly.now }
 {
@@ -63,14 +63,14 @@ fn weekly_holds(weekly: &Option<Weekly>, now: Moment) -> bool
     }
 }
 
-/// Whether what is asked is so.
+/// Whether the fact is true, where the condition requires it.
 fn fact_holds(is_so: bool, asked: bool) -> bool
     ensures { result ≡ fact_holds is_so asked }
 {
     !asked || is_so
 }
 
-/// Whether the call goes where the condition says, was diverted as it says, and comes at its hours of the week.
+/// Whether the call goes where the condition says, was diverted as it says, and arrives at its hours of the week.
 fn further_holds(c: &Condition, f: &Facts) -> bool
     ensures { let facts = f.entry.now in result ≡ further_holds (known facts) c.now }
 {
@@ -93,7 +93,7 @@ fn is_one_offered(words: &[Text], offered: &[Text]) -> bool
     words.iter().any(|word| is_offered(word, offered))
 }
 
-/// Whether one of the kinds of media is offered, where some are listed.
+/// Whether one of the kinds of media is offered, where the condition lists any.
 fn media_holds(media: &Option<List<Text>>, offered: &[Text]) -> bool
     ensures { result ≡ media_holds offered.now media.now }
 {
@@ -103,7 +103,7 @@ fn media_holds(media: &Option<List<Text>>, offered: &[Text]) -> bool
     }
 }
 
-/// Whether this is the event.
+/// Whether the event happened.
 fn is_event(event: EventWord, when: When) -> bool
     ensures { result ≡ is_event event when }
 {
@@ -115,7 +115,7 @@ fn is_event(event: EventWord, when: When) -> bool
     }
 }
 
-/// Whether this is the event of the condition, or the arrival where it names none.
+/// Whether the event of the condition happened, or the arrival where it names none.
 fn event_holds(event: Option<EventWord>, when: When) -> bool
     ensures { result ≡ event_holds when event }
 {
@@ -125,7 +125,7 @@ fn event_holds(event: Option<EventWord>, when: When) -> bool
     }
 }
 
-/// Whether the condition holds: each part of it that is there does (RFC 4745 §6, TS 24.604 §4.9.1). It takes no memory.
+/// Whether the condition holds: each part of it that is present does (RFC 4745 §6, TS 24.604 §4.9.1). It allocates nothing.
 #[tactic(auto, unfolding(crate::specs::Conditions::condition_holds))]
 pub fn holds(c: &Condition, f: &Facts, when: When) -> bool
     ensures exact { let facts = f.entry.now in result ≡ condition_holds (known facts) when c.now }

@@ -51,7 +51,7 @@ fn has_user_phone(params: &[Param]) -> bool
     }
 }
 
-/// What stands behind the `+`.
+/// What follows the `+`.
 fn behind_plus(bytes: &[u8]) -> Option<&[u8]>
     ensures { option_copied result ≡ behind_plus bytes.now }
 {
@@ -61,7 +61,7 @@ fn behind_plus(bytes: &[u8]) -> Option<&[u8]>
     }
 }
 
-/// The digits of the number that a sip URI with this user and these parameters stands for.
+/// The digits of the number that a sip URI with this user and these parameters represents.
 fn of_user<'a>(user: &'a Option<Text>, params: &[Param]) -> Option<&'a [u8]>
     ensures { option_copied result ≡ of_user user.now params.now }
 {
@@ -77,7 +77,7 @@ fn of_user<'a>(user: &'a Option<Text>, params: &[Param]) -> Option<&'a [u8]>
     }
 }
 
-/// What stands behind the `+` of the global number that the URI is, or stands for.
+/// What follows the `+` of the global number that the URI is, or represents.
 fn global_digits(uri: &Uri) -> Option<&[u8]>
     ensures { option_copied result ≡ global_digits uri.now }
 {
@@ -87,7 +87,7 @@ fn global_digits(uri: &Uri) -> Option<&[u8]>
     }
 }
 
-/// Whether the URI is a telephone number of another country, or stands for one (TS 24.611 §4.9.1.3); never where the home country is not known. It takes no memory.
+/// Whether the URI is a telephone number of another country, or represents one (TS 24.611 §4.9.1.3); never where the home country is not known. It allocates nothing.
 pub fn abroad(uri: &Uri, country: Option<&Text>) -> bool
     ensures exact { result ≡ is_abroad uri.now (option_copied country.entry) }
 {

@@ -1,4 +1,4 @@
-//! What a rule asks of an identity.
+//! The identity part of a rule.
 ghost use Rattle.std.specs.Prelude.{◌≡◌};
 ghost use Rattle.mmtel_rules.specs.Identities.{has_domain, identity_holds, is_in_domain, is_named, many_holds, names};
 

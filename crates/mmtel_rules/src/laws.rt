@@ -1,4 +1,4 @@
-//! Laws of the definitions that contracts cite: each is the contract of a function that does nothing.
+//! Theorems about the definitions that contracts cite: each is the contract of a function that does nothing.
 ghost use Rattle.std.specs.Prelude.{◌≡◌, ◌⊎◌, ℕ, pos, ◌≤ℤ◌, ◌<ℤ◌, Bool, true, false, List, ◌∷◌, ◌++◌, Some, None, IfSome, is_some, option_to_list};
 ghost use Rattle.std.specs.List.{list_any};
 ghost use Rattle.std.specs.List.Sorted.{IsPermutation};
@@ -15,42 +15,42 @@ ghost use Rattle.mmtel_sheet_values.specs.declared.values.Rule.{Rule};
 ghost use Rattle.mmtel_sheet_values.specs.declared.values.Who.{Who};
 ghost use Rattle.mmtel_sheet_values.specs.declared.values.Window.{Window};
 
-/// A condition holds for both of two callers, or for neither, where they answer its identity part alike.
+/// A condition holds for both of two callers, or for neither, where its identity part has the same truth value for both.
 pub fn condition_sees_answers_alone()
     ensures same { (asks asks2 : Who → Bool) (k : Circumstances) (when : When) (c : Condition) → AnswerAlike asks asks2 (option_to_list c.identity) →
         condition_holds (asked k asks) when c ≡ condition_holds (asked k asks2) when c }
 {}
 
-/// The same rule is the first that holds for two callers that answer the identity parts of the rules alike.
+/// The same rule is the first that holds for two callers for which the identity parts of the rules have the same truth values.
 pub fn first_sees_answers_alone()
     ensures same { (asks asks2 : Who → Bool) (k : Circumstances) (when : When) (rules : List Rule) → AnswerAlike asks asks2 (identity_parts rules) →
         first_that_holds (asked k asks) when rules ≡ first_that_holds (asked k asks2) when rules }
 {}
 
-/// The same rule bars two callers, or none does, that answer the identity parts of the rules alike.
+/// The same rule bars two callers, or none does, for which the identity parts of the rules have the same truth values.
 pub fn barring_sees_answers_alone()
     ensures same { (asks asks2 : Who → Bool) (k : Circumstances) (rules : List Rule) → AnswerAlike asks asks2 (identity_parts rules) →
         barred_by (asked k asks) rules ≡ barred_by (asked k asks2) rules }
 {}
 
-/// A party without an identity answers no to each identity part.
+/// No identity part is true of a party without an identity.
 pub fn nobody_is_meant()
     ensures no { (i : Identities2) (who : Who) → has_identity i ≡ false → identity_holds i who ≡ false }
 {}
 
-/// The rule that is found holds, and none before it does; none is found exactly where none holds.
+/// The returned rule holds, and none before it does; None is returned exactly where none holds.
 pub fn least_rule_is_found()
     ensures least { (k : Circumstances) (when : When) (rules : List Rule) → IfSome (first_that_holds k when rules) (IsLeast (rule_holds k when) rules) }
     ensures some { (k : Circumstances) (when : When) (rules : List Rule) → is_some (first_that_holds k when rules) ≡ list_any (rule_holds k when) rules }
 {}
 
-/// A call is barred exactly where some rule holds as it arrives, and none that holds then lets it through; the rule that is named is the least that holds.
+/// A call is barred exactly where some rule holds as it arrives, and none that holds then allows it; the rule that is returned is the first that holds.
 pub fn barred_where_no_rule_allows()
     ensures barred { (k : Circumstances) (rules : List Rule) → is_some (barred_by k rules) ≡ is_barred k rules }
     ensures least { (k : Circumstances) (rules : List Rule) → IfSome (barred_by k rules) (IsLeast (rule_holds k arrival) rules) }
 {}
 
-/// A rule that holds as the call arrives and allows it lets it through, wherever it stands among the rules.
+/// A rule that holds as the call arrives and allows it lets it through, whatever its place among the rules.
 pub fn allowing_rule_wins()
     ensures through { (k : Circumstances) (front back : List Rule) (r : Rule) → allows r.action ≡ true → rule_holds k arrival r ≡ true → barred_by k (front ++ r ∷ back) ≡ None }
 {}
@@ -60,7 +60,7 @@ pub fn order_of_rules_bars_alike()
     ensures same { (k : Circumstances) (rules other : List Rule) → IsPermutation rules other → is_some (barred_by k rules) ≡ is_some (barred_by k other) }
 {}
 
-/// A condition holds at no moment outside its window: none at its end or past it, and none before its beginning.
+/// A condition holds at no moment outside its window: none at its end or after it, and none before its beginning.
 pub fn window_is_kept()
     ensures passed { (k : Circumstances) (when : When) (c : Condition) (w : Window) → c.window ≡ Some w → w.until ≤ℤ pos k.now → condition_holds k when c ≡ false }
     ensures to_come { (k : Circumstances) (when : When) (c : Condition) (w : Window) → c.window ≡ Some w → pos k.now <ℤ w.from → condition_holds k when c ≡ false }

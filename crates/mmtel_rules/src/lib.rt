@@ -1,6 +1,6 @@
 //! Rules of the services: the conditions under which one holds, and which of a list decides (RFC 4745 §6 and §7, TS 24.604 §4.9.1, TS 24.611 §4.9.1).
 //!
-//! No call takes memory, so a decision never fails.
+//! No function allocates, so a decision never fails.
 #![tactic(auto)]
 
 mod choosing;

@@ -1,4 +1,4 @@
-//! What conditions are asked of.
+//! The facts on which conditions are evaluated.
 
 use mmtel_lex::{List, Text, Uri};
 use mmtel_types::Moment;
@@ -12,24 +12,24 @@ pub struct Identities2 {
     pub tel: Option<Uri>,
 }
 
-/// What is known of a call when its rules are asked.
+/// The facts of a call when its rules are evaluated.
 #[derive(Clone, Copy)]
 pub struct Facts<'a> {
-    /// The identities of the caller; where a call is barred on its way out, those of the target.
+    /// The identities of the caller; where outgoing barring is evaluated, those of the target.
     pub caller: &'a Identities2,
-    /// The caller hides who it is.
+    /// The caller is anonymous.
     pub restricted: bool,
     /// The kinds of media that are offered, as `audio`.
     pub media: &'a List<Text>,
-    /// The moment at which the rules are asked.
+    /// The moment at which the rules are evaluated.
     pub now: Moment,
     /// The call was diverted before it came to the user.
     pub diverted: bool,
-    /// Where a call is barred on its way out: its target is abroad.
+    /// Where outgoing barring is evaluated: its target is abroad.
     pub abroad: bool,
 }
 
-/// What happened to a call when its rules are asked (TS 24.604 §4.9.1.3).
+/// The event of a call at which its rules are evaluated (TS 24.604 §4.9.1.3).
 #[derive(Clone, Copy, Debug, PartialEq, Eq)]
 pub enum When {
     /// The call arrives.

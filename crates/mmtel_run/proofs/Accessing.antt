@@ -1,4 +1,4 @@
--- A seat is given, or the room is full or gone.
+-- A participant is added, or the conference is full or does not exist.
 use Rattle.std.proofs.Common.{◌≡◌, ℕ, Bool, true, false, refl, Option, Some, None, List}
 use Rattle.std.specs.Prelude.{if◌then◌else◌, Ok, Err}
 use Rattle.mmtel_focus.specs.Rooms.{Room}

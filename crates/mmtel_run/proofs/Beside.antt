@@ -1,4 +1,4 @@
--- What message waiting leaves of a world: all but mailboxes, transactions, deadlines, the numbers drawn and what is offered.
+-- What message waiting leaves unchanged in a state: all but mailboxes, transactions, timers, the numbers drawn and the outputs.
 use Rattle.std.proofs.Common.{◌≡◌, ℕ, List, [], ◌∷◌, refl, ◌∙◌, Option}
 use Rattle.mmtel_answers.specs.Said.{Said}
 use Rattle.mmtel_directory.specs.declared.directories.Directory.{Directory}
@@ -25,7 +25,7 @@ pub record Stays (v w : World) : Type 0 where
   pub waiting : v.waiting ≡ w.waiting
   pub filed : v.filed ≡ w.filed
 
--- the later world is told last
+-- the later state is the second argument
 abbrev Leaves : World → World → Type 0
 Leaves w v = Stays v w
 

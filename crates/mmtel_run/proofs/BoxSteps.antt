@@ -1,4 +1,4 @@
--- What is so of each single deed of message waiting, where it is done, and of one behind another, is so of all that message waiting does in a run.
+-- What holds for each elementary operation of message waiting, where it is done, and for one after another, holds for all that message waiting does in a run.
 use Rattle.std.proofs.Common.{◌≡◌, ℕ, List, [], ◌∷◌, Bool, true, false, Option, Some, None, codes, refl}
 use Rattle.std.specs.Prelude.{◌-◌, ◌==◌, nat_le, Ok, Err, if◌then◌else◌}
 use Rattle.std.specs.declared.result.Result.{Result}
@@ -26,7 +26,7 @@ use Rattle.mmtel_run.specs.Rooms.{leg_by}
 use Rattle.mmtel_run.specs.Subscriptions.{arming_until, asking_of, box_answered, box_due, entered_by, entering_box, entering_by, granting, is_last_set, made, made_for, mailbox_named, notice_emits, noting}
 use Rattle.mmtel_run.specs.Subscriptions.{other_answer, putting, refreshing_by, refusing_answer, standing, subscribing, subscribing_by, telling, telling_each, telling_last, telling_peer}
 
--- nothing is said of a mailbox by it, and nobody subscribes
+-- it sets no counts of a mailbox, and creates no subscription
 abbrev pub MakesNone : Deed → Type 0
 MakesNone (Puts account counts) = ⊥
 MakesNone (Subscribes account leg until) = ⊥
@@ -36,11 +36,11 @@ MakesNone (Tells sub branch) = Unit {0}
 MakesNone (Ends sub) = Unit {0}
 MakesNone (Answers branch code) = Unit {0}
 
--- a subscriber is told by a NOTIFY with a branch that is drawn, which did not go out yet
+-- a subscriber is notified by a NOTIFY with a branch that is drawn, which is not sent yet
 abbrev pub tells_in : (token : List ℕ) → SubNo → World → World
 tells_in token sub w = noting (Tells sub (next_tag token w)) (drawing 1 w)
 
--- what is asked of a relation of the world before to the world after, of whatever brings a NOTIFY
+-- what is required of a relation between the states before and after, for whatever causes a NOTIFY
 pub record AreSteps (d : Directory) (token : List ℕ) (at : ℕ) (R : World → World → Type 0) : Type 0 where
   pub same : (w : World) → R w w
   -- one after another
@@ -48,19 +48,19 @@ pub record AreSteps (d : Directory) (token : List ℕ) (at : ℕ) (R : World →
   pub notes : (deed : Deed) (w : World) → MakesNone deed → R w (noting deed w)
   pub draws : (w : World) → R w (drawing 1 w)
   pub arms : (armed : Armed) (w : World) → R w (arming armed w)
-  -- the NOTIFY of a subscription that lives goes out, to its peer
+  -- the NOTIFY of a live subscription is sent, to its peer
   pub asks : (sub : SubNo) (last : Bool) (peer : Peer) (message : Message Start) (w : World) → peer_of sub (boxes_in w) ≡ Some peer →
       notice d.sip sub last (next_tag token w) at (boxes_in w) ≡ Some message → R (tells_in token sub w) (emitted at (emit.Ask peer message ∷ []) (tells_in token sub w))
 
--- of what a request brings: where this says what its refusal is, within the dialog of a subscription or out of it
+-- for what a request causes: where this says what its refusal is, within the dialog of a subscription or outside
 pub record AreAnswers (d : Directory) (token : List ℕ) (at : ℕ) (R : World → World → Type 0) (key : TKey) (s : Said) (Of : (within : Bool) → Option ℕ → Type 0) : Type 0 where
   pub reads : (within : Bool) → Of within (refusal (asking_of d within s.heard))
-  -- a subscription is made, or stands anew, where nothing refuses it
+  -- a subscription is created, or its expiration is set anew, where nothing refuses the request
   pub subscribes : (account : Account) (until : ℕ) (w : World) → Of false None → R (drawing 1 w) (noting (Subscribes account (leg_by (next_tag token w) s) until) (drawing 1 w))
   pub grants : (deed : Deed) (seconds : ℕ) (w : World) → Of false None →
       R (noting deed (drawing 1 w)) (emitted at (emit.Reply key (response_to d.sip (next_tag token w) s (granting seconds)) ∷ []) (noting deed (drawing 1 w)))
   pub renews : (seconds : ℕ) (w : World) → Of true None → R w (replying d token at key s (granting seconds) w)
-  -- it is refused, for what it asks or for what is not there
+  -- it is refused, for what it requests or for what does not exist
   pub refuses : (within : Bool) (code : ℕ) (w : World) → Of within (Some code) → R w (replying d token at key s (refusing_answer code) w)
   pub denies : (code : ℕ) (w : World) → nat_le 300 code ≡ true → R w (replying d token at key s (plainly code) w)
   -- a request in the dialog of a subscription that is no SUBSCRIBE
@@ -70,7 +70,7 @@ pub record AreAnswers (d : Directory) (token : List ℕ) (at : ℕ) (R : World �
 abbrev pub IsRefusal : Directory → Said → (within : Bool) → Option ℕ → Type 0
 IsRefusal d s within o = refusal (asking_of d within s.heard) ≡ o
 
--- a NOTIFY has an answer, or none
+-- a NOTIFY has a response, or none
 pub answered : (R : World → World → Type 0) (same : (w : World) → R w w) (notes : (deed : Deed) (w : World) → MakesNone deed → R w (noting deed w)) (branch : Option (List ℕ)) (code : ℕ) (w : World) →
     R w (box_answered branch code w)
 answered R same notes None code w = same w
@@ -103,7 +103,7 @@ module _ (d : Directory) (token : List ℕ) (at : ℕ) (R : World → World → 
   pub tells_last : (sub : SubNo) (w : World) → R w (telling_last d token at sub w)
   tells_last sub w = let told : World = telling d token at sub true w in k.next w told (telling_last d token at sub w) (tells sub true w) (k.notes (Ends sub) told tt)
 
-  -- ---- an upload, and the time of a subscription
+  -- ---- an upload, and the expiration of a subscription
 
   pub tells_each : (subs : List SubNo) (w : World) → R w (telling_each d token at subs w)
   tells_each [] w = k.same w

@@ -1,4 +1,4 @@
--- What is so of each single deed, wherever it is done, and of one behind another, is so of all that message waiting does in a run.
+-- What holds for each elementary operation, wherever it is done, and for one after another, holds for all that message waiting does in a run.
 use Rattle.std.proofs.Common.{ℕ, List, [], ◌∷◌, Bool, Option, Some, None}
 use Rattle.std.specs.declared.result.Result.{Result}
 use Rattle.mmtel_answers.specs.Said.{Said}
@@ -103,7 +103,7 @@ module _ (R : World → World → Type 0) (then : (u v w : World) → R u v → 
     pub enters : (key : TKey) (s : Said) (sub : SubNo) (w : World) → R w (entering_box d token at key s sub w)
     enters key s = steps.enters d token at R are_steps key s (λ within o. Unit {0}) (are_answers key s)
 
-    -- ---- an upload, and the time of a subscription
+    -- ---- an upload, and the expiration of a subscription
 
     pub puts : (o : Option (Account × Counts)) (w : World) → R w (putting d token at o w)
     puts = steps.puts d token at R are_steps (λ account counts w. notes (Puts account counts) w)

@@ -1,4 +1,4 @@
--- What calls bring forth keeps the text that tokens are drawn of, and draws on: no number is drawn back.
+-- The output of calls has tokens of the same text, and the count of drawn numbers never decreases.
 use Rattle.std.proofs.Common.{◌≡◌, ℕ, zero, suc, ◌≤◌, ◌<◌, ◌^◌, List, [], ◌∷◌, refl, ◌∙◌, Bool, true, false, Option, Some, None, Result, Ok, Err, arith, codes}
 use Rattle.std.specs.Prelude.{◌==◌, ◌&&◌, filter, nat_lt, not, position, slice_get, if◌then◌else◌}
 use Rattle.mmtel_answers.specs.Said.{Said, status_of}
@@ -88,7 +88,7 @@ use Rattle.mmtel_types.specs.declared.sides.Side.{Side}
 use Rattle.mmtel_types.specs.declared.sides.Side.TheVariants.{Caller, Callee}
 use Rattle.mmtel_run.specs.Short.{CallsDrawOn, CallsEndOn, DrawsOn}
 
--- from one desk to another
+-- from one output to a later one
 abbrev pub On : Desk → Desk → Type 0
 On d e = DrawsOn d.tokens e.tokens
 
@@ -144,7 +144,7 @@ unheard-on site c key m Unfinished d = none d
 in_order-on : (site : Site) (c : Call) (key : TKey) (m : Said) (d : Desk) → On d (unlisted site c key m d)
 in_order-on site c key m d = unlisted-on (is_method (codes "OPTIONS") m.heard.start) (is_method (codes "REFER") m.heard.start) d _ _ _ (none d) (none d) (none d)
 
--- ---- the way on
+-- ---- the route
 
 told-on : (b : Bool) (d e : Desk) → On d e → On d (if b then e else d)
 told-on b d e x = either b d e d x (none d)
@@ -248,7 +248,7 @@ cancel-on : (site : Site) (at : ℕ) (x : Trial) (key : TKey) (m : Said) (invite
 cancel-on site at x key m invite c d =
     either_step (invite.0 == c.opening.key.0) d (given_up site at x c (replied_to site c key m 200 d)) (onward c (replied_to site c key m 200 d)) (given_up-on site at x c (replied_to site c key m 200 d)) (none d)
 
--- what waits for a PRACK is not sent again
+-- the response that awaits its PRACK is no longer retransmitted
 settled-on : (site : Site) (own : Option ℕ) (c : Call) (d : Desk) → On d (settled site own c d)
 settled-on site own c d = either site.reliable d _ d (none d) (none d)
 
@@ -446,7 +446,7 @@ silent_at-on site branch (Some place) c d = none d
 silent-on : (site : Site) (branch : List ℕ) (c : Call) (d : Desk) → On d (silent_other site branch c d).desk
 silent-on site branch c d = silent_at-on site branch (position (is_of branch) c.loose) c d
 
--- ---- what is in flight is answered
+-- ---- the final responses to what is in flight
 
 each-on : (site : Site) (c : Call) (flights : List Flight) (d : Desk) → On d (dismissed_each site c flights d)
 each-on site c [] d = none d

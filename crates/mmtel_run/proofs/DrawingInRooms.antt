@@ -1,4 +1,4 @@
--- What rooms bring forth keeps the text that tokens are drawn of, and draws on: no number is drawn back.
+-- The output of conferences has tokens of the same text, and the count of drawn numbers never decreases.
 use Rattle.std.proofs.Common.{◌&&◌, not, ℕ, List, [], ◌∷◌, Bool, true, false, Option, Some, None, Result, Ok, Err}
 use Rattle.std.specs.Prelude.{codes, if◌then◌else◌, nat_lt, position, slice_get}
 use Rattle.std.specs.Str.{bytes_eq}
@@ -54,7 +54,7 @@ use Rattle.mmtel_types.specs.declared.sides.Side.TheVariants.{Callee}
 use Rattle.mmtel_run.proofs.Drawing.{On, cancelled-on, loose-on, none, once, then_on, thrice}
 use Rattle.mmtel_run.specs.Short.{RoomsDrawOn, tokens_of}
 
--- from one step of a room to another
+-- from one step of a conference to another
 abbrev desk_of : Step → Desk
 desk_of s = s.effects.desk
 
@@ -71,7 +71,7 @@ draws_if : (b : Bool) (s t u : Step) → Draws s t → Draws s u → Draws s (if
 draws_if true s t u a b = a
 draws_if false s t u a b = b
 
--- ---- a row, at the place of its seat
+-- ---- a transition, at the position of its participant
 
 abbrev RowDraws : (row : (place : ℕ) → Seat → Step → Step) → Type 0
 RowDraws row = (place : ℕ) (seat : Seat) (s : Step) → Draws s (row place seat s)
@@ -87,7 +87,7 @@ at_place_draws : (row : (place : ℕ) → Seat → Step → Step) → RowDraws r
 at_place_draws row k None s = stays s
 at_place_draws row k (Some place) s = at_seat_draws row k place s
 
--- ---- a seat is told
+-- ---- a participant is notified
 
 party_told : (site : Site) (room : RoomNo) (goes_on : Bool) (line : List ℕ) (party : Party) (d : Desk) → On d (notified_by site room goes_on line party d)
 party_told site room goes_on line (Invited leg) d = none d
@@ -104,7 +104,7 @@ told_by_draws : (site : Site) (goes_on : Bool) (line : List ℕ) (by : Option �
 told_by_draws site goes_on line None s = stays s
 told_by_draws site goes_on line (Some number) s = told_to_draws site goes_on line number s
 
--- ---- a seat is left
+-- ---- a participant leaves
 
 filed_on : (now : ℕ) (meter : Option Noted) (d : Desk) → On d (filed_by now meter d)
 filed_on now None d = none d
@@ -136,7 +136,7 @@ closed_draws site now (seat ∷ seats) s =
 closed_with_draws : (site : Site) (now number : ℕ) (s : Step) → Draws s (closed_with site now number s)
 closed_with_draws site now number s = draws_if (is_creator number) s (closed site now s.room.seats s) s (closed_draws site now s.room.seats s) (stays s)
 
--- ---- how a seat is taken
+-- ---- a participant joins
 
 come_draws : (site : Site) (now : ℕ) (leg : Released) (account : Option Account) (key : TKey) (m : Said) (s : Step) → Draws s (come site now leg account key m s)
 unfolding come
@@ -158,7 +158,7 @@ adopted_draws : (site : Site) (now : ℕ) (leg : Released) (account : Option Acc
 unfolding adopted
 adopted_draws site now leg account by s = once (desk_of s)
 
--- ---- what a seat asks
+-- ---- the requests of a participant
 
 on_invite_draws : (site : Site) (now : ℕ) (key : TKey) (m : Said) → RowDraws (on_invite site now key m)
 on_invite_draws site now key m place seat s =
@@ -203,7 +203,7 @@ on_ack_draws : (m : Said) → RowDraws (on_ack m)
 unfolding on_ack
 on_ack_draws m place seat s = draws_if (acknowledges m seat.awaited) s (put place (record seat { awaited = None }) s) s (stays s) (stays s)
 
--- ---- what comes of the server's INVITE
+-- ---- the outcomes of the server's INVITE
 
 ended_without_draws : (site : Site) (now : ℕ) (line : List ℕ) → RowDraws (ended_without site now line)
 ended_without_draws site now line place seat s =
@@ -290,7 +290,7 @@ hears_draws site now (of_seat.Answer key response) place seat s = on_answer_draw
 hears_draws site now of_seat.Silent place seat s = on_silence_draws site now place seat s
 hears_draws site now (of_seat.Due what) place seat s = on_due_draws site now what place seat s
 
--- ---- a step of a room
+-- ---- a step of a conference
 
 abbrev StepDraws : (row : Step → Step) → Type 0
 StepDraws row = (s : Step) → Draws s (row s)
@@ -356,7 +356,7 @@ module _ (site : Site) (now : ℕ) (rooms : List Room) (loose : List Loose) (e :
   taken_on (signal.Due room seat what) = in_on room.0 seat (of_seat.Due what)
   taken_on (signal.Over key) = none e.desk
 
--- ---- a deed
+-- ---- an operation
 
 joined_on : (site : Site) (now room : ℕ) (leg : Released) (account : Option Account) (key : TKey) (m : Said) (rooms : List Room) (e : Effects) → On e.desk (joined site now room leg account key m rooms e).effects.desk
 unfolding joined

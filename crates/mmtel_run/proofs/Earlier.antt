@@ -1,4 +1,4 @@
--- What is emitted is no matter of what was done on calls, rooms and mailboxes.
+-- Commands do not change what was done on calls, conferences and mailboxes.
 use Rattle.std.proofs.Common.{◌≡◌, ℕ, List, [], ◌∷◌, refl, ◌∙◌}
 use Rattle.mmtel_transaction.specs.declared.words.Emit.{Emit}
 use Rattle.mmtel_transaction.specs.declared.words.Emit.TheVariants as emit

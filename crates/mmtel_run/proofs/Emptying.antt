@@ -1,4 +1,4 @@
--- What deadlines make of rooms: where one brings anything forth, fewer seats are taken than before. So deadlines come to an end.
+-- The effect of timers on conferences: where one outputs anything, there are fewer participants than before. So timers come to an end.
 use Rattle.std.proofs.Common.{◌≡◌, ◌&&◌, not, ℕ, suc, ◌≤◌, ◌<◌, List, [], ◌∷◌, length, refl, sym, ap, ◌∙◌, Bool, true, false, Option, Some, None, inl, inr, arith, subst}
 use Rattle.std.specs.Prelude.{◌⊎◌, if◌then◌else◌, position, remove, slice_get, slice_set, sum_by}
 use Rattle.std.proofs.lemmas.List.{get_or-set_same, length-set}
@@ -25,7 +25,7 @@ use Rattle.mmtel_transaction.specs.declared.words.RoomWord.{RoomWord}
 use Rattle.mmtel_transaction.specs.declared.words.RoomWord.TheVariants as due
 use Rattle.mmtel_run.proofs.Lasting.{put_sum}
 
--- so many seats of a room are taken, and of all rooms
+-- the number of participants of a conference, and of all conferences
 abbrev pub seats_of : Room → ℕ
 seats_of room = length room.seats
 
@@ -35,14 +35,14 @@ all_seats live = sum_by seats_of live
 abbrev count : Step → ℕ
 count s = seats_of s.room
 
--- no more, or fewer, are taken after a step
+-- there are no more, or fewer, after a step
 abbrev Keeps : Step → Step → Type 0
 Keeps s t = count t ≤ count s
 
 abbrev Fewer : Step → Step → Type 0
 Fewer s t = suc (count t) ≤ count s
 
--- nothing is brought forth, and no more are taken; or fewer are
+-- nothing is output, and there are no more; or there are fewer
 abbrev Fades : Step → Step → Type 0
 Fades s t = ((t.effects.desk.out ≡ s.effects.desk.out) × Keeps s t) ⊎ Fewer s t
 
@@ -53,7 +53,7 @@ fades_if : (b : Bool) (s t u : Step) → Fades s t → Fades s u → Fades s (if
 fades_if true s t u x y = x
 fades_if false s t u x y = y
 
--- ---- a seat in the place of another
+-- ---- a participant in the place of another
 
 put_there : (place : ℕ) (old x : Seat) (s : Step) → slice_get s.room.seats place ≡ Some old → slice_get (put place x s).room.seats place ≡ Some x
 put_there place old x s there =
@@ -64,7 +64,7 @@ put_there place old x s there =
 put_count : (place : ℕ) (x : Seat) (s : Step) → count (put place x s) ≡ count s
 put_count place x s = length-set s.room.seats place x
 
--- ---- a seat is told
+-- ---- a participant is notified
 
 told_keeps : (site : Site) (goes_on : Bool) (line : List ℕ) (place : ℕ) (o : Option Seat) (s : Step) → Keeps s (by_seat (told site goes_on line place) o s)
 told_keeps site goes_on line place None s = omega arith
@@ -78,7 +78,7 @@ told_by_keeps : (site : Site) (goes_on : Bool) (line : List ℕ) (by : Option �
 told_by_keeps site goes_on line None s = omega arith
 told_by_keeps site goes_on line (Some number) s = told_to_keeps site goes_on line (place_of number s.room.seats) s
 
--- ---- a seat is left
+-- ---- a participant leaves
 
 dismissed_fewer : (site : Site) (now place : ℕ) (x : Seat) (s : Step) → slice_get s.room.seats place ≡ Some x → Fewer s (dismissed site now place x s)
 dismissed_fewer site now place x s there =
@@ -103,7 +103,7 @@ closed_if_keeps : (b : Bool) (site : Site) (now : ℕ) (s : Step) → Keeps s (i
 closed_if_keeps true site now s = closed_keeps site now s.room.seats s
 closed_if_keeps false site now s = omega arith
 
--- ---- the rows of deadlines
+-- ---- the transitions of timers
 
 ended_fewer : (site : Site) (now : ℕ) (line : List ℕ) (place : ℕ) (x : Seat) (s : Step) → slice_get s.room.seats place ≡ Some x → Fewer s (ended_without site now line place x s)
 ended_fewer site now line place x s there =
@@ -111,7 +111,7 @@ ended_fewer site now line place x s there =
     let told : Keeps (dismissed site now place x s) (ended_without site now line place x s) = told_by_keeps site false line x.by (dismissed site now place x s) in
     omega (arith, gone, told)
 
--- of the seat that stands there now
+-- of the participant that is at this place now
 ended_at_fewer : (site : Site) (now : ℕ) (line : List ℕ) (place : ℕ) (old x : Seat) (s : Step) → slice_get s.room.seats place ≡ Some old → Fewer s (at_seat (ended_without site now line) place (put place x s))
 ended_at_fewer site now line place old x s there =
     let v : Step = put place x s in
@@ -143,7 +143,7 @@ due_fades site now (due.Cap number) place x s there =
 due_fades site now (due.NoAck number) place x s there =
     fades_if (is_awaited number x.awaited) s (unacknowledged site now place x s) s (inr (no_ack_fewer site now place x s there)) (stays s)
 
--- what a seat hears of deadlines
+-- the signals of timers to a participant
 abbrev is_of_deadline : SeatSignal → Bool
 is_of_deadline (of_seat.Request key request) = false
 is_of_deadline (of_seat.Ack ack) = false
@@ -159,7 +159,7 @@ hears_fades site now (of_seat.Answer key response) place seat s is there = absur
 hears_fades site now of_seat.Silent place seat s is there = silence_fades site now place seat s there
 hears_fades site now (of_seat.Due what) place seat s is there = due_fades site now what place seat s there
 
--- ---- in a room, and in all
+-- ---- in a conference, and in all
 
 abbrev FadesIn : List Room → Effects → Stepped → Type 0
 FadesIn live e t = ((t.effects.desk.out ≡ e.desk.out) × (all_seats t.live ≤ all_seats live)) ⊎ (suc (all_seats t.live) ≤ all_seats live)
@@ -193,12 +193,12 @@ module _ (site : Site) (now : ℕ) (x : SeatSignal) (is : is_of_deadline x ≡ t
   in_fades None live e = inl (refl, omega arith)
   in_fades (Some place) live e = stepped_fades place (slice_get live place) live e refl
 
--- ---- a signal of a deadline
+-- ---- a signal of a timer
 
 abbrev pub FadesRooms : List Room → Effects → Moved → Type 0
 FadesRooms live e m = ((m.effects.desk.out ≡ e.desk.out) × (all_seats m.live ≤ all_seats live)) ⊎ (suc (all_seats m.live) ≤ all_seats live)
 
--- what rooms hear of deadlines
+-- the signals of timers to conferences
 abbrev pub is_rung : RoomSignal → Bool
 is_rung (signal.Request room seat key request) = false
 is_rung (signal.Ack room seat ack) = false

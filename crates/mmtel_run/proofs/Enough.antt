@@ -1,4 +1,4 @@
--- Enough firings of deadlines exist before each event, and more of them change nothing.
+-- Some number of timer firings is enough before each event, and more of them change nothing.
 use Rattle.std.proofs.Common.{◌≡◌, ℕ, zero, suc, ◌+◌, ◌≤◌, List, [], ◌∷◌, ◌++◌, length, refl, sym, ap, ◌∙◌, Bool, true, false, Option, Some, None, inl, inr, arith, subst}
 use Rattle.std.specs.Prelude.{◌⊎◌, ◌==◌, cond, nat_le, if◌then◌else◌}
 use Rattle.std.specs.Option.{option_map}
@@ -45,7 +45,7 @@ use Rattle.mmtel_run.proofs.Emptying.{all_seats, rooms_fade}
 use Rattle.mmtel_run.proofs.Emptying.{is_rung as is_rung_there}
 use Rattle.mmtel_run.proofs.Lasting.{all_ways, fades, is_rung}
 
--- ---- the first deadline of calls and seats
+-- ---- the first timer of calls and participants
 
 -- the others are one fewer
 sooner_length : (b : Bool) (armed : Armed) (others : List Armed) (behind : Chosen) → suc (length behind.others) ≡ length others
@@ -79,27 +79,27 @@ module _ (d : Directory) (token : List ℕ) where
   settled_more zero more now w e = let zero_more : zero + more ≡ more = omega arith in rw zero_more (done_stays more now w e)
   settled_more (suc n) more now w e = let one_further : suc n + more ≡ suc (n + more) = omega arith in rw one_further (settled_more n more now (fire_one d token now w) e)
 
-  -- ---- what a deadline leaves
+  -- ---- the effect of a timer
 
-  -- so many ways to go the calls have, so many seats of rooms are taken, and so many subscriptions live; and so long what is under way may go on, where nothing is brought forth
+  -- the number of ways to proceed that the calls have, plus the numbers of participants and of live subscriptions; and what bounds the timers that output nothing
   abbrev ways_left : World → ℕ
   ways_left w = all_ways (calls_in d w).entries + all_seats (rooms_in d w).live + length (boxes_in w).live
 
   abbrev waits : World → ℕ
   waits w = all_left (live w.acts) + length w.armed
 
-  -- where calls or rooms hear of a deadline, what waits and the ways stay the same, or the ways are fewer
+  -- where calls or conferences receive a timer's signal, what waits and the ways are unchanged, or the ways are fewer
   abbrev Quietens : World → World → Type 0
   Quietens v w = ((waits v ≤ waits w) × (ways_left v ≤ ways_left w)) ⊎ (suc (ways_left v) ≤ ways_left w)
 
-  -- the calls, and the world, once a signal was heard and before anything is emitted
+  -- the calls, and the state, once a signal was received and before any command is executed
   abbrev moved_by : ℕ → Signal → World → Moved
   moved_by at x w = hears_after (site_of d) w.deeds (heard_now token at x w)
 
   abbrev heard_in : ℕ → Signal → World → World
   heard_in at x w = record w { deeds = Drops (length (moved_by at x w).desk.rows) ∷ Hears (heard_now token at x w) ∷ w.deeds; drawn = (moved_by at x w).desk.tokens.drawn; waiting = w.waiting ++ (moved_by at x w).desk.rows }
 
-  -- what is emitted is no matter of either
+  -- commands change neither
   emitted_ways : (at : ℕ) (out : List Emit) (v : World) → ways_left (emitted at out v) ≡ ways_left v
   emitted_ways at out v =
       λ i. all_ways (calls_after d (emitted_deeds at out v i)).entries + all_seats (rooms_after d (emitted_rooms at out v i)).live + length (boxes.table_after (emitted_boxes at out v i)).live
@@ -121,7 +121,7 @@ module _ (d : Directory) (token : List ℕ) where
             inr (omega (arith, left, few))
       ]
 
-  -- the same of rooms
+  -- the same for conferences
   abbrev room_moved : ℕ → RoomSignal → World → tables.Moved
   room_moved at x w = tables.taken (rooms_site d) at x (rooms_in d w).live (rooms_in d w).loose (nothing (tokens_now token w))
 
@@ -147,14 +147,14 @@ module _ (d : Directory) (token : List ℕ) where
             inr (omega (arith, left, few))
       ]
 
-  -- a NOTIFY that has no answer brings nothing forth
+  -- a NOTIFY without a response outputs nothing
   answered_quietens : (branch : Option (List ℕ)) (code : ℕ) (w : World) → Quietens (box_answered branch code w) w
   answered_quietens None code w = inl (omega arith, omega arith)
   answered_quietens (Some branch) code w =
       let fewer = answered_fewer branch code (boxes_in w) in
       inl (omega arith, omega (arith, fewer))
 
-  -- whoever is told for the last time subscribes no more
+  -- a subscriber that got its last NOTIFY is no longer subscribed
   told_last_quietens : (at : ℕ) (sub : SubNo) (s : Subscription) (w : World) → held sub (boxes_in w) ≡ Some s → Quietens (telling_last d token at sub w) w
   told_last_quietens at sub s w e =
       let u : World = noting (Tells sub (next_tag token w)) (drawing 1 w) in
@@ -204,9 +204,9 @@ module _ (d : Directory) (token : List ℕ) where
   alarmed_quietens at (OfSeat room seat what) w = seated_quietens at (of_room.Due room seat what) w refl
   alarmed_quietens at (OfBox sub set) w = box_quietens at sub set w
 
-  -- ---- the deadline that fires
+  -- ---- the timer that fires
 
-  -- less waits, or there are fewer ways
+  -- fewer wait, or there are fewer ways
   abbrev Falls : World → World → Type 0
   Falls v w = ((suc (waits v) ≤ waits w) × (ways_left v ≤ ways_left w)) ⊎ (suc (ways_left v) ≤ ways_left w)
 
@@ -237,7 +237,7 @@ module _ (d : Directory) (token : List ℕ) where
     begun_left : (w : World) → all_left (live (begun w).acts) ≡ all_left (live w.acts)
     begun_left w = ap all_left (begins w.acts w.steps)
 
-    -- a deadline of a message
+    -- a timer of a transaction
     message_falls : (now : ℕ) (w : World) (next : Next) → next_due now (live w.acts) ≡ Some next → Falls (fired d token now OfMessage w) w
     message_falls now w next is =
         let begun_acts : List Done = DidBegin w.steps ∷ w.acts in
@@ -248,7 +248,7 @@ module _ (d : Directory) (token : List ℕ) where
         let same : all_left (live begun_acts) ≡ all_left (live w.acts) = begun_left w in
         falls_by (fired d token now OfMessage w) u w (omega (arith, fewer, there, same)) refl (rung_quietens (says_due (next_due now (live begun_acts))) u)
 
-    -- one of a call or of a seat
+    -- one of a call or of a participant
     alarm_falls : (now : ℕ) (armed : Armed) (others : List Armed) (w : World) → suc (length others) ≡ length w.armed → Falls (fired d token now (OfAlarm armed others) w) w
     alarm_falls now armed others w fewer =
         let u : World = record (begun w) { armed = others } in
@@ -333,7 +333,7 @@ module _ (d : Directory) (token : List ℕ) where
 pub always : FiringsUseUp → BeginsChangeNothing → GivesAlways
 always use_up begins d token loaded happened = enough_after d token use_up begins (notices d happened) (beginning loaded)
 
--- more of them change nothing of what was done
+-- more of them do not change what was done
 pub same_world : (d : Directory) (token : List ℕ) (loaded : Texts) (happened : List Happened) (fuel more : ℕ) → IsEnough d token loaded fuel happened
     → world_after d token loaded (fuel + more) happened ≡ world_after d token loaded fuel happened
 same_world d token loaded happened fuel more e = after_more d token fuel more (notices d happened) (beginning loaded) e

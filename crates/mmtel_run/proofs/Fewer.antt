@@ -1,4 +1,4 @@
--- Subscriptions grow fewer: whatever a deadline brings forth for one ends it, and a NOTIFY that has no answer brings nothing forth. So deadlines come to an end.
+-- The number of subscriptions decreases: whatever a timer outputs for one ends it, and a NOTIFY without a response outputs nothing. So timers come to an end.
 use Rattle.std.proofs.Common.{◌≡◌, ℕ, suc, ◌≤◌, List, [], ◌∷◌, length, refl, ap, Bool, true, false, Option, Some, None, arith, inl, inr}
 use Rattle.std.proofs.lemmas.Bool.{cases_Bool}
 use Rattle.std.specs.Prelude.{find, if◌then◌else◌}
@@ -7,7 +7,7 @@ use Rattle.mmtel_mwi.specs.declared.subscriptions.Subscription.{Subscription}
 use Rattle.mmtel_types.specs.declared.numbers.SubNo.{SubNo}
 
 module _ {X : Type 0} (p : X → Bool) where
-  -- the first for which something is so is taken out, or there is none
+  -- the first with a property is removed, or there is none
   pub no_more : (xs : List X) → length (without p xs) ≤ length xs
   no_more [] = omega arith
   no_more (x ∷ xs) =
@@ -16,7 +16,7 @@ module _ {X : Type 0} (p : X → Bool) where
         | inr n ↦ let rest = no_more xs in rw n (omega (arith, rest))
       ]
 
-  -- it is taken out where it became another before
+  -- it is removed where it was changed before
   pub one_fewer : (f : X → X) → ((x : X) → p (f x) ≡ p x) → (x : X) (xs : List X) → find p xs ≡ Some x → suc (length (without p (changed p f xs))) ≡ length xs
   one_fewer f same x [] e = absurd cc
   one_fewer f same x (y ∷ ys) e =
@@ -25,11 +25,11 @@ module _ {X : Type 0} (p : X → Bool) where
         | inr n ↦ rw (n, n) (ap suc (one_fewer f same x ys (rw n at e)))
       ]
 
--- a subscription that lives is told for the last time, and ends
+-- a live subscription gets its last NOTIFY, and ends
 pub last_fewer : (sub : SubNo) (branch : List ℕ) (table : Table) (s : Subscription) → held sub table ≡ Some s → suc (length (ended sub (told sub branch table)).live) ≡ length table.live
 last_fewer sub branch table s e = one_fewer (is_numbered sub) having_told (λ x. refl) s table.live e
 
--- a NOTIFY has an answer, or none
+-- a NOTIFY has a response, or none
 if_fewer : (b : Bool) (branch : List ℕ) (o : Option SubNo) (table : Table) → length (if b then settled branch (ended_by o table) else table).live ≤ length table.live
 if_fewer false branch o table = omega arith
 if_fewer true branch None table = omega arith

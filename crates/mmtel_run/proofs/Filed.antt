@@ -1,4 +1,4 @@
--- The rows of a run are those of its calls and of its rooms, in the order of its steps: each was taken by the keeper, or waits.
+-- The CDRs of a run are those of its calls and of its conferences, in the order of its steps: each was accepted by the keeper, or waits.
 use Rattle.std.proofs.Common.{◌≡◌, ℕ, zero, suc, List, [], ◌∷◌, ◌++◌, length, map, refl, sym, ap, ◌∙◌, Bool, true, false, Option, Some, None, Result, Ok, Err, append_assoc, append-nil, drop}
 use Rattle.std.proofs.Math.Seq.{drop-append_seam}
 use Rattle.std.specs.Prelude.{if◌then◌else◌}
@@ -45,7 +45,7 @@ use Rattle.mmtel_web.specs.Uploads.{put_in}
 use Rattle.mmtel_run.proofs.Beside.{Stays, answered_stays, due_stays, entering_stays, putting_stays, subscribing_stays}
 use Rattle.mmtel_run.specs.World.{World, boxes_in, serving, acknowledging_by, adopting, adoption_of, alarmed, answering, beginning, begun, bringing, calls_in, came, cancelling, cancelling_call, comes_of, drawing, emit_one, emitted, ended_of, entering_room, finishing, fired, handing, heard_in_rooms, heard_now, hearing, holder_in, housed, joining_of, lending, lodging, met, next_tag, noticed, opening_of, repeating, replaced_by, replaced_with, replacing, responding_to, room_joined, room_opened, rooms_in, rung, seated, signalled, silenced, taken_out, taking, tokens_now, told}
 
--- ---- rows that are one list behind another
+-- ---- CDRs that are one list after another
 
 abbrev marked : Bool → List Row → List Closed
 marked b rows = map (λ row. record { of_calls = b; row = row }) rows
@@ -90,7 +90,7 @@ rooms_of_calls : (rows : List Row) → rows_of_rooms (marked true rows) ≡ []
 rooms_of_calls [] = refl
 rooms_of_calls (row ∷ rows) = rooms_of_calls rows
 
--- ---- what a step adds, from one world on: rows of seats, and behind them rows of calls
+-- ---- what a step adds, from one state on: CDRs of participants, and then CDRs of calls
 
 pub record Adds (d : Directory) (o w : World) : Type 0 where
   pub seats : List Row
@@ -99,7 +99,7 @@ pub record Adds (d : Directory) (o w : World) : Type 0 where
   pub closed : rows_closed (site_of d) w.deeds ≡ rows_closed (site_of d) o.deeds ++ calls
   pub all : w.filed ++ w.waiting ≡ (o.filed ++ o.waiting) ++ (seats ++ calls)
 
--- as long as no call is over in it
+-- as long as no call has ended in it
 record AddsSeats (d : Directory) (o w : World) : Type 0 where
   pub seats : List Row
   pub left : rows_left (rooms_site d) w.rooms ≡ rows_left (rooms_site d) o.rooms ++ seats
@@ -115,13 +115,13 @@ no_calls d o w e = record {
   all = e.all ∙ ap (λ (rows : List Row). (o.filed ++ o.waiting) ++ rows) (sym (append-nil e.seats));
 }
 
--- nothing was done yet
+-- no operation was done yet
 begins : (d : Directory) (o : World) → AddsSeats d o o
 begins d o = record { seats = []; left = sym (append-nil (rows_left (rooms_site d) o.rooms)); closed = refl; all = sym (append-nil (o.filed ++ o.waiting)) }
 
--- ---- emits, and what is done on calls and rooms
+-- ---- commands, and operations on calls and conferences
 
--- two worlds with the same rows, of which the same was done
+-- two states with the same CDRs, and the same operations
 record IsSame (v w : World) : Type 0 where
   pub rows : v.filed ++ v.waiting ≡ w.filed ++ w.waiting
   pub deeds : v.deeds ≡ w.deeds
@@ -144,7 +144,7 @@ same_seats d o v w same e = record {
   all = same.rows ∙ e.all;
 }
 
--- an emit is no matter of rows
+-- a command does not change CDRs
 emit_same : (at : ℕ) (x : Emit) (w : World) → IsSame (emit_one at x w) w
 emit_same at (emit.Ask peer message) w = record { rows = refl; deeds = refl; rooms = refl }
 emit_same at (emit.Reply key message) w = record { rows = refl; deeds = refl; rooms = refl }
@@ -161,10 +161,10 @@ emitted_same at (x ∷ xs) w =
     let first = emit_same at x w in
     record { rows = later.rows ∙ first.rows; deeds = later.deeds ∙ first.deeds; rooms = later.rooms ∙ first.rooms }
 
--- ---- single deeds
+-- ---- elementary operations
 
 module _ (d : Directory) (o : World) where
-  -- a deed on the calls that closes these rows
+  -- an operation on the calls that closes these CDRs
   bringing_adds : (at : ℕ) (deed : Deed) (desk : Desk) (w : World) → rows_closed (site_of d) (deed ∷ w.deeds) ≡ rows_closed (site_of d) w.deeds ++ desk.rows → AddsSeats d o w → Adds d o (bringing at deed desk w)
   bringing_adds at deed desk w closes e =
       let done : World = record w { deeds = Drops (length desk.rows) ∷ deed ∷ w.deeds; drawn = desk.tokens.drawn; waiting = w.waiting ++ desk.rows } in
@@ -179,7 +179,7 @@ module _ (d : Directory) (o : World) where
             ∙ append_assoc (o.filed ++ o.waiting) e.seats desk.rows);
       })
 
-  -- one on the rooms
+  -- one on the conferences
   lodging_adds : (at : ℕ) (deed : rooms.Deed) (desk : Desk) (w : World) → (rooms.brought_after (rooms_site d) w.rooms deed).desk.rows ≡ desk.rows → AddsSeats d o w → AddsSeats d o (lodging at deed desk w)
   lodging_adds at deed desk w closes e =
       let done : World = record w { rooms = rooms.Drops (length desk.rows) ∷ deed ∷ w.rooms; waiting = w.waiting ++ desk.rows } in
@@ -206,7 +206,7 @@ module _ (d : Directory) (o : World) where
   lending_nothing deed w none e = record { seats = e.seats; left = e.left; closed = none ∙ e.closed; all = e.all }
 
 module _ (d : Directory) (token : List ℕ) (start : World) where
-  -- a world with the same rows, of which the same was done
+  -- a state with the same CDRs, and the same operations
   unmoved : (v w : World) → v.filed ++ v.waiting ≡ w.filed ++ w.waiting → v.deeds ≡ w.deeds → v.rooms ≡ w.rooms → AddsSeats d start w → AddsSeats d start v
   unmoved v w rows deeds rooms e = same_seats d start v w (record { rows = rows; deeds = deeds; rooms = rooms }) e
 
@@ -236,7 +236,7 @@ module _ (d : Directory) (token : List ℕ) (start : World) where
   restores_adds : (number : ℕ) (away : Released) (w : World) → AddsSeats d start w → AddsSeats d start (lending (Restores number away) w)
   restores_adds number away w e = lending_nothing d start (Restores number away) w (append-nil (rows_closed (site_of d) w.deeds)) e
 
-  -- ---- deadlines
+  -- ---- timers
 
   silenced_adds : (at : ℕ) (branch method : List ℕ) (whose : Whose) (w : World) → AddsSeats d start w → Adds d start (silenced d token at branch method whose w)
   silenced_adds at branch method OfCalls w e = signalled_adds at (signal.Silent branch method) w e
@@ -379,7 +379,7 @@ module _ (d : Directory) (token : List ℕ) (start : World) where
   met_adds at (Asked request kept rows) w e =
       beside _ (serving d at request kept rows w) (putting_stays d token at (put_in d.names request kept) (serving d at request kept rows w)) (unmoved _ w refl refl refl e)
 
-  -- what the keeper took stands behind what it took before, and nothing waits
+  -- what the keeper accepted comes after what it accepted before, and nothing waits
   handing_adds : (took : Bool) (rows : List Row) (w : World) → w.waiting ≡ rows → Adds d start w → Adds d start (handing took rows w)
   handing_adds took [] w same e = e
   handing_adds false (row ∷ rows) w same e = e
@@ -399,7 +399,7 @@ module _ (d : Directory) (token : List ℕ) (start : World) where
 
 -- ---- steps, one after another
 
--- the rows that a step closed are those that it adds
+-- the CDRs that a step closed are those that it adds
 step_rows : (d : Directory) (o w : World) → (e : Adds d o w) → rows_of_step d o w ≡ e.seats ++ e.calls
 step_rows d o w e =
     let seats : drop (length (rows_left (rooms_site d) o.rooms)) (rows_left (rooms_site d) w.rooms) ≡ e.seats =
@@ -408,7 +408,7 @@ step_rows d o w e =
     ap (drop (length (rows_closed (site_of d) o.deeds))) e.closed ∙ drop-append_seam (rows_closed (site_of d) o.deeds) e.calls in
     λ i. seats i ++ calls i
 
--- from one world on by these steps
+-- from one state on by these steps
 abbrev LeadTo : (d : Directory) (o : World) → List World → (w : World) → Type 0
 LeadTo d o steps w = w.filed ++ w.waiting ≡ (o.filed ++ o.waiting) ++ rows_of_steps d o steps
 
@@ -437,7 +437,7 @@ module _ (d : Directory) (token : List ℕ) (fuel : ℕ) where
 pub rows_in_order : RowsAreInOrder
 rows_in_order d token loaded fuel happened = steps_lead d token fuel (notices d happened) (beginning loaded)
 
--- ---- those of calls and those of seats, each in their order
+-- ---- those of calls and those of participants, each in their order
 
 module _ (d : Directory) (o w : World) (adds : Adds d o w) where
   step_filed : AreFiled d o → AreFiled d w

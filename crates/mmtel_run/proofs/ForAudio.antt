@@ -1,4 +1,4 @@
--- Whoever asks for a room or for a seat offers audio.
+-- An INVITE that asks for a conference or to join one offers audio.
 use Rattle.std.proofs.Common.{◌≡◌, Bool, true, false, refl, Option, Some, None, codes}
 use Rattle.std.specs.Prelude.{◌&&◌, if◌then◌else◌, is_some, Ok, Err}
 use Rattle.std.specs.declared.result.Result.{Result}

@@ -1,4 +1,4 @@
--- The texts of a run are those that were loaded and, over them, those that were kept; and the last one counts.
+-- The texts of a run are those that were loaded, overridden by those that were stored; and the last one counts.
 use Rattle.std.proofs.Common.{◌≡◌, ℕ, zero, suc, List, [], ◌∷◌, ◌++◌, length, refl, sym, ap, ◌∙◌, Bool, true, false, Option, Some, None, Result, Ok, Err, inl, inr, subst}
 use Rattle.std.specs.Prelude.{◌==◌, ◌≢◌, cond}
 use Rattle.std.specs.Cmp.{nat_cmp_total, tied_itself}
@@ -104,7 +104,7 @@ module _ (its : PutsItsOwn) (others : PutsNoOther) where
   pub last_is_in_force : LastIsInForce
   last_is_in_force texts account = put_last texts [] account ∙ or_none (last_of texts account)
 
--- ---- what each deed leaves
+-- ---- the effect of each operation
 
 emit_texts : (at : ℕ) (x : Emit) (w : World) → (emit_one at x w).texts ≡ w.texts
 emit_texts at (emit.Ask peer message) w = refl
@@ -269,7 +269,7 @@ module _ (d : Directory) (token : List ℕ) (at : ℕ) (s : Said) where
       let said = hear_says w.acts s.peer (message_in s.heard) in
       answering_texts said (hearing at s said w) ∙ hearing_texts said w
 
--- what was kept, of a digest
+-- what was stored, by a parsed event
 abbrev kept_in : WebDirectory → Digest → Option (Account × List ℕ)
 kept_in names Nothing = None
 kept_in names (Refused peer source reply) = None
@@ -292,7 +292,7 @@ module _ (d : Directory) (token : List ℕ) where
   more_texts fuel x w =
       came_texts (clock_at w x.at) x.digest x.took (settled d token fuel (clock_at w x.at) w) ∙ ap (put_kept (kept_in d.names x.digest)) (settled_texts d token fuel (clock_at w x.at) w)
 
-  -- nothing is kept of a datagram
+  -- nothing is stored for a datagram
   refused_keeps : (peer : Peer) (source : Addr) (o : Option (Message Start)) → kept_in d.names (refused_by peer source o) ≡ None
   refused_keeps peer source None = refl
   refused_keeps peer source (Some reply) = refl
@@ -313,7 +313,7 @@ module _ (d : Directory) (token : List ℕ) where
   unfolding digest_datagram
   datagram_keeps from bytes = from_keeps from bytes (peer_at from d.peers.known)
 
-  -- of what happened
+  -- for the record of an event
   event_keeps : (e : Event) (k : Kept) (rows : List Row) → kept_in d.names (digest_event d e k rows) ≡ upload_at d.names e k
   event_keeps (event.Datagram from at bytes) k rows = datagram_keeps from bytes
   event_keeps (event.Web at bytes) k rows = refl
@@ -339,9 +339,9 @@ pub texts_are_those_kept : TextsAreThoseKept
 texts_are_those_kept d token loaded fuel happened =
     after_texts d token fuel happened (beginning loaded) ∙ sym (each_append loaded (uploads_of d.names happened) [])
 
--- ---- what calls are told
+-- ---- what calls get
 
--- of a map of numbers: what was put is found, and nothing else changes
+-- in a map of numbers: what was put is found, and nothing else changes
 put_found : {X : Type 0} (m : FinMap nat_cmp X) (a b : ℕ) (x : X) → a ≡ b → get (insert m a x) b ≡ Some x
 put_found {X} m a b x same =
     let P : ℕ → Type 0 = λ n. get (insert m a x) n ≡ Some x in

@@ -1,4 +1,4 @@
--- Two messages of a peer that are equal without their private places are kin: the same is done with them, and what is built of them differs in texts to trusted peers alone.
+-- Two messages of a peer that are equal without their private places: the decisions on them are the same, and what is built from them differs in texts to trusted peers alone.
 use Rattle.std.proofs.Common.{ℕ, ◌≡◌, List, [], refl, sym, ap, ◌∙◌, Bool, true, false, ◌&&◌, Option, Some, None, codes, subst}
 use Rattle.std.specs.Prelude.{is_none, is_some, if◌then◌else◌, Ok, Err}
 use Rattle.std.specs.declared.result.Result.{Result}
@@ -35,7 +35,7 @@ use Rattle.mmtel_run.specs.Refusals.{Course, JoinRoom, OpenRoom, Refuse, Subscri
 use Rattle.mmtel_run.specs.Rooms.{Holder, box_by, seat_by}
 use Rattle.mmtel_run.specs.Answers.{allowing, plainly}
 
--- the laws of the lower layers that this rests on
+-- the theorems of the lower layers on which this depends
 
 abbrev pub DecidesAlike : Type 0
 DecidesAlike = (restricts : Restriction) (accounts others : List AccountIdentity) (m n : HeardMessage) → trust.mask restricts accounts m ≡ trust.mask restricts others n → DecideAlike restricts accounts others m n
@@ -46,7 +46,7 @@ OpenAnswersAreKept = (p : Places) (start : Start) (ls : List Line) (r : Reply) �
 true_false : true ≡ false → ⊥
 true_false e = cc
 
--- ---- configurations that are equal but for accounts decide alike
+-- ---- configurations that are equal but for accounts decide equally
 
 module _ (d e : Directory) (equal : EqualButForAccounts d e) where
   target_same : (full : Bool) (m : HeardMessage) (target : Uri) → invited_to d full m target ≡ invited_to e full m target
@@ -67,7 +67,7 @@ module _ (d e : Directory) (equal : EqualButForAccounts d e) where
   invited_same : (full : Bool) (m : HeardMessage) → invited d full m ≡ invited e full m
   invited_same full m = read_same full m (uri_of (request_uri m.start))
 
-  -- the account that a REGISTER names, if it is asked for
+  -- the account that a REGISTER names, if it registers one
   registered_by : (b c : Bool) (o p : Option Account) (m : HeardMessage) (other : Course) → (if b && c then o else None) ≡ (if b && c then p else None)
       → (if c then (if b then registration_of o m else Refuse (plainly 403)) else other) ≡ (if c then (if b then registration_of p m else Refuse (plainly 403)) else other)
   registered_by b false o p m other same = refl
@@ -82,7 +82,7 @@ module _ (d e : Directory) (equal : EqualButForAccounts d e) where
       → (if is_register m then registration d.names.accounts m else subscribed m) ≡ (if is_register m then registration e.names.accounts m else subscribed m)
   registered_same m same = registered_by m.trusted (is_register m) (to_account d.names.accounts m) (to_account e.names.accounts m) m (subscribed m) same
 
-  -- both know the same methods, support the same options and so refuse alike
+  -- both know the same methods, support the same options and so refuse equally
   allowing_same : (code : ℕ) → allowing d code ≡ allowing e code
   allowing_same code = ap (λ (x : FurtherMethods). record { code = code; named = allowed x }) (λ i. record { reliable = equal.reliable i; mwi = equal.mwi i })
 

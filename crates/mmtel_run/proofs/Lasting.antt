@@ -1,4 +1,4 @@
--- What deadlines make of all calls together: where one brings anything forth, they have fewer ways to go than before.
+-- The effect of timers on all calls together: where one outputs anything, they have fewer ways to proceed than before.
 use Rattle.std.proofs.Common.{◌≡◌, ℕ, suc, ◌+◌, ◌≤◌, ◌<◌, List, [], length, refl, ap, sym, ◌∙◌, Bool, true, false, Option, Some, None, inl, inr, arith, subst}
 use Rattle.std.specs.Prelude.{◌⊎◌, position, remove, slice_get, slice_set, sum_by, if◌then◌else◌}
 use Rattle.std.proofs.lemmas.List.Sums.{sum_by-remove, sum_by-set}
@@ -20,14 +20,14 @@ use Rattle.mmtel_sheet_values.specs.View.{InForce}
 use Rattle.mmtel_types.specs.declared.numbers.Account.{Account}
 use Rattle.mmtel_run.proofs.Waning.{Wanes, is_of_deadline, wanes, ways}
 
--- so many ways to go all calls have
+-- the number of ways to proceed that all calls have
 abbrev pub ways_of : Entry → ℕ
 ways_of e = ways e.call
 
 abbrev pub all_ways : List Entry → ℕ
 all_ways es = sum_by ways_of es
 
--- nothing is brought forth, and there are no more ways than before; or there are fewer
+-- nothing is output, and there are no more ways than before; or there are fewer
 abbrev pub Fades : List Entry → Desk → Moved → Type 0
 Fades es desk m = ((m.desk.out ≡ desk.out) × (all_ways m.entries ≤ all_ways es)) ⊎ (suc (all_ways m.entries) ≤ all_ways es)
 
@@ -72,7 +72,7 @@ module _ (site : Site) (at : ℕ) (view : InForce) (x : Signal) (is : is_of_dead
   heard-fades : (whose : Entry → Bool) (es : List Entry) (desk : Desk) → Fades es desk (heard site at view whose x [] es desk)
   heard-fades whose es desk = in-fades (position whose es) es desk
 
--- what calls hear of deadlines
+-- the signals of timers to calls
 abbrev pub is_rung : table.Signal → Bool
 is_rung (signal.Arrived key invite served registration identities) = false
 is_rung (signal.Request call side key request) = false

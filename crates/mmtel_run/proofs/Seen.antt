@@ -1,4 +1,4 @@
--- Of the records and registrations calls see what is said of each account, however it is held.
+-- Of the records and registrations calls depend only on what is recorded for each account, however it is stored.
 use Rattle.std.proofs.Common.{◌≡◌, ℕ, List, [], refl, ap, ◌∙◌, Option, Some, None}
 use Rattle.std.specs.Prelude.{Bool, position, slice_get}
 use Rattle.mmtel_b2bua.specs.Entries.{busy_beside, heard_by, is_numbered, sent_it}

@@ -1,4 +1,4 @@
--- What deadlines make of calls: where one brings anything forth, the call has fewer ways to go than before. So deadlines come to an end.
+-- The effect of timers on calls: where one outputs anything, the call has fewer ways to proceed than before. So timers come to an end.
 use Rattle.std.proofs.Common.{◌≡◌, ℕ, zero, suc, ◌+◌, ◌≤◌, ◌++◌, List, add-one, drop, length, take, refl, ap, ◌∙◌, not, Bool, true, false, Option, Some, None, inl, inr, arith}
 use Rattle.std.specs.Prelude.{◌⊎◌, ◌==◌, ◌&&◌, if◌then◌else◌, position, remove, slice_get}
 use Rattle.std.proofs.lemmas.List.Edits.{length-remove}
@@ -43,8 +43,8 @@ use Rattle.mmtel_transaction.specs.declared.words.DueWord.TheVariants as due
 use Rattle.mmtel_types.specs.declared.causes.Cause.{Cause}
 use Rattle.mmtel_types.specs.declared.causes.Cause.TheVariants as causes
 
--- so many ways to go a call has: while it is offered as many as diversions are left, and two; once it is answered one; once it is over none; and one with each request that is
--- in flight, whose silence is answered
+-- the number of ways to proceed that a call has: while it is offered the number of remaining diversions plus two; once it is answered one; once it has ended none; and one for each request that
+-- is in flight, whose timeout gets a response
 abbrev pub ways_in : Phase → (left : ℕ) → ℕ
 ways_in (Offered x) left = 2 + left
 ways_in (Stood x stage) left = 1
@@ -56,11 +56,11 @@ ways c = ways_in c.phase c.diversions.left + length c.flights
 
 -- ---- a diversion that is due
 
--- at most so many are left after the step of this call, beside what is in flight
+-- at most so many remain after the step of this call, not counting what is in flight
 abbrev Leaves : ℕ → Call → Step → Type 0
 Leaves most c s = ways s.call ≤ most + length c.flights
 
--- whatever a diversion comes to that is due where so many are left
+-- whatever the outcome of a diversion that is due where so many remain
 abbrev DivertLeaves : (left : ℕ) → Site → Standing → Leg → Type 0
 DivertLeaves left site now caller = (service : Option Service) (due : DueDiversion) (c : Call) (desk : Desk) → Leaves (1 + left) c (divert left site now caller service due c desk)
 
@@ -117,7 +117,7 @@ goes-leaves site now x how m c desk =
 
 -- ---- a step
 
--- it brings nothing forth, and the call has no more ways to go than before; or it has fewer
+-- it outputs nothing, and the call has no more ways to proceed than before; or it has fewer
 abbrev Fewer : Call → Step → Type 0
 Fewer c s = suc (ways s.call) ≤ ways c
 
@@ -135,7 +135,7 @@ fewer x c s is less = let have : ways_in c.phase c.diversions.left ≡ 2 + c.div
 ends : (x : Pair) (stage : Stage) (c : Call) (s : Step) → c.phase ≡ Stood x stage → ways s.call ≡ 0 → Fewer c s
 ends x stage c s is none = let have : ways_in c.phase c.diversions.left ≡ 1 = ap (λ (p : Phase). ways_in p c.diversions.left) is in omega (arith, none, have)
 
--- ---- no response came to the INVITE that it waits on
+-- ---- no response came to the INVITE whose response it awaits
 
 silenced-fewer : (b : Bool) (site : Site) (now : Standing) (x : Trial) (c : Call) (desk : Desk) → c.phase ≡ Offered x → not b ≡ true
     → Fewer c (if b then onward c desk else goes_on site now x (NotReachable 408) None c desk)
@@ -154,7 +154,7 @@ silence-fewer (Stood x stage) site now c desk is leaves = across-fewer stage sit
 silence-fewer (Lent loan) site now c desk is leaves = absurd (let f : false ≡ true = leaves in cc)
 silence-fewer (Over cause) site now c desk is leaves = absurd (let f : false ≡ true = leaves in cc)
 
--- where that leaves the call as it is
+-- where that does not change the call
 rang-stays : (b : Bool) (site : Site) (now : Standing) (x : Trial) (c : Call) (desk : Desk) → not b ≡ false → Wanes c desk (if b then onward c desk else goes_on site now x (NotReachable 408) None c desk)
 rang-stays true site now x c desk stay = stays c c desk refl
 rang-stays false site now x c desk stay = absurd (let f : true ≡ false = stay in cc)
@@ -173,7 +173,7 @@ silence-stays (Over cause) site now c desk stay = stays c c desk refl
 
 -- ---- nor to another request
 
--- one of those in flight is answered
+-- one of those in flight gets its final response
 flight-wanes : (place : ℕ) (o : Option Flight) (site : Site) (c : Call) (desk : Desk) → slice_get c.flights place ≡ o → Wanes c desk (silent_flight site place o c desk)
 flight-wanes place None site c desk is = stays c c desk refl
 flight-wanes place (Some flight) site c desk is =
@@ -189,7 +189,7 @@ other-wanes : (o : Option ℕ) (site : Site) (branch : List ℕ) (c : Call) (des
 other-wanes None site branch c desk = flying-wanes (position (is_in_flight branch) c.flights) site c desk
 other-wanes (Some at) site branch c desk = stays c (without_silent branch c) desk refl
 
--- the step, where the call is not left, and where it is: what was in flight is answered then
+-- the step, where the attempt or the call is not left, and where it is: what was in flight gets its final response then
 abbrev silence_row : (now_on : Bool) → Site → Standing → (branch : List ℕ) → Call → Desk → Step
 silence_row now_on site now branch c desk = if now_on then silence_in c.phase site now c desk else silent_other site branch c desk
 
@@ -213,7 +213,7 @@ silence_of-fewer : (branch : Option (List ℕ)) (site : Site) (now : Standing) (
 silence_of-fewer None site now c desk leave = absurd (let f : false ≡ true = leave in cc)
 silence_of-fewer (Some branch) site now c desk leave = dismissed-fewer c (silence_row (is_current branch c) site now branch (dismissed c) desk) (silent-fewer (is_current branch c) site now branch (dismissed c) desk leave)
 
--- ---- a deadline
+-- ---- a timer
 
 -- of an attempt
 timed-fewer : (b : Bool) (site : Site) (now : Standing) (x : Trial) (how : End) (c : Call) (desk : Desk) → c.phase ≡ Offered x → b ≡ true → Fewer c (if b then timed_out site now x how c desk else onward c desk)
@@ -248,7 +248,7 @@ due-fewer (Stood x stage) site now what c desk is leave = stage-fewer (is_due_at
 due-fewer (Lent loan) site now what c desk is leave = absurd (let f : false ≡ true = leave in cc)
 due-fewer (Over cause) site now what c desk is leave = absurd (let f : false ≡ true = leave in cc)
 
--- whether it leaves the call does not rest on what is in flight
+-- whether it leaves the call does not depend on what is in flight
 time-same : (x : Trial) (what : DueWord) (c : Call) → leaves_on_time x what (dismissed c) ≡ leaves_on_time x what c
 time-same x (due.NoReply number) c = refl
 time-same x (due.NoPrack own) c = refl
@@ -262,7 +262,7 @@ due-same (Stood x stage) what c = refl
 due-same (Lent loan) what c = refl
 due-same (Over cause) what c = refl
 
--- one that is of nothing any more
+-- one that concerns nothing any more
 unless-stays : (b : Bool) (s : Step) (c : Call) (desk : Desk) → b ≡ false → Wanes c desk (if b then s else onward c desk)
 unless-stays true s c desk stay = absurd (let f : true ≡ false = stay in cc)
 unless-stays false s c desk stay = stays c c desk refl
@@ -280,7 +280,7 @@ due-stays (Stood x stage) site now what c desk stay = unless-stays (is_due_at st
 due-stays (Lent loan) site now what c desk stay = stays c c desk refl
 due-stays (Over cause) site now what c desk stay = stays c c desk refl
 
--- what a call hears of deadlines
+-- the signals of timers to a call
 abbrev pub is_of_deadline : Signal → Bool
 is_of_deadline (signal.Request side key request) = false
 is_of_deadline (signal.Ack side ack) = false

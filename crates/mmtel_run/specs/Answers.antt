@@ -1,4 +1,4 @@
--- The answers that the server makes of its own (RFC 3261 §8.2, §8.2.6, §20.5, §20.40).
+-- The responses that the server makes of its own (RFC 3261 §8.2, §8.2.6, §20.5, §20.40).
 use Rattle.std.specs.Prelude.{ℕ, ◌+◌, Bool, not, ◌&&◌, ◌||◌, if◌then◌else◌, List, [], ◌∷◌, map, filter, codes, Option, Some, is_none}
 use Rattle.std.specs.Str.{bytes_eq}
 use Rattle.mmtel_answers.specs.Answers.{allowed, own_answer}
@@ -13,9 +13,9 @@ use Rattle.mmtel_scan.specs.Numbers.{token_text}
 use Rattle.mmtel_trust.specs.Digest.{HeardMessage, tag_of}
 use Rattle.mmtel_types.specs.declared.addrs.Addr.{Addr}
 
--- ---- what is answered
+-- ---- status and header fields
 
--- a status, and the lines that this answer has of its own
+-- a status, and the header fields that this response has of its own
 pub record Answer : Type 0 where
   pub code : ℕ
   pub named : List Line
@@ -23,11 +23,11 @@ pub record Answer : Type 0 where
 abbrev pub plainly : ℕ → Answer
 plainly code = record { code = code; named = [] }
 
--- the methods that the server knows beside those that it always knows
+-- the methods that the server knows in addition to those that it always knows
 abbrev pub further_methods : Directory → FurtherMethods
 further_methods directory = record { reliable = directory.reliable; mwi = directory.names.mwi }
 
--- with the methods that the server knows (§20.5)
+-- with the methods that the server knows, in Allow (§20.5)
 abbrev pub allowing : Directory → ℕ → Answer
 allowing directory code = record { code = code; named = allowed (further_methods directory) }
 
@@ -46,11 +46,11 @@ unsupported directory message = filter (λ option. is_unsupported directory opti
 abbrev pub unsupported_line : List ℕ → Line
 unsupported_line option = (codes "Unsupported", option)
 
--- 420, with a line for each of them (§20.40)
+-- 420, with an Unsupported header field for each of them (§20.40)
 abbrev pub without_extension : Directory → HeardMessage → Answer
 without_extension directory message = record { code = 420; named = map unsupported_line (unsupported directory message) }
 
--- 422, with the least interval that is taken (RFC 4028 §6)
+-- 422, with the minimum session interval (RFC 4028 §6)
 abbrev pub too_small : Answer
 too_small = record { code = 422; named = (codes "Min-SE", codes "90") ∷ [] }
 
@@ -66,11 +66,11 @@ tag_for token drawn to_tag = if is_none to_tag then token_text token (drawn + 1)
 
 -- ---- the response
 
--- to what was said
+-- to a received request
 abbrev pub response_to : (sip : Addr) → (tag : List ℕ) → Said → Answer → Message Start
 response_to sip tag said answer = own_answer (contact_text sip) said tag answer.code [] answer.named []
 
--- the tag of To in these lines
+-- the tag of To in these header fields
 abbrev pub to_tag_in : List Line → Option (List ℕ)
 to_tag_in lines = tag_of (first_value (codes "To") lines)
 

@@ -1,4 +1,4 @@
--- Whoever asks for a conference room or for a seat in one offers audio: the mixer takes nothing else (RFC 4579 §5.1, RFC 3264 §6).
+-- An INVITE that asks for a conference or to join one offers audio: the mixer takes nothing else (RFC 4579 §5.1, RFC 3264 §6).
 use Rattle.std.specs.Prelude.{◌≡◌, Bool, true, false, Option}
 use Rattle.mmtel_directory.specs.declared.directories.Directory.{Directory}
 use Rattle.mmtel_sdp.specs.Offers.{offers_audio}
@@ -6,7 +6,7 @@ use Rattle.mmtel_trust.specs.Digest.{HeardMessage}
 use Rattle.mmtel_run.specs.Refusals.{Course, Refuse, Enter, EnterRoom, Open, OpenRoom, JoinRoom, Register, Subscribe, EnterBox, course}
 use Rattle.mmtel_run.specs.Rooms.{Holder}
 
--- it asks for a room, or for a seat
+-- it asks for a conference, or to join one
 abbrev pub is_for_room : Course → Bool
 is_for_room (Refuse answer) = false
 is_for_room (Enter call side) = false

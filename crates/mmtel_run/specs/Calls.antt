@@ -1,4 +1,4 @@
--- To which call a message belongs, from whichever peer it comes, and what the calls are told (RFC 3261 §9.2, §12.2.2, §17.1.3; RFC 5502 §6).
+-- To which call a message belongs, from whichever peer it comes, and what the calls get with it (RFC 3261 §9.2, §12.2.2, §17.1.3; RFC 5502 §6).
 use Rattle.std.specs.Prelude.{ℕ, nat_le, Bool, List, Option, Some, None, count_by}
 use Rattle.mmtel_answers.specs.Said.{Said}
 use Rattle.mmtel_b2bua.specs.Entries.{is_live}
@@ -22,7 +22,7 @@ use Rattle.mmtel_trust.specs.declared.identities.Identities.{Identities}
 use Rattle.mmtel_types.specs.declared.numbers.CallNo.{CallNo}
 use Rattle.mmtel_types.specs.declared.sides.Side.{Side}
 
--- the configuration, as calls know it
+-- the configuration, as calls need it
 abbrev pub site_of : Directory → Site
 site_of directory = record {
   sip = directory.sip;
@@ -36,43 +36,43 @@ site_of directory = record {
   accounts = directory.names.accounts;
 }
 
--- the calls, after what was done on them
+-- the calls, after these operations on them
 abbrev pub calls_after : Directory → List Deed → Table
 calls_after directory deeds = table_after (site_of directory) deeds
 
 -- ---- to which call a message belongs
 
--- the name of a dialog (§12), of its Call-ID, the server's tag and that of the other side
+-- the name of a dialog (§12), from its Call-ID, the server's tag and the remote tag
 abbrev pub name_by : Option (List ℕ) → Option (List ℕ) → Option (List ℕ) → Option DialogName
 name_by None local remote = None
 name_by (Some call_id) None remote = None
 name_by (Some call_id) (Some local) None = None
 name_by (Some call_id) (Some local) (Some remote) = Some (record { call_id = call_id; local = local; remote = remote })
 
--- the one that a message of a peer names: To has the server's tag
+-- the dialog that a message of a peer names: its To has the server's tag
 abbrev pub dialog_name : HeardMessage → Option DialogName
 dialog_name message = name_by message.call_id message.to_tag message.from_tag
 
--- the call that lives and the side whose dialog has this name
+-- the live call and the side whose dialog has this name
 abbrev pub find_dialog : Option DialogName → List Entry → Option (CallNo × Side)
 find_dialog None entries = None
 find_dialog (Some name) entries = first_side (side_named name.call_id name.local name.remote) entries
 
--- the call that lives and the side whose dialog a message names
+-- the live call and the side whose dialog a message names
 abbrev pub named_by : HeardMessage → List Entry → Option (CallNo × Side)
 named_by message entries = find_dialog (dialog_name message) entries
 
--- the call that lives and the side whose INVITE opened a server transaction
+-- the live call and the side whose INVITE opened a server transaction
 abbrev pub asked_by : TKey → List Entry → Option (CallNo × Side)
 asked_by invite entries = first_side (side_asking invite) entries
 
 -- ---- an INVITE that opens a call
 
--- so many live that no more is opened
+-- as many calls live as may, so that no more is opened
 abbrev pub are_full : List Entry → Bool
 are_full entries = nat_le most_calls (count_by is_live entries)
 
--- who its caller is, where its sender is believed
+-- the identities of the caller, where the sender is trusted
 abbrev pub both_of : Identities → Identities2
 both_of identities = record { sip = identities.sip; tel = identities.tel }
 
@@ -82,6 +82,6 @@ caller_of message = both_of (asserted message.trusted message.lines)
 abbrev pub arrived_by : Parties → TKey → Said → Signal
 arrived_by parties key said = signal.Arrived key said (served_accounts parties) parties.registration (caller_of said.heard)
 
--- with what is read of its parties
+-- the signal of an INVITE that opens a call, with what is read of its parties
 abbrev pub arrived : List AccountIdentity → TKey → Said → Signal
 arrived accounts key said = arrived_by (parties_of accounts said.heard) key said

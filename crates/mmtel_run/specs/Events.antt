@@ -1,4 +1,4 @@
--- What a run hears: what happened, and of it what the rules of a run read, with its moment. `digest` is the only word that sees bytes.
+-- The inputs of a run: the record of each event, and what the rules of a run read of it, with its moment. `digest` is the only definition that reads bytes.
 use Rattle.std.specs.Prelude.{ℕ, Bool, Option, Some, None, List, Ok, Err, map}
 use Rattle.mmtel_answers.specs.Said.{Said, said}
 use Rattle.mmtel_charging.specs.declared.rows.Row.{Row}
@@ -16,10 +16,10 @@ use Rattle.mmtel_types.specs.declared.addrs.Addr.{Addr}
 use Rattle.mmtel_types.specs.declared.numbers.Peer.{Peer}
 use Rattle.mmtel_web.specs.Answers.{Kept}
 
--- ---- what happened
+-- ---- the record of an event
 
--- an event, and what the keeper answered in it: whether its call was made, failed, or was given up for want of memory before anything changed, and the charging rows that
--- it gave; and whether it took the rows that were handed to it at the end. Of what was not asked of the keeper nobody reads these
+-- an event, and the results of the keeper in it: whether its call succeeded, failed, or ran out of memory before anything changed, and the CDRs that it returned; and whether
+-- it accepted the CDRs that were handed to it at the end. Results for which the keeper was not called are not read
 pub record Happened : Type 0 where
   pub event : Event
   pub kept : Kept
@@ -35,14 +35,14 @@ pub data Digest : Type 0 where
   Refused : (peer : Peer) → (source : Addr) → (reply : Message Start) → Digest
   -- a message of a peer
   Heard : (said : Said) → Digest
-  -- what a web connection asks, and what the keeper answered
+  -- a web request, and the results of the keeper
   Asked : (request : Request) → (kept : Kept) → (rows : List Row) → Digest
 
 abbrev pub refused_by : Peer → Addr → Option (Message Start) → Digest
 refused_by peer source None = Nothing
 refused_by peer source (Some reply) = Refused peer source reply
 
--- of what reading gave of the bytes that this peer sent from there; it never wants memory
+-- the event for the result of reading the bytes that this peer sent from this address; reading never runs out of memory
 abbrev pub digest_read : Peers → Peer → Addr → Read → Digest
 digest_read peers peer source (Ok message) = Heard (said peer source (is_trusted peer peers.known) message)
 digest_read peers peer source (Err (fault.TooLarge reply)) = refused_by peer source reply
@@ -65,7 +65,7 @@ digest_event directory (event.Datagram from at bytes) kept rows = digest_datagra
 digest_event directory (event.Web at bytes) kept rows = Asked (request_of bytes) kept rows
 digest_event directory (event.Quiet at) kept rows = Nothing
 
--- of what happened
+-- of the record of an event
 abbrev pub digest : Directory → Happened → Digest
 digest directory happened = digest_event directory happened.event happened.kept happened.rows
 
@@ -77,7 +77,7 @@ moment_of (event.Datagram from at bytes) = at
 moment_of (event.Web at bytes) = at
 moment_of (event.Quiet at) = at
 
--- what a run notices of one event: its moment, what is read of it, and whether the keeper took the rows at its end
+-- what a run depends on of one event: its moment, what is read of it, and whether the keeper accepted the CDRs at its end
 pub record Notice : Type 0 where
   pub at : ℕ
   pub digest : Digest
@@ -86,7 +86,7 @@ pub record Notice : Type 0 where
 abbrev pub notice_of : Directory → Happened → Notice
 notice_of directory came = record { at = moment_of came.event; digest = digest directory came; took = came.took }
 
--- of all that happened in a run
+-- of all events of a run
 abbrev pub notices : Directory → List Happened → List Notice
 notices directory happened = map (λ came. notice_of directory came) happened
 

@@ -1,4 +1,4 @@
--- The charging rows of a run: those of the calls that are over and of the seats that were left, in the order in which they were closed (TS 32.260 §5).
+-- The CDRs of a run: those of the calls that ended and of the participants that left, in the order in which they were closed (TS 32.260 §5).
 use Rattle.std.specs.Prelude.{◌≡◌, ℕ, zero, suc, Bool, true, if◌then◌else◌, List, [], ◌∷◌, ◌++◌, drop, length, map}
 use Rattle.mmtel_b2bua.specs.Histories.{Deed, Drops, Finishes, Hears, Releases, Restores, finished_by, heard_by, table_after}
 use Rattle.mmtel_b2bua.specs.Tables.{Table}
@@ -16,7 +16,7 @@ use Rattle.mmtel_run.specs.World.{World, beginning, came}
 
 -- ---- those of the calls
 
--- the rows that one more deed closes, where the calls stand so
+-- the CDRs that one more operation closes, in this state of the calls
 abbrev pub closed_by : Site → Deed → Table → List Row
 closed_by site (Hears heard) table = (heard_by site heard table).desk.rows
 closed_by site (Releases number side) table = []
@@ -24,21 +24,21 @@ closed_by site (Restores number away) table = []
 closed_by site (Finishes number at tokens) table = (finished_by site number at tokens table).desk.rows
 closed_by site (Drops count) table = []
 
--- the rows that were closed by all that was done on the calls, in order
+-- the CDRs that all operations on the calls closed, in order
 abbrev pub rows_closed : Site → List Deed → List Row
 rows_closed site [] = []
 rows_closed site (deed ∷ deeds) = rows_closed site deeds ++ closed_by site deed (table_after site deeds)
 
--- ---- those of the rooms
+-- ---- those of the conferences
 
--- the rows of seats that were left by all that was done on the rooms, in order
+-- the CDRs of participants that left, closed by all operations on the conferences, in order
 abbrev pub rows_left : focus.Site → List rooms.Deed → List Row
 rows_left site [] = []
 rows_left site (deed ∷ deeds) = rows_left site deeds ++ (rooms.brought_after site deeds deed).desk.rows
 
 -- ---- those of a run
 
--- a row, and whether it is of the calls, or else of the rooms
+-- a CDR, and whether it is of the calls, or else of the conferences
 pub record Closed : Type 0 where
   pub of_calls : Bool
   pub row : Row
@@ -54,8 +54,8 @@ abbrev pub rows_of_rooms : List Closed → List Row
 rows_of_rooms [] = []
 rows_of_rooms (one ∷ others) = if one.of_calls then rows_of_rooms others else one.row ∷ rows_of_rooms others
 
--- the rows that the keeper took and those that wait are the rows that were closed: those of the calls in their order and those of the rooms in theirs; none is lost and
--- none comes twice
+-- the CDRs that the keeper accepted and those that wait are the CDRs that were closed: those of the calls in their order and those of the conferences in theirs; none is lost
+-- and none comes twice
 pub record AreFiled (directory : Directory) (world : World) : Type 0 where
   pub closed : List Closed
   pub all : rows_in closed ≡ world.filed ++ world.waiting
@@ -66,21 +66,21 @@ abbrev pub RowsAreFiled : Type 0
 RowsAreFiled = (directory : Directory) (token : List ℕ) (loaded : Texts) (fuel : ℕ) (happened : List Happened) →
     AreFiled directory (world_after directory token loaded fuel happened)
 
--- ---- in one order: that of the steps, of which each is a deadline that fires, or an event
+-- ---- in one order: that of the steps, each of which is a timer that fires, or an event
 
--- the worlds to which the deadlines lead that are due at a moment, one after another
+-- the states after each of the timers that are due at a moment, one after another
 abbrev pub settling : Directory → (token : List ℕ) → (fuel : ℕ) → ℕ → World → List World
 settling directory token zero now world = []
 settling directory token (suc fuel) now world = fire_one directory token now world ∷ settling directory token fuel now (fire_one directory token now world)
 
--- those to which the steps of a run lead: before each event the deadlines that are due by then, and then the event
+-- the states after each step of a run: before each event the timers that are due by then, and then the event
 abbrev pub steps_of : Directory → (token : List ℕ) → (fuel : ℕ) → List Notice → World → List World
 steps_of directory token fuel [] world = []
 steps_of directory token fuel (notice ∷ others) world =
     settling directory token fuel (clock_at world notice.at) world
     ++ one_more directory token fuel notice world ∷ steps_of directory token fuel others (one_more directory token fuel notice world)
 
--- the rows that a step closes: of the seats that were left in it, and behind them of the calls that were over in it
+-- the CDRs that a step closes: of the participants that left in it, and then of the calls that ended in it
 abbrev pub rows_of_step : Directory → (before after : World) → List Row
 rows_of_step directory before after =
     drop (length (rows_left (rooms_site directory) before.rooms)) (rows_left (rooms_site directory) after.rooms)
@@ -90,7 +90,7 @@ abbrev pub rows_of_steps : Directory → (before : World) → (steps : List Worl
 rows_of_steps directory before [] = []
 rows_of_steps directory before (world ∷ later) = rows_of_step directory before world ++ rows_of_steps directory world later
 
--- the rows that the keeper took, and behind them those that wait, are those of the first step, behind them those of the second, and so on
+-- the CDRs that the keeper accepted, and then those that wait, are those of the first step, then those of the second, and so on
 abbrev pub AreInOrder : Directory → (token : List ℕ) → (loaded : Texts) → (fuel : ℕ) → List Happened → Type 0
 AreInOrder directory token loaded fuel happened =
     (world_after directory token loaded fuel happened).filed ++ (world_after directory token loaded fuel happened).waiting
@@ -99,6 +99,6 @@ AreInOrder directory token loaded fuel happened =
 abbrev pub RowsAreInOrder : Type 0
 RowsAreInOrder = (directory : Directory) (token : List ℕ) (loaded : Texts) (fuel : ℕ) (happened : List Happened) → AreInOrder directory token loaded fuel happened
 
--- none waits behind an event in which the keeper took what was handed to it
+-- none waits after an event in which the keeper accepted what was handed to it
 abbrev pub NoneWaits : Type 0
 NoneWaits = (directory : Directory) (token : List ℕ) (at : ℕ) (digest : Digest) (world : World) → (came directory token at digest true world).waiting ≡ []

@@ -1,5 +1,5 @@
--- What was done in a run so far, layer by layer, and the single deeds that all others are made of. Of a layer stands the list of what was done on it, never a table: what was
--- opened, is live, is due or waits is a function of that list. Of the records stands the text of each account, by the last one that was kept (`specs/InForce`).
+-- The state of a run, layer by layer, and the elementary operations of which all others are made. For each layer it has the list of operations on it, never a table: what was
+-- opened, is live, is due or waits is a function of that list. For the records it has the text of each account, the last one that was stored (`specs/InForce`).
 use Rattle.std.specs.Prelude.{ℕ, ◌+◌, ◌-◌, Bool, List, [], ◌∷◌, ◌++◌, Option, Some, None}
 use Rattle.mmtel_answers.specs.Said.{Said}
 use Rattle.mmtel_b2bua.specs.Histories.{Deed}
@@ -38,30 +38,30 @@ use Rattle.mmtel_mwi.specs.Histories as boxes
 pub record World : Type 0 where
   -- the greatest moment so far
   pub clock : ℕ
-  -- how many events came and deadlines fired
+  -- how many events came and timers fired
   pub steps : ℕ
-  -- the calls on the transactions, the newest first
+  -- the operations on the transactions, the newest first
   pub acts : List Done
   -- how many numbers were drawn
   pub drawn : ℕ
-  -- what was done on the calls, and on the rooms, the newest first
+  -- the operations on the calls, and on the conferences, the newest first
   pub deeds : List Deed
   pub rooms : List rooms.Deed
-  -- what was done on mailboxes and on the subscriptions to them, the newest first
+  -- the operations on mailboxes and on the subscriptions to them, the newest first
   pub boxes : List boxes.Deed
-  -- the deadlines of calls, of seats and of subscriptions that did not fire, in the order in which they were armed
+  -- the timers of calls, of participants and of subscriptions that did not fire, in the order in which they were armed
   pub armed : List Armed
-  -- the text that was loaded or kept last for each account that has one
+  -- the text that was loaded or stored last for each account that has one
   pub texts : Texts
   -- the accounts that were registered, each until a moment, the newest registration first
   pub registrations : List (Account × ℕ)
-  -- the charging rows that were closed and that the keeper did not take, in order, and those that it took
+  -- the CDRs that were closed and that the keeper did not accept, in order, and those that it accepted
   pub waiting : List Row
   pub filed : List Row
-  -- all that was offered, in order
+  -- all outputs, in order
   pub offers : List Offer
 
--- nothing was done yet; these texts were loaded
+-- the initial state: no operation yet; these texts were loaded
 abbrev pub beginning : (loaded : Texts) → World
 beginning loaded = record {
   clock = 0;
@@ -89,9 +89,9 @@ record_in_force world account = record_of world.texts account
 abbrev pub is_registered_in : World → Account → ℕ → Bool
 is_registered_in world account now = is_registered (end_at world.registrations account) now
 
--- ---- calls, rooms and mailboxes
+-- ---- calls, conferences and mailboxes
 
--- as they stand
+-- in their current state
 abbrev pub calls_in : Directory → World → Table
 calls_in directory world = calls_after directory world.deeds
 
@@ -101,11 +101,11 @@ rooms_in directory world = rooms_after directory world.rooms
 abbrev pub boxes_in : World → mailboxes.Table
 boxes_in world = boxes.table_after world.boxes
 
--- whose dialog a message names
+-- the owner of the dialog that a message names
 abbrev pub holder_in : Directory → HeardMessage → World → Option Holder
 holder_in directory message world = holder_of message (calls_in directory world).entries (rooms_in directory world).live (boxes_in world)
 
--- ---- single deeds
+-- ---- elementary operations
 
 abbrev pub offering : List Offer → World → World
 offering offers world = record world { offers = world.offers ++ offers }
@@ -124,7 +124,7 @@ abbrev pub to_peer : ℕ → List ℕ → Option Peer → List Offer
 to_peer at text None = []
 to_peer at text (Some peer) = offer.To peer at text ∷ []
 
--- what a layer wants done, at a moment: whatever is offered for one goes through here
+-- a command of a layer, at a moment: whatever is output for one goes through here
 abbrev pub emit_one : ℕ → Emit → World → World
 emit_one at (emit.Ask peer message) world = offering (offer.To peer at (message_text message) ∷ []) (acting (DidAsk peer message at) world)
 emit_one at (emit.Reply key message) world = offering (to_peer at (message_text message) (peer_of key.0 (live world.acts))) (acting (DidReply key.0 message at) world)
@@ -146,14 +146,14 @@ tokens_now token world = record { token = token; drawn = world.drawn }
 abbrev pub next_tag : (token : List ℕ) → World → List ℕ
 next_tag token world = token_text token (world.drawn + 1)
 
--- ---- answers
+-- ---- responses
 
--- an answer in a transaction, with a tag of the server where To has none
+-- a response in a transaction, with a tag of the server where To has none
 abbrev pub replying : Directory → (token : List ℕ) → ℕ → TKey → Said → Answer → World → World
 replying directory token at key said answer world =
     emitted at (emit.Reply key (response_to directory.sip (tag_for token world.drawn said.heard.to_tag) said answer) ∷ []) (drawing (tags_due said.heard.to_tag) world)
 
--- an answer without one
+-- a response without one
 abbrev pub replying_plainly : Directory → (token : List ℕ) → ℕ → Said → Answer → World → World
 replying_plainly directory token at said answer world =
     emitted at (emit.Plain said.peer (message_text (response_to directory.sip (tag_for token world.drawn said.heard.to_tag) said answer)) ∷ [])

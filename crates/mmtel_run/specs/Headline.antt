@@ -1,4 +1,4 @@
--- What is claimed of a run: what the server offers. The files beside this one say what each word means.
+-- What is claimed of a run: what the server outputs. The files beside this one define each word of it.
 use Rattle.std.specs.Prelude.{◌≡◌, ◌+◌, ℕ, List}
 use Rattle.mmtel_directory.specs.declared.directories.Directory.{Directory}
 use Rattle.mmtel_outside.specs.declared.events.Offer.{Offer}
@@ -6,7 +6,7 @@ use Rattle.mmtel_in_force.specs.Texts.{Texts}
 use Rattle.mmtel_run.specs.Events.{Happened}
 use Rattle.mmtel_run.specs.Run.{IsEnough, gives}
 
--- in the run in which this happened, over the texts that were loaded, the server offers exactly this: every deadline that is due before an event has fired, however many these are
+-- in the run with these events, over the texts that were loaded, the server outputs exactly this: every timer that is due before an event has fired, however many these are
 pub record Gives (directory : Directory) (token : List ℕ) (loaded : Texts) (happened : List Happened) (offers : List Offer) : Type 0 where
   pub fuel : ℕ
   pub enough : IsEnough directory token loaded fuel happened

@@ -1,12 +1,12 @@
 -- What public clauses cite, which a user of the crate has to believe.
 -- What is claimed of a run:
 pub mod Headline
--- What it hears, what was done in it, and what each deed adds:
+-- Its inputs, the operations in it, and what each operation adds:
 pub mod Events
 pub mod Ground
 pub mod Subscriptions
 pub mod World
--- Which deadline comes first, and to which call or room a message belongs:
+-- Which timer comes first, and to which call or conference a message belongs:
 pub mod Deadlines
 pub mod Calls
 pub mod Rooms
@@ -14,7 +14,7 @@ pub mod Access
 -- The records in force, and the registrations:
 pub mod Records
 pub mod InForce
--- What is done with a request, and what is answered:
+-- What is done with a request, and which response it gets:
 pub mod Refusals
 pub mod Audio
 pub mod Answers
@@ -22,9 +22,9 @@ pub mod Answers
 pub mod Run
 pub mod Short
 pub mod View
--- The charging rows:
+-- The CDRs:
 pub mod Filed
--- A message without its private places, and what does not rest on them:
+-- A message without its private places, and what does not depend on them:
 pub mod Mask
 pub mod Alike
 

@@ -1,4 +1,4 @@
--- What becomes of registrations, each of which stands until a moment (RFC 3261 §10.3); and what the calls are told of records and registrations.
+-- The effect of registrations, each of which is valid until a moment (RFC 3261 §10.3); and what the calls get of records and registrations.
 use Rattle.std.specs.Prelude.{ℕ, ◌+◌, ◌*◌, min, [], ◌∷◌, Some}
 use Rattle.mmtel_in_force.specs.Texts.{Registrations, Texts}
 use Rattle.mmtel_sheet_grammar.specs.Texts.{kept_sheet}
@@ -9,9 +9,9 @@ use Rattle.mmtel_types.specs.Moments.{last_moment}
 abbrev pub until_of : (now seconds : ℕ) → ℕ
 until_of now seconds = min (now + seconds * 1000) last_moment
 
--- ---- what the calls are told (`specs/InForce` says of it that it is what is in force)
+-- ---- what the calls get (`specs/InForce` states that it is what is in force)
 
--- the record that each text is, for its account; of an account's texts the first one counts
+-- the record that each text is, for its account; of several texts of an account the first one counts
 abbrev pub with_records : Texts → InForce → InForce
 with_records [] view = view
 with_records (text ∷ others) view = with_sheet (with_records others view) text.0.0 (kept_sheet text.1)

@@ -1,4 +1,4 @@
--- What is done with a request that opens a transaction: the first refusal that applies (RFC 3261 §8.2), or what its dialog or its method asks for. It reads public parts alone.
+-- What is done with a request that opens a transaction: the first refusal that applies (RFC 3261 §8.2), or else what its dialog or method requires. It reads public parts alone.
 use Rattle.std.specs.Prelude.{◌++◌, ℕ, Bool, true, false, not, ◌&&◌, ◌||◌, ◌==◌, if◌then◌else◌, List, [], ◌∷◌, length, codes, Option, Some, None, is_none, is_some, Ok, Err}
 use Rattle.std.specs.List.{list_all, list_any}
 use Rattle.std.specs.Option.{unwrap_or}
@@ -36,35 +36,35 @@ use Rattle.mmtel_types.specs.declared.sides.Side.{Side}
 use Rattle.mmtel_run.specs.Answers.{Answer, allowing, plainly, too_small, unsupported, without_extension}
 use Rattle.mmtel_run.specs.Rooms.{Holder, InBox, InCall, InRoom}
 
--- ---- what may be done
+-- ---- the dispositions of a request
 
 pub data Course : Type 0 where
-  -- it is answered
+  -- it gets this response
   Refuse : (answer : Answer) → Course
-  -- it is heard in the dialog of this side of a call
+  -- it is received in the dialog of this side of a call
   Enter : (call : CallNo) → (side : Side) → Course
-  -- it is heard in the dialog of this seat of a room
+  -- it is received in the dialog of this participant of a conference
   EnterRoom : (room : RoomNo) → (seat : ℕ) → Course
   -- it opens a call
   Open : Course
-  -- it opens a room (RFC 4579 §5.4)
+  -- it opens a conference (RFC 4579 §5.4)
   OpenRoom : Course
-  -- it asks for a seat in a room (RFC 4579 §5.1)
+  -- it asks to join a conference (RFC 4579 §5.1)
   JoinRoom : (room : RoomNo) → Course
   -- it registers an account for so many seconds
   Register : (account : Account) → (seconds : ℕ) → Course
   -- it subscribes to a mailbox (RFC 6665 §4.2.1)
   Subscribe : Course
-  -- it is heard in the dialog of this subscription
+  -- it is received in the dialog of this subscription
   EnterBox : (sub : SubNo) → Course
 
 -- ---- the refusals
 
--- the methods that the server knows (§20.5): these always
+-- the methods that the server knows (§20.5): these always,
 abbrev pub always_known : List (List ℕ)
 always_known = codes "INVITE" ∷ codes "ACK" ∷ codes "CANCEL" ∷ codes "BYE" ∷ codes "OPTIONS" ∷ codes "REGISTER" ∷ codes "REFER" ∷ []
 
--- and these where they are switched on: of reliable provisional answers (RFC 3262, RFC 3311), and of waiting messages (RFC 3842)
+-- and these where they are switched on: those of reliable provisional responses (RFC 3262, RFC 3311), and of message waiting (RFC 3842)
 abbrev pub known_if_reliable : Bool → List (List ℕ)
 known_if_reliable false = []
 known_if_reliable true = codes "PRACK" ∷ codes "UPDATE" ∷ []
@@ -92,11 +92,11 @@ abbrev pub is_last_hop : Option ℕ → Bool
 is_last_hop None = false
 is_last_hop (Some hops) = hops == 0
 
--- a request that may ask for a session with a timer, where sessions have timers (RFC 4028 §3, §7.1)
+-- a request that may ask for a session timer, where session timers are switched on (RFC 4028 §3, §7.1)
 abbrev pub is_timed : Directory → Start → Bool
 is_timed directory start = directory.timer && (is_method (codes "INVITE") start || is_method (codes "UPDATE") start)
 
--- the session that is asked for cannot be read, or is too short (RFC 4028 §6)
+-- the session interval that is requested cannot be read, or is too short (RFC 4028 §6)
 abbrev pub is_unreadable_session : Result (Option ℕ) SessionFault → Bool
 is_unreadable_session (Ok interval) = false
 is_unreadable_session (Err session.Malformed) = true
@@ -107,14 +107,14 @@ is_short_session (Ok interval) = false
 is_short_session (Err session.Malformed) = false
 is_short_session (Err (session.Small interval)) = true
 
--- the refusals of sessions, in their order
+-- the refusals because of the session timer, in their order
 abbrev pub session_refusals : Directory → HeardMessage → List (Bool × Answer)
 session_refusals directory message =
     (is_timed directory message.start && is_unreadable_session (check message.session), plainly 400) ∷
     (is_timed directory message.start && is_short_session (check message.session), too_small) ∷ []
 
--- each refusal with its condition, in their order. `merged` says that another live transaction has its From tag, Call-ID and CSeq (§8.2.2.2), `named` that its dialog is
--- that of a call, of a seat or of a subscription (§12.2.2)
+-- each refusal with its condition, in their order. `merged`: another live transaction has the From tag, Call-ID and CSeq of the request (§8.2.2.2); `named`: its dialog is
+-- that of a call, of a participant or of a subscription (§12.2.2)
 abbrev pub refusals : Directory → (merged named : Bool) → HeardMessage → List (Bool × Answer)
 refusals directory merged named message =
     (not (is_known_method directory message.start), allowing directory 405) ∷
@@ -130,7 +130,7 @@ first_that_applies (refusal ∷ others) = if refusal.0 then Some refusal.1 else 
 
 -- ---- INVITE
 
--- the number of a conference room, without leading zeros
+-- the number of a conference, without leading zeros
 abbrev pub is_room_number : Option (List ℕ) → Bool
 is_room_number None = false
 is_room_number (Some digits) = not (leads_zero digits) && (not (length digits == 0) && list_all (in_class Digit) digits)
@@ -143,16 +143,16 @@ abbrev pub is_room : (sip : Addr) → Uri → Bool
 is_room sip (Sip user host port params headers) = names_server sip (Sip user host port params headers) && is_room_user user
 is_room sip (Tel number params) = false
 
--- the URI at which rooms are made
+-- the URI is the conference factory URI
 abbrev pub is_factory : (factory : Option Uri) → Uri → Bool
 is_factory None target = false
 is_factory (Some uri) target = is_same_identity uri target
 
--- its number; 0, which no room has, for one that is too great
+-- the number of the conference that a URI names; 0, which no conference has, where the number is too great
 abbrev pub room_number : (sip : Addr) → Uri → RoomNo
 room_number sip target = record { 0 = unwrap_or (room_in sip target) 0 }
 
--- the mixer takes audio alone (RFC 3264 §6)
+-- an INVITE to a conference is refused unless it offers audio: the mixer takes nothing else (RFC 3264 §6)
 abbrev pub with_audio : HeardMessage → Course → Course
 with_audio message course = if offers_audio message.body then course else Refuse (plainly 488)
 
@@ -160,14 +160,14 @@ with_audio message course = if offers_audio message.body then course else Refuse
 abbrev pub opening : (full : Bool) → Course
 opening full = if full then Refuse (plainly 503) else Open
 
--- to the factory of rooms, to a conference room of the server, whether it is live or not, or to anybody else
+-- to the conference factory, to a conference of the server, whether it is live or not, or to anybody else
 abbrev pub invited_to : Directory → (full : Bool) → HeardMessage → Uri → Course
 invited_to directory full message target =
     if is_factory directory.factory target then with_audio message OpenRoom
     else if is_room directory.sip target then with_audio message (JoinRoom (room_number directory.sip target))
     else opening full
 
--- a Request-URI that cannot be read is of no conference
+-- an INVITE whose Request-URI cannot be read is to no conference
 abbrev pub invited_at : Directory → (full : Bool) → HeardMessage → Result Uri Refusal → Course
 invited_at directory full message (Ok target) = invited_to directory full message target
 invited_at directory full message (Err refusal) = opening full
@@ -175,7 +175,7 @@ invited_at directory full message (Err refusal) = opening full
 abbrev pub invited : Directory → (full : Bool) → HeardMessage → Course
 invited directory full message = invited_at directory full message (uri_of (request_uri message.start))
 
--- ---- REGISTER (§10.3), by which the core tells of a registration (3GPP TS 24.229 §5.4.1.7, §5.7.1.1)
+-- ---- REGISTER (§10.3), by which the core reports a registration (3GPP TS 24.229 §5.4.1.7, §5.7.1.1)
 
 abbrev pub is_register : HeardMessage → Bool
 is_register message = is_method (codes "REGISTER") message.start
@@ -197,11 +197,11 @@ abbrev pub registration_of : Option Account → HeardMessage → Course
 registration_of None message = Refuse (plainly 404)
 registration_of (Some account) message = Register account (seconds_of message.expires)
 
--- of a trusted peer alone
+-- the registration is accepted from a trusted peer alone
 abbrev pub registration : List AccountIdentity → HeardMessage → Course
 registration accounts message = if message.trusted then registration_of (to_account accounts message) message else Refuse (plainly 403)
 
--- the account that is asked for, where one is: of a REGISTER of a trusted peer
+-- the account that is to be registered, where there is one: of a REGISTER of a trusted peer
 abbrev pub registrant : List AccountIdentity → HeardMessage → Option Account
 registrant accounts message = if message.trusted && is_register message then to_account accounts message else None
 
@@ -210,9 +210,9 @@ registrant accounts message = if message.trusted && is_register message then to_
 abbrev pub is_subscribe : HeardMessage → Bool
 is_subscribe message = is_method (codes "SUBSCRIBE") message.start
 
--- ---- what is not refused
+-- ---- requests that are not refused
 
--- by its method: OPTIONS is answered, REFER, BYE and what else there may be are of a dialog
+-- by its method: OPTIONS gets 200; REFER, BYE and any other would need a dialog
 abbrev pub by_method : Directory → (full : Bool) → HeardMessage → Course
 by_method directory full message =
     if is_method (codes "OPTIONS") message.start then Refuse (allowing directory 200)
@@ -222,23 +222,23 @@ by_method directory full message =
     else if is_subscribe message then Subscribe
     else Refuse (plainly 481)
 
--- in the dialog of whoever has it
+-- in the dialog of its owner
 abbrev pub in_dialog : Holder → Course
 in_dialog (InCall call side) = Enter call side
 in_dialog (InRoom room seat) = EnterRoom room seat
 in_dialog (InBox sub) = EnterBox sub
 
--- it is of no subscription
+-- its dialog is not that of a subscription
 abbrev pub is_elsewhere : Holder → Bool
 is_elsewhere (InCall call side) = true
 is_elsewhere (InRoom room seat) = true
 is_elsewhere (InBox sub) = false
 
--- a SUBSCRIBE in the dialog of a call or of a seat is of no subscription: neither hears it (RFC 6665 §4.2.1.2)
+-- a SUBSCRIBE in the dialog of a call or of a participant belongs to no subscription: neither receives it (RFC 6665 §4.2.1.2)
 abbrev pub entering : Holder → HeardMessage → Course
 entering holder message = if is_subscribe message && is_elsewhere holder then Refuse (plainly 481) else in_dialog holder
 
--- in its dialog, where it has one
+-- in its dialog, where it names one
 abbrev pub course_in : Directory → (full : Bool) → (named : Option Holder) → HeardMessage → Course
 course_in directory full None message = by_method directory full message
 course_in directory full (Some holder) message = entering holder message
@@ -247,10 +247,10 @@ abbrev pub course_by : Directory → (full : Bool) → (named : Option Holder) �
 course_by directory full named message None = course_in directory full named message
 course_by directory full named message (Some answer) = Refuse answer
 
--- the first refusal that applies decides, and without one its dialog or its method
+-- the first refusal that applies decides, and without one the dialog or the method of the request
 abbrev pub course_of : Directory → (merged full : Bool) → (named : Option Holder) → HeardMessage → Course
 course_of directory merged full named message = course_by directory full named message (first_that_applies (refusals directory merged (is_some named) message))
 
--- of its public part
+-- the disposition by the public part of the request
 unfoldable pub course : Directory → (merged full : Bool) → (named : Option Holder) → HeardMessage → Course
 course directory merged full named message = course_of directory merged full named (public_part message)

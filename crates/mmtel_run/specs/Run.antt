@@ -1,4 +1,4 @@
--- A run: events in order, and before each of them the deadlines that are due by then, of messages and of calls, each a step of its own (RFC 3261 §17); and what is offered in it.
+-- A run: events in order, and before each of them the timers that are due by then, of transactions and of calls, each a step of its own (RFC 3261 §17); and the outputs of it.
 use Rattle.std.specs.Prelude.{◌≡◌, ℕ, zero, suc, max, List, [], ◌∷◌, Option, Some, None, ⊤}
 use Rattle.mmtel_directory.specs.declared.directories.Directory.{Directory}
 use Rattle.mmtel_outside.specs.declared.events.Offer.{Offer}
@@ -9,9 +9,9 @@ use Rattle.mmtel_run.specs.Deadlines.{Deadline, first_armed, first_of}
 use Rattle.mmtel_run.specs.Events.{Happened, Notice, notices}
 use Rattle.mmtel_run.specs.World.{World, beginning, fired, came}
 
--- ---- deadlines
+-- ---- timers
 
--- the deadline that comes first of those that are due: by moment, then by the step that armed it, and in one step those of messages before those of a call
+-- the first of the timers that are due: by moment, then by the step that armed them, and of one step those of transactions before those of a call
 abbrev pub due_in : ℕ → World → Option Deadline
 due_in now world = first_of (next_due now (live world.acts)) (first_armed now world.armed)
 
@@ -22,12 +22,12 @@ fired_if directory token now (Some deadline) world = fired directory token now d
 abbrev pub fire_one : Directory → (token : List ℕ) → ℕ → World → World
 fire_one directory token now world = fired_if directory token now (due_in now world) world
 
--- what is due at a moment fires, at most so many times
+-- the timers that are due at a moment fire, at most so many times
 abbrev pub settled : Directory → (token : List ℕ) → (fuel : ℕ) → ℕ → World → World
 settled directory token zero now world = world
 settled directory token (suc fuel) now world = settled directory token fuel now (fire_one directory token now world)
 
--- so many times are enough: nothing is left due
+-- so many firings are enough: no timer that is due is left
 abbrev pub IsSettled : Directory → (token : List ℕ) → (fuel : ℕ) → ℕ → World → Type 0
 IsSettled directory token fuel now world = due_in now (settled directory token fuel now world) ≡ None
 
@@ -37,7 +37,7 @@ IsSettled directory token fuel now world = due_in now (settled directory token f
 abbrev pub clock_at : World → ℕ → ℕ
 clock_at world moment = max world.clock moment
 
--- one more event, after the deadlines that are due by then
+-- one more event, after the timers that are due by then
 abbrev pub one_more : Directory → (token : List ℕ) → (fuel : ℕ) → Notice → World → World
 one_more directory token fuel notice world =
     came directory token (clock_at world notice.at) notice.digest notice.took (settled directory token fuel (clock_at world notice.at) world)
@@ -55,12 +55,12 @@ IsEnoughAfter directory token fuel (notice ∷ others) world =
 abbrev pub IsEnough : Directory → (token : List ℕ) → (loaded : Texts) → (fuel : ℕ) → List Happened → Type 0
 IsEnough directory token loaded fuel happened = IsEnoughAfter directory token fuel (notices directory happened) (beginning loaded)
 
--- what was done in all that happened
+-- the state of the run after these events
 abbrev pub world_after : Directory → (token : List ℕ) → (loaded : Texts) → (fuel : ℕ) → List Happened → World
 world_after directory token loaded fuel happened = after directory token fuel (notices directory happened) (beginning loaded)
 
--- ---- what is offered
+-- ---- the outputs
 
--- what the server offers in a run, in order
+-- what the server outputs in a run, in order
 abbrev pub gives : Directory → (token : List ℕ) → (loaded : Texts) → (fuel : ℕ) → List Happened → List Offer
 gives directory token loaded fuel happened = (world_after directory token loaded fuel happened).offers

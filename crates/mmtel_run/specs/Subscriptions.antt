@@ -1,5 +1,5 @@
--- Message waiting in a run (RFC 6665 §4.1, §4.2; RFC 3842; 3GPP TS 24.606): what a SUBSCRIBE, a request in the dialog of a subscription, an upload to a mailbox, the time of a
--- subscription and the answers to its NOTIFYs bring.
+-- Message waiting in a run (RFC 6665 §4.1, §4.2; RFC 3842; 3GPP TS 24.606): the effects of a SUBSCRIBE, of a request in the dialog of a subscription, of an upload to a mailbox,
+-- of the expiration of a subscription, and of the responses to its NOTIFYs.
 use Rattle.std.specs.Prelude.{ℕ, ◌==◌, ◌-◌, Bool, true, false, List, [], ◌∷◌, codes, decimal, Option, Some, None, Ok, Err, if◌then◌else◌}
 use Rattle.std.specs.declared.result.Result.{Result}
 use Rattle.mmtel_answers.specs.Said.{Said}
@@ -40,7 +40,7 @@ abbrev pub notice_emits : Peer → Option (Message Start) → List Emit
 notice_emits peer None = []
 notice_emits peer (Some message) = emit.Ask peer message ∷ []
 
--- to the peer of whoever subscribed, with a branch that is drawn; nothing, where the subscription does not live
+-- to the peer of the subscriber, with a branch that is drawn; nothing, where the subscription is not live
 abbrev pub telling_peer : Directory → (token : List ℕ) → ℕ → SubNo → (last : Bool) → Option Peer → World → World
 telling_peer directory token at sub last None world = world
 telling_peer directory token at sub last (Some peer) world =
@@ -50,7 +50,7 @@ telling_peer directory token at sub last (Some peer) world =
 abbrev pub telling : Directory → (token : List ℕ) → ℕ → SubNo → (last : Bool) → World → World
 telling directory token at sub last world = telling_peer directory token at sub last (peer_of sub (boxes_in world)) world
 
--- the last one ends it
+-- the last NOTIFY ends the subscription
 abbrev pub telling_last : Directory → (token : List ℕ) → ℕ → SubNo → World → World
 telling_last directory token at sub world = noting (Ends sub) (telling directory token at sub true world)
 
@@ -59,15 +59,15 @@ telling_last directory token at sub world = noting (Ends sub) (telling directory
 abbrev pub allow_events : Line
 allow_events = (codes "Allow-Events", codes "message-summary")
 
--- what is refused, and with 489 what is known (RFC 6665 §8.2.2, §8.3.2)
+-- the response to a SUBSCRIBE that is refused; 489 lists the known event (RFC 6665 §8.2.2, §8.3.2)
 abbrev pub refusing_answer : ℕ → Answer
 refusing_answer code = if code == 489 then record { code = 489; named = allow_events ∷ [] } else plainly code
 
--- for how long it is accepted (RFC 6665 §4.2.1.1)
+-- 200, with the seconds for which it is accepted (RFC 6665 §4.2.1.1)
 abbrev pub granting : (seconds : ℕ) → Answer
 granting seconds = record { code = 200; named = (codes "Expires", decimal seconds) ∷ [] }
 
--- the account of whoever its sender is asserted to be: that of the sip identity, or else of the tel identity. Whom another says that the server serves is not asked
+-- the account of the asserted identity of its sender: that of the sip identity, or else of the tel identity. A served user that another names is not used
 abbrev pub sender_of : Directory → HeardMessage → Option Account
 sender_of directory m = account_from directory.names.accounts (asserted m.trusted m.lines) None
 
@@ -85,18 +85,18 @@ asking_of directory within m = record {
   has_contact = m.one_contact;
 }
 
--- that its time is over is due at this moment, by the number of the SUBSCRIBE that set it: behind what else is armed in the step
+-- the timer for the expiration of a subscription is armed for this moment, with the number of the SUBSCRIBE that set it: after the other timers that are armed in the step
 abbrev pub arming_until : SubNo → (set : Option ℕ) → (until : ℕ) → World → World
 arming_until sub None until world = world
 arming_until sub (Some set) until world = arming (record { alarm = OfBox sub set; at = until; step = world.steps - 1 }) world
 
--- it stands for so many seconds from now: its subscriber is told, for the last time where there are none
+-- the subscription is active for so many seconds from now: its subscriber gets a NOTIFY, the last one where the number is 0
 abbrev pub standing : Directory → (token : List ℕ) → ℕ → SubNo → (seconds : ℕ) → World → World
 standing directory token at sub seconds world =
     if seconds == 0 then telling_last directory token at sub world
     else arming_until sub (set_by sub (boxes_in world)) (until_of at seconds) (telling directory token at sub false world)
 
--- a subscription is made: its tag is drawn, 200 goes out, and then the NOTIFY
+-- a subscription is created: its tag is drawn, 200 is sent, and then the NOTIFY
 abbrev pub made : Directory → (token : List ℕ) → ℕ → TKey → Said → Account → (seconds : ℕ) → World → World
 made directory token at key said account seconds world =
     standing directory token at (next_sub (boxes_in world)) seconds
@@ -119,14 +119,14 @@ subscribing directory token at key said world = subscribing_by directory token a
 
 -- ---- a request in the dialog of a subscription
 
--- a SUBSCRIBE makes it stand anew
+-- a SUBSCRIBE sets its expiration anew
 abbrev pub refreshing_by : Directory → (token : List ℕ) → ℕ → TKey → Said → SubNo → Option ℕ → World → World
 refreshing_by directory token at key said sub None world =
     standing directory token at sub (granted said.heard.expires)
     (replying directory token at key said (granting (granted said.heard.expires)) (noting (Refreshes sub (until_of at (granted said.heard.expires))) world))
 refreshing_by directory token at key said sub (Some code) world = replying directory token at key said (refusing_answer code) world
 
--- any other: 200 for OPTIONS with what is allowed, 403 for REFER, and else 481
+-- any other: 200 for OPTIONS with the allowed methods, 403 for REFER, and else 481
 abbrev pub other_answer : Directory → HeardMessage → Answer
 other_answer directory m =
     if is_method (codes "OPTIONS") m.start then allowing directory 200
@@ -138,7 +138,7 @@ entered_by directory token at key said sub world =
     if is_method (codes "SUBSCRIBE") said.heard.start then refreshing_by directory token at key said sub (refusal (asking_of directory true said.heard)) world
     else replying directory token at key said (other_answer directory said.heard) world
 
--- a number that is old is refused, and changes nothing; each that is let through raises the last, also where it is refused for another cause
+-- a CSeq number that is too low is refused, and changes nothing; each that is accepted raises the last one, also where the request is refused for another cause
 abbrev pub entering_by : Directory → (token : List ℕ) → ℕ → TKey → Said → SubNo → Result (Unit {0}) DialogueFault → World → World
 entering_by directory token at key said sub (Err fault) world = replying directory token at key said (plainly 500) world
 entering_by directory token at key said sub (Ok done) world = entered_by directory token at key said sub (noting (Hears sub (message_in said.heard)) world)
@@ -146,7 +146,7 @@ entering_by directory token at key said sub (Ok done) world = entered_by directo
 abbrev pub entering_box : Directory → (token : List ℕ) → ℕ → TKey → Said → SubNo → World → World
 entering_box directory token at key said sub world = entering_by directory token at key said sub (says sub (message_in said.heard) (boxes_in world)) world
 
--- ---- an upload that was accepted: each subscriber is told, in the order in which they subscribed
+-- ---- an upload that was accepted: each subscriber gets a NOTIFY, in the order in which they subscribed
 
 abbrev pub telling_each : Directory → (token : List ℕ) → ℕ → List SubNo → World → World
 telling_each directory token at [] world = world
@@ -156,7 +156,7 @@ abbrev pub putting : Directory → (token : List ℕ) → ℕ → Option (Accoun
 putting directory token at None world = world
 putting directory token at (Some put) world = telling_each directory token at (subscribers_of put.0 (boxes_in world)) (noting (Puts put.0 put.1) world)
 
--- ---- the time of a subscription is over, unless a later SUBSCRIBE said otherwise
+-- ---- a subscription expires, unless a later SUBSCRIBE set another moment
 
 abbrev pub is_last_set : (set : ℕ) → Option ℕ → Bool
 is_last_set set None = false
@@ -165,7 +165,7 @@ is_last_set set (Some last) = set == last
 abbrev pub box_due : Directory → (token : List ℕ) → ℕ → SubNo → (set : ℕ) → World → World
 box_due directory token at sub set world = if is_last_set set (set_by sub (boxes_in world)) then telling_last directory token at sub world else world
 
--- ---- a NOTIFY of this branch has an answer; 408 stands for none
+-- ---- a NOTIFY of this branch has a response; 408 represents none
 
 abbrev pub box_answered : (branch : Option (List ℕ)) → (code : ℕ) → World → World
 box_answered None code world = world

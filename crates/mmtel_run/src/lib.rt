@@ -1,4 +1,5 @@
-//! The definitions of a run: what it hears, what is done in it, what it offers, and a message without its private places. The crate has definitions and laws, and no code.
+//! The definitions of a run: its inputs, the operations that they cause, its outputs, and a message without its private places. The crate has definitions and theorems, and no
+//! code.
 #![tactic(auto)]
 
 mod laws;

@@ -1,4 +1,4 @@
--- Of which ACK the lines of an ACK of a 2xx are: of one that was heard, and of none of another message.
+-- From which ACK the header fields of an ACK of a 2xx are: from one that was received, and from no other message.
 use Rattle.std.proofs.Common.{◌≡◌, ℕ, List, [], ◌∷◌, ◌++◌, refl, sym, subst, ap, Bool, true, false, Option, Some, None, ◌⊎◌, inl, inr, ◌∙◌, codes}
 use Rattle.std.specs.Prelude.{if◌then◌else◌, ◌&&◌}
 use Rattle.std.specs.List.{find}
@@ -40,7 +40,7 @@ use Rattle.mmtel_types.specs.declared.sides.Side.{Side}
 use Rattle.mmtel_run_laws.specs.Clean.{IsHeardIn, IsOwnAck, IsPassedOn}
 use Rattle.mmtel_run_laws.proofs.Branches.{text_same}
 
--- ---- what is taken for the ACK of a 2xx is an ACK
+-- ---- what is classified as the ACK of a 2xx is an ACK
 
 no_response : (m : Head) (o : Option Entry) → part.AckOf2xx ≡ part_response m o → ⊥
 no_response m None is = cc
@@ -73,7 +73,7 @@ pub is_ack_heard : (m : Message Start) (es : List Entry) → part.AckOf2xx ≡ p
 unfolding head_of
 is_ack_heard m es is = taken_by m.start _ es is
 
--- ---- and brings no entry of History-Info
+-- ---- and it has no History-Info
 
 no_entries : (f : Facing) (to_trusted : Bool) (h : List history.Entry) (start : Start) → is_method (codes "ACK") start ≡ true → history_row f to_trusted h start ≡ []
 no_entries f to_trusted h (Request method uri) is =
@@ -84,7 +84,7 @@ shown_of : (f : Facing) (to_trusted : Bool) (h : List history.Entry) (start : St
     shown_lines f to_trusted h start ls ≡ passed f to_trusted [] ls
 shown_of f to_trusted h start ls is = ap (λ (row : List Line). passed f to_trusted row ls) (no_entries f to_trusted h start is)
 
--- ---- those that were heard
+-- ---- those that were received
 
 each_in : {A : Type 0} (P : A → Type 0) (xs : List A) (x : A) → IsIn x xs → Each P xs → P x
 each_in P [] x is each = absurd is
@@ -110,12 +110,12 @@ module _ (d : Directory) (whole : List Happened) where
   in_phase site (Lent loan) c side said is = tt
   in_phase site (Over cause) c side said is = tt
 
-  -- each call that hears it has heard the ACK of an event
+  -- each call that receives it received the ACK of an event
   pub acked_heard : (site : Site) (side : Side) (said : Said) (o : Option calls.Entry) → IsAckOfEvent said → AreHeard (acked_at site side said o)
   acked_heard site side said None is = tt
   acked_heard site side said (Some e) is = in_phase site e.call.phase e.call side said is
 
-  -- what was passed on before one more deed
+  -- what was relayed before one more operation
   passed_still : (now : List Acked) (deeds : List Deed) (deed : Deed) (dialogue : Dialogue) (given : Given) →
       acked_after (site_of d) (deed ∷ deeds) ≡ now ++ acked_after (site_of d) deeds → IsPassedOn d whole deeds dialogue given →
       IsPassedOn d whole (deed ∷ deeds) dialogue given
@@ -145,7 +145,7 @@ module _ (d : Directory) (whole : List Happened) where
     is = own.is;
   }
 
-  -- ---- an ACK that goes out of a deed on calls
+  -- ---- an ACK that is output by an operation on calls
 
   gives : (deeds : List Deed) (dialogue : Dialogue) (given : Given) → AreHeard (acked_after (site_of d) deeds) → IsGivenTo (acked_after (site_of d) deeds) dialogue given →
       Passes deeds dialogue given
@@ -174,7 +174,7 @@ module _ (d : Directory) (whole : List Happened) where
     is = is.is;
   }
 
--- ---- rooms pass none on
+-- ---- conferences relay none
 
 given_more : (acks : List Acked) (dialogue : Dialogue) (given : Given) → IsGivenTo [] dialogue given → IsGivenTo acks dialogue given
 given_more acks dialogue given (inl none) = inl none

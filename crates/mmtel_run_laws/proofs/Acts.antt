@@ -1,4 +1,4 @@
--- What was asked of peers in a run: each client transaction was opened by it, and requests whose answer is waited for have numbers of their own, so one branch is of one peer (RFC 3261 §8.1.1.7, §17.1.3).
+-- The requests that were sent to peers in a run: each client transaction was opened by one, and requests whose response is awaited have numbers of their own, so one branch is of one peer (RFC 3261 §8.1.1.7, §17.1.3).
 use Rattle.std.proofs.Common.{◌≡◌, ◌<◌, ◌≤◌, ◌+◌, ◌^◌, ◌==◌, ◌||◌, ◌&&◌, Bool, true, false, not, ℕ, suc, List, [], ◌∷◌, ◌++◌, length, map, Option, Some, None, refl, sym, ap, ◌∙◌, subst, inl, inr, arith, codes, nat_lt}
 use Rattle.std.specs.Prelude.{◌⊎◌, if◌then◌else◌, filter, is_some}
 use Rattle.std.specs.List.{find}
@@ -67,7 +67,7 @@ each_found P f (x ∷ xs) y e is = elim (cases_Bool (f x)) [
   | inr z ↦ each_found P f xs y e.1 (sym (ap (λ b. if b then Some x else find f xs) z) ∙ is)
 ]
 
--- ---- what was asked, the newest first
+-- ---- the requests that were sent, the newest first
 
 abbrev pub asks_of : List Done → List (Peer × Message Start)
 asks_of [] = []
@@ -79,7 +79,7 @@ asks_of (DidAck key m ∷ h) = asks_of h
 asks_of (DidFire key ∷ h) = asks_of h
 asks_of (DidSettle key own ∷ h) = asks_of h
 
--- once this went out too
+-- once this was sent too
 abbrev pub asks_after : List Emit → List (Peer × Message Start) → List (Peer × Message Start)
 asks_after [] asks = asks
 asks_after (emit.Ask peer m ∷ out) asks = asks_after out ((peer, m) ∷ asks)
@@ -118,7 +118,7 @@ abbrev HasAsked : List (Peer × Message Start) → Peer → Message Start → Ty
 HasAsked [] peer m = ⊥
 HasAsked (ask ∷ asks) peer m = ((ask.0 ≡ peer) × (ask.1 ≡ m)) ⊎ HasAsked asks peer m
 
--- ---- a client transaction was opened by what was asked, and keeps its peer and its request
+-- ---- a client transaction was opened by a request that was sent, and keeps its peer and its request
 
 record IsAsked (asks : List (Peer × Message Start)) (e : Entry) : Type 0 where
   client : e.is_server ≡ false → (m : Message Start) × HasAsked asks e.peer m × (e.asked ≡ head_of m)
@@ -232,7 +232,7 @@ later (DidSettle key own) h peer m is = is
 later_asked : (c : Done) (h : List Done) (e : Entry) → IsAsked (asks_of h) e → IsAsked (asks_of (c ∷ h)) e
 later_asked c h e is = record { client = λ none. let x = is.client none in (x.0, later c h e.peer x.0 x.1, x.2) }
 
--- what a call opens
+-- what an operation opens
 heard_new : (asks : List (Peer × Message Start)) (step key : ℕ) (p : Peer) (m : Message Start) (now : ℕ) (t : Part) → Each (IsAsked asks) (heard_opens step key p m now t)
 heard_new asks step key p m now part.Fresh = (record { client = λ none. absurd (true_false none) }, tt)
 heard_new asks step key p m now part.Full = tt
@@ -261,10 +261,10 @@ opened_asked (c ∷ h) =
 live_asked : (h : List Done) → Each (IsAsked (asks_of h)) (live h)
 live_asked h = each_filter (IsAsked (asks_of h)) is_live (map (entry_of h) (opened h)) (each_map (IsAsked (asks_of h)) (entry_of h) (entry_asked (asks_of h) h) (opened h) (opened_asked h))
 
--- ---- requests whose answer is waited for have numbers of their own
+-- ---- requests whose response is awaited have numbers of their own
 
 module _ (sip : Addr) (text : List ℕ) where
-  -- the numbers fall from below this one
+  -- the numbers decrease from below this one
   abbrev pub Falls : (high : ℕ) → List (Peer × Message Start) → Type 0
   Falls high [] = Unit {0}
   Falls high (ask ∷ asks) = (IsNotAwaited ask.1 × Falls high asks) ⊎ ((n : ℕ) × (0 < n) × (n < high) × IsAwaited sip (token_text text n) ask.1 × Falls n asks)
@@ -274,7 +274,7 @@ module _ (sip : Addr) (text : List ℕ) where
   falls_more high higher (ask ∷ asks) le (inl none) = inl (none.0, falls_more high higher asks le none.1)
   falls_more high higher (ask ∷ asks) le (inr x) = let lt = x.2 in inr (x.0, x.1, omega (arith, lt, le), x.3, x.4)
 
-  -- what goes out has greater ones
+  -- what is sent has greater ones
   number_on : (low next : ℕ) (e : Emit) → IsNumbered sip text low next e → low ≤ next
   number_on low next (emit.Ask peer m) (inl x) = let same = x.0 in omega (arith, same)
   number_on low next (emit.Ask peer m) (inr x) = let lt = x.0 in omega (arith, lt)
@@ -292,7 +292,7 @@ module _ (sip : Addr) (text : List ℕ) where
       let rest : are.0 ≤ high = numbers_on are.0 high out are.2 in
       omega (arith, first, rest)
 
-  -- and comes in front
+  -- and comes first
   after_one : (low next high : ℕ) (e : Emit) (out : List Emit) (asks : List (Peer × Message Start)) → IsNumbered sip text low next e → Falls (suc low) asks →
       ((later : List (Peer × Message Start)) → Falls (suc next) later → Falls (suc high) (asks_after out later)) → Falls (suc high) (asks_after (e ∷ out) asks)
   after_one low next high (emit.Ask peer m) out asks (inl x) f rest = rest ((peer, m) ∷ asks) (inl (x.1, subst (λ (n : ℕ). Falls (suc n) asks) x.0 f))
@@ -309,12 +309,12 @@ module _ (sip : Addr) (text : List ℕ) where
   falls_after low high [] asks are f = falls_more (suc low) (suc high) asks (omega (arith, are)) f
   falls_after low high (e ∷ out) asks are f = after_one low are.0 high e out asks are.1 f (λ later g. falls_after are.0 high out later are.2 g)
 
-  -- among what was asked is a request of this branch whose answer is waited for, which went to this peer
+  -- among the requests is one of this branch whose response is awaited, which was sent to this peer
   abbrev pub AwaitedWasSent : List (Peer × Message Start) → (branch : List ℕ) → Peer → Type 0
   AwaitedWasSent [] branch peer = ⊥
   AwaitedWasSent (ask ∷ asks) branch peer = ((ask.0 ≡ peer) × IsAwaited sip branch ask.1) ⊎ AwaitedWasSent asks branch peer
 
-  -- as where one of such a method is
+  -- where one of such a method is
   pub asked_awaited : (method : List ℕ) → is_awaited_method method ≡ true → (asks : List (Peer × Message Start)) (branch : List ℕ) (peer : Peer) → WasAsked sip asks method branch peer → AwaitedWasSent asks branch peer
   asked_awaited method waits [] branch peer is = absurd is
   asked_awaited method waits (ask ∷ asks) branch peer (inl here) = inl (here.0, record { method = method; waited_for = waits; request = here.1 })
@@ -336,7 +336,7 @@ module _ (sip : Addr) (text : List ℕ) where
       (y.0, y.1, omega (arith, lt, less), y.3)
 
   module _ (differ : TokensDiffer) where
-    -- a number that is behind another one is not that
+    -- a number that comes after another one is not that
     apart : (n high : ℕ) (asks : List (Peer × Message Start)) (branch : List ℕ) (peer : Peer) → 0 < n → n < high → high ≤ 2 ^ 60 → branch ≡ token_text text n → Falls n asks → AwaitedWasSent asks branch peer → ⊥
     apart n high asks branch peer up lt top is f there =
         let y = sent_number n asks branch peer f there in
@@ -357,7 +357,7 @@ module _ (sip : Addr) (text : List ℕ) where
     sent_once high (ask ∷ asks) branch one other top (inr x) (inr there) (inr too) =
         let lt = x.2 in sent_once x.0 asks branch one other (omega (arith, lt, top)) x.4 there too
 
-  -- what was asked is such a request with a token, or none
+  -- the request is one of these with a token, or none
   abbrev Kind : List (Peer × Message Start) → Peer → Message Start → Type 0
   Kind asks peer m = IsNotAwaited m ⊎ ((n : ℕ) × (n < 2 ^ 60) × IsAwaited sip (token_text text n) m × AwaitedWasSent asks (token_text text n) peer)
 
@@ -374,7 +374,7 @@ module _ (sip : Addr) (text : List ℕ) where
   kind_of high (ask ∷ asks) peer m top (inl none) (inr there) = kind_more ask asks peer m (kind_of high asks peer m top none.1 there)
   kind_of high (ask ∷ asks) peer m top (inr x) (inr there) = let lt = x.2 in kind_more ask asks peer m (kind_of x.0 asks peer m (omega (arith, lt, top)) x.4 there)
 
-  -- ---- the transaction of a response to such a request is of the peer to whom that went
+  -- ---- the transaction of a response to such a request is with the peer to which that was sent
 
   module _ (is_source : IsSource sip) (port : 0 < sip.port) (is_token : IsToken text) where
     cookie_same : (one other : List ℕ) → cookie ++ one ≡ cookie ++ other → one ≡ other
@@ -412,7 +412,7 @@ module _ (sip : Addr) (text : List ℕ) where
         client true is = absurd (true_false (sym is))
         client false is = refl
 
-    -- the transaction that a response answers
+    -- the transaction to which a response belongs
     abbrev key_in : Part → ℕ
     key_in (part.Answer k) = k
     key_in part.Fresh = 0

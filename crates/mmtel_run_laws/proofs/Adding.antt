@@ -1,4 +1,4 @@
--- A run only adds to what was offered.
+-- A run only appends to the outputs before.
 use Rattle.std.proofs.Common.{◌≡◌, ℕ, zero, suc, List, [], ◌∷◌, ◌++◌, length, refl, sym, ap, ◌∙◌, Bool, true, false, Option, Some, None, Result, Ok, Err, codes, append_assoc, append-nil}
 use Rattle.std.specs.Prelude.{◌==◌, if◌then◌else◌}
 use Rattle.mmtel_answers.specs.Said.{Said, status_of}
@@ -63,7 +63,7 @@ use Rattle.mmtel_run.specs.Subscriptions.{other_answer, putting, refreshing_by, 
 use Rattle.mmtel_run.specs.World.{World, acknowledging_by, adopting, adoption_of, alarmed, answering, beginning, begun, boxes_in, bringing, calls_in, came, cancelling, cancelling_call, comes_of, drawing, emit_one, emitted, ended, ended_of, entering_room, finishing, fired, handing, heard_in_rooms, heard_now, hearing, holder_in, housed, joining_of, joining_room, keeping, lending, lodging, met, next_tag, noticed, offering, opening_of, opening_room, refusing, registering, repeating, replaced, replaced_by, replaced_with, replacing, replying, replying_plainly, responding_to, room_joined, room_opened, rooms_in, rung, seated, serving, signalled, silenced, taken_out, taking, told, tokens_now, turned_away}
 use Rattle.mmtel_run_laws.specs.Added.{DeadlinesAdd, EventsAdd, RunsAdd, behind, unsaid}
 
--- what a deed does is done behind what was offered before
+-- an operation appends its outputs to those before
 abbrev Adds : (World → World) → Type 0
 Adds f = (b : List Offer) (w : World) → f (behind b w) ≡ behind b (f w)
 
@@ -83,7 +83,7 @@ emitted_adds : (at : ℕ) (xs : List Emit) → Adds (emitted at xs)
 emitted_adds at [] b w = refl
 emitted_adds at (x ∷ xs) b w = ap (emitted at xs) (emit_adds at x b w) ∙ emitted_adds at xs b (emit_one at x w)
 
--- ---- what is done on calls and rooms
+-- ---- operations on calls and conferences
 
 bringing_adds : (at : ℕ) (deed : Deed) (desk : Desk) → Adds (bringing at deed desk)
 bringing_adds at deed desk b w =
@@ -116,7 +116,7 @@ module _ (d : Directory) (token : List ℕ) where
   noticed_adds : (at : ℕ) (room : RoomNo) (seat code : ℕ) → Adds (noticed d token at room seat code)
   noticed_adds at room seat code b w = housed_adds d at (rooms.Notifies room.0 seat code (tokens_now token w)) b w
 
-  -- ---- answers
+  -- ---- responses
 
   replying_adds : (at : ℕ) (key : TKey) (s : Said) (answer : Answer) → Adds (replying d token at key s answer)
   replying_adds at key s answer b w =
@@ -213,7 +213,7 @@ module _ (d : Directory) (token : List ℕ) where
   box_answered_adds None code b w = refl
   box_answered_adds (Some branch) code b w = refl
 
-  -- ---- deadlines
+  -- ---- timers
 
   silenced_adds : (at : ℕ) (branch method : List ℕ) (whose : Whose) → Adds (silenced d token at branch method whose)
   silenced_adds at branch method OfCalls b w = signalled_adds at (signal.Silent branch method) b w
@@ -281,7 +281,7 @@ module _ (d : Directory) (token : List ℕ) where
         ap (replaced d token at peer room seat x) (noticed_adds at room seat 100 b w) ∙ replaced_adds peer room seat x b (noticed d token at room seat 100 w)
 
   module _ (at : ℕ) (s : Said) where
-    -- ---- who comes to a room
+    -- ---- who joins a conference
 
     room_opened_adds : (key : TKey) (tag : List ℕ) (full : Bool) → Adds (room_opened d at key s tag full)
     room_opened_adds key tag true b w = turned_away_adds d at key s tag 503 b w

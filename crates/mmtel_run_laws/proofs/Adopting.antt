@@ -1,4 +1,4 @@
--- A REFER of a seat with Replaces leaves alike worlds alike: the same leg, but for private places, comes out of a call and has a seat, and the call ends; or the same status is told.
+-- A REFER of a participant with Replaces keeps two states indistinguishable: the same leg, but for private places, is taken out of a call and becomes a participant, and the call ends; or the same status is notified.
 use Rattle.std.proofs.Common.{◌≡◌, ℕ, Bool, true, false, List, ◌∷◌, refl, sym, ap, Option, Some, None, Result, Ok, Err, subst}
 use Rattle.std.specs.Option.{option_map}
 use Rattle.mmtel_b2bua.specs.Histories.{Releases, Restores}
@@ -54,7 +54,7 @@ module _ (law : TextsDecideNothing) (tables : TablesStayAlike) (told : CallsAreT
   pub access_same : (room : RoomNo) (v w : World) → Two v w → access room.0 (rooms_in d v).live ≡ access room.0 (rooms_in e w).live
   access_same room v w a = laws.seats.takes known room.0 (rooms_in d v) (rooms_in e w) a.alike.rooms
 
-  -- ---- a leg comes out of its call
+  -- ---- a leg is taken out of its call
 
   module _ (at : ℕ) (room : RoomNo) (seat : ℕ) where
     abbrev adopted_by : (leg : Released) → Option Account → Drawn → World → World

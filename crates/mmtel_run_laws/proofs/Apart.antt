@@ -58,7 +58,7 @@ other_number p q e = turned (q.0 == p.0) (p.0 == q.0) (λ s. rw (peer_is q p s) 
 other_addr : (a b : Addr) → is_same_addr a b ≡ false → is_same_addr b a ≡ false
 other_addr a b e = turned (is_same_addr b a) (is_same_addr a b) (λ s. rw (addr_is b a s) (addr_self a)) e
 
--- ---- a peer more
+-- ---- one more peer
 
 not_more : (q : KnownPeer → Bool) (ks : List KnownPeer) (k : KnownPeer) → q k ≡ false → list_any q (ks ++ k ∷ []) ≡ list_any q ks
 not_more q [] k e = rw e refl

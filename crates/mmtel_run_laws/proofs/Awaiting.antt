@@ -1,4 +1,4 @@
--- A server transaction that was opened by a request stays live, and of the peer who sent that, until a final is offered in it.
+-- A server transaction that was opened by a request stays live, with the peer that sent it, until a final response is sent in it.
 use Rattle.std.proofs.Common.{◌≡◌, ◌<◌, ◌≤◌, le_refl, ℕ, zero, suc, ◌+◌, ◌==◌, Bool, true, false, not, ◌&&◌, ◌||◌, List, [], ◌∷◌, ◌++◌, length, Option, Some, None, refl, sym, ap, ◌∙◌, subst, IfSome, map, cond, arith, append_assoc, length-append}
 use Rattle.std.specs.Prelude.{if◌then◌else◌, nat_lt, nat_le, filter, find, is_some, option_map, slice_get}
 use Rattle.std.specs.List.{list_any}
@@ -28,7 +28,7 @@ use Rattle.mmtel_transaction.specs.declared.parts.Part.TheVariants as part
 use Rattle.mmtel_types.specs.declared.numbers.Peer.{Peer}
 use Rattle.mmtel_run_laws.specs.Awaited.{is_final_in}
 
--- it waits for its final
+-- it awaits its final response
 pub record IsWaiting (p : Peer) (x : Entry) : Type 0 where
   pub server : x.is_server ≡ true
   pub peer : x.peer ≡ p
@@ -39,7 +39,7 @@ pub record IsWaiting (p : Peer) (x : Entry) : Type 0 where
 
 -- ---- numbers
 
--- a call leaves each its number
+-- an operation does not change the numbers
 if-key : (b : Bool) (x y : Entry) (k : ℕ) → x.key ≡ k → y.key ≡ k → (if b then x else y).key ≡ k
 if-key true x y k e f = e
 if-key false x y k e f = f
@@ -128,7 +128,7 @@ numbered-map : (k : ℕ) (f : Entry → Entry) (es : List Entry) → ((e : Entry
 numbered-map k f [] same g = tt
 numbered-map k f (e ∷ es) same g = (same e ∙ g.0, numbered-map (suc k) f es same g.1)
 
--- ---- places
+-- ---- positions
 
 at-key : (k n : ℕ) (es : List Entry) (e : Entry) → Numbered k es → slice_get es n ≡ Some e → e.key ≡ k + n
 at-key k n [] e g is = absurd (none-some e is)
@@ -145,7 +145,7 @@ get-map f [] n e is = absurd (none-some e is)
 get-map f (x ∷ es) zero e is = ap (λ (x : Entry). Some (f x)) (same_Some x e is)
 get-map f (x ∷ es) (suc n) e is = get-map f es n e is
 
--- of the live ones that of a number is the one at that place
+-- among the live ones that of a number is the one at that position
 other-key : (k n : ℕ) → (k == k + suc n) ≡ false
 other-key k n = ne_eqb k (k + suc n) (λ e. omega (arith, e))
 
@@ -167,7 +167,7 @@ find-at k (suc n) (e ∷ es) x g is lives =
     go true other here = ap (λ b. cond b (Some e) (find (is_of (k + suc n)) (filter is_live es))) other ∙ here
     go false other here = here
 
--- each stands at the place of its number
+-- each is at the position of its number
 abbrev IsAt : List Entry → Entry → Type 0
 IsAt all e = slice_get all e.key ≡ Some e
 
@@ -199,10 +199,10 @@ find-each P p (e ∷ es) k = go (p e) refl (find-each P p es k.1)
     go true is f = (k.0, is)
     go false is f = f
 
--- ---- what is heard, and which deadline fires
+-- ---- what is received, and which timer fires
 
 module _ (P : Entry → Type 0) where
-  -- an answer is to a client transaction, an ACK to one that refused
+  -- a response belongs to a client transaction, an ACK to a server transaction that refused
   abbrev IsTo : Part → Type 0
   IsTo part.Fresh = Unit {0}
   IsTo part.Full = Unit {0}
@@ -245,7 +245,7 @@ module _ (P : Entry → Type 0) where
       to-if m.is_request _ _ (to-if (is_ack m) _ _ (ack-to (find (is_server_of m) es) (is_server_of m) (find-each P (is_server_of m) es k)) (request-to (is_full es) (find (is_server_of m) es)))
       (response-to m (find (is_client_of m) es) (find-each P (is_client_of m) es k))
 
-  -- the next deadline is one that a transaction has
+  -- the next timer is one that a transaction has
   abbrev IsNext : Option Next → Type 0
   IsNext o = IfSome o (λ n. P n.entry × (deadline n.entry ≡ Some n.at))
 
@@ -270,7 +270,7 @@ module _ (P : Entry → Type 0) where
   next-is now [] k = tt
   next-is now (e ∷ es) k = sooner-next (due_one now e (deadline e)) (next_due now es) (one-next now e (deadline e) refl k.0) (next-is now es k.1)
 
--- ---- one more call leaves it waiting, unless it is a final in it
+-- ---- one more operation leaves it waiting, unless it is a final response in it
 
 abbrev now_all : List Done → List Entry
 now_all h = map (entry_of h) (opened h)
@@ -278,7 +278,7 @@ now_all h = map (entry_of h) (opened h)
 live-at : (h : List Done) → Each (IsAt (now_all h)) (live h)
 live-at h = filter-each (IsAt (now_all h)) is_live (now_all h) (all-at [] (now_all h) (numbered-map 0 (entry_of h) (opened h) (entry-key h) (numbered h)))
 
--- the one at a place is one alone
+-- there is only one at a position
 one-at : (all : List Entry) (n : ℕ) (e x : Entry) → IsAt all e → e.key ≡ n → slice_get all n ≡ Some x → e ≡ x
 one-at all n e x at key is = same_Some e x (sym at ∙ ap (slice_get all) key ∙ is)
 
@@ -296,7 +296,7 @@ provisional-waits b server undone p x y z s u e w =
     subst (λ server. IsWaiting p (if not server || not undone then x else if b then y else z)) (sym s)
     (subst (λ undone. IsWaiting p (if not undone then x else if b then y else z)) (sym u) (subst (λ b. IsWaiting p (if b then y else z)) (sym e) w))
 
--- a reliable answer that it offers, or sends again, or that is settled, is no final
+-- a reliable response that it sends, retransmits, or of which the retransmission is stopped, is no final response
 answers-wait : (p : Peer) (answer : Option ReliableAnswer) (e : Entry) → IsWaiting p e → IsWaiting p (with_answers answer e)
 answers-wait p None e w = w
 answers-wait p (Some answer) e w = go (not e.is_server || not (e.done == 0))
@@ -314,7 +314,7 @@ settled-waits p None e w = record { server = w.server; peer = w.peer; plan = w.p
 settled-waits p (Some own) e w = record { server = w.server; peer = w.peer; plan = w.plan; done = w.done; refused = w.refused; over = w.over }
 
 module _ (p : Peer) (h : List Done) (x : Entry) (n : ℕ) (key : x.key ≡ n) (at : slice_get (now_all h) n ≡ Some x) (w : IsWaiting p x) where
-  -- a call of another transaction, or none of this kind
+  -- an operation on another transaction, or none of this kind
   unless-hit : (k : ℕ) (f : Entry → Entry) → (k ≡ n → IsWaiting p (f x)) → IsWaiting p (hit k f x)
   unless-hit k f each = go (x.key == k) refl
     where
@@ -414,7 +414,7 @@ waits p (c ∷ h) n e run is w none =
         change-waits p h (entry_of h e) n (entry-key h e ∙ key) (get-map (entry_of h) (opened h) n e old) (before old) c run (none-of (is_final_in n c) (list_any (is_final_in n) h) none).0
     go false less before = w
 
--- it is live, and of that peer
+-- it is live, and with that peer
 pub still_awaited : (p : Peer) (h : List Done) (n : ℕ) (e : Entry) → IsRun h → slice_get (opened h) n ≡ Some e → IsWaiting p e → list_any (is_final_in n) h ≡ false → peer_of n (live h) ≡ Some p
 still_awaited p h n e run is w none =
     let x = entry_of h e in
@@ -443,7 +443,7 @@ opened-of (c ∷ newer) older n less =
     let below : n < length (opened h) = omega (arith, less, keys-of newer older) in
     get-front (opened h) (opens (step_of h) (offers h) (length (opened h)) c) n (grind (arith, nat_tests, below)) ∙ opened-of newer older n less
 
--- where it was opened by then, and no final was offered in it
+-- where it was opened by then, and no final response was sent in it
 pub awaited_before : (p : Peer) (newer older : List Done) (n : ℕ) (e : Entry) → IsRun (newer ++ older) → slice_get (opened (newer ++ older)) n ≡ Some e → IsWaiting p e →
     n < length (opened older) → list_any (is_final_in n) older ≡ false → peer_of n (live older) ≡ Some p
 awaited_before p newer older n e run is w less none = still_awaited p older n e (run_of newer older run) (sym (opened-of newer older n less) ∙ is) w none

@@ -1,4 +1,4 @@
--- The book of the seats of a run: each meter that begins is a participant's, and is closed once, or runs.
+-- The ledger of the participants of a run: each meter that begins is a participant's, and is closed once, or runs.
 use Rattle.std.proofs.Common.{◌≡◌, ℕ, ◌+◌, Bool, true, List, [], ◌∷◌, ◌++◌, Option, Some, None, refl, sym, ap, ◌∙◌, subst, arith, cond, append-nil, append_assoc, IfSome}
 use Rattle.std.specs.Prelude.{count_by, option_to_list}
 use Rattle.std.proofs.lemmas.List.{append_cancel_left}
@@ -17,7 +17,7 @@ use Rattle.mmtel_run_laws.specs.Rows.{Dated, IsBookAt, IsBookOf, RunsOn, begun_i
 use Rattle.mmtel_run_laws.proofs.Hearing.{IsOfRun}
 use Rattle.mmtel_run_laws.proofs.Parting.{each_behind, each_first, each_last}
 
--- ---- a book, and a deed more
+-- ---- a ledger, and one more operation
 
 follows-on : (at : ℕ) (before : List Noted) (entries : List Entry) (after : List Noted) (rows : List Row) → Follows at before entries after rows → RunsOn before (dated at entries) after rows
 follows-on at before [] after rows f = f
@@ -37,14 +37,14 @@ runs-behind before (x ∷ one) mid rows two after more f g =
       runs-behind (among x.entry.front x.entry.begun x.entry.back) one mid later two after more rest g,
     )
 
--- ---- the book of what was done
+-- ---- the ledger of the operations
 
 pub record Kept (site : Site) (deeds : List Deed) : Type 0 where
   pub book : List Dated
   pub runs : RunsOn [] book (running (table_after site deeds).live) (rows_left site deeds)
   pub of_deeds : IsBookOf site deeds book
 
--- these rows were filed, behind those that were there
+-- these CDRs were filed, after those before
 same-rows : (before rows brought : List Row) → before ++ brought ≡ before ++ rows → rows ≡ brought
 same-rows before rows brought e = sym (append_cancel_left before brought rows e)
 
@@ -85,7 +85,7 @@ uncharged-more site deed older moment runs none k = record {
   );
 }
 
--- whoever opens a room leaves none
+-- whoever opens a conference leaves none
 opens-none : (site : Site) (c : Coming) (table : Table) → (opened_by site c table).effects.desk.rows ≡ []
 unfolding come
 opens-none site c table = refl
@@ -111,7 +111,7 @@ pub kept : DeedsAreCharged → (site : Site) (deeds : List Deed) → Each IsOfRu
 kept law site [] of = record { book = []; runs = (refl, refl); of_deeds = refl }
 kept law site (deed ∷ older) of = more-kept law site deed older of.0 (kept law site older of.1)
 
--- ---- whose its meters and rows are
+-- ---- whose its meters and CDRs are
 
 abbrev IsPlace : Noted → Type 0
 IsPlace meter = is_participant meter.kind ≡ true
@@ -174,6 +174,6 @@ each_once p before (x ∷ book) after rows f =
       each_once p (among front x.entry.begun back) book after later rest,
     )
 
--- from nothing on
+-- beginning with none
 pub all_once : (p : Noted → Bool) (book : List Dated) (after : List Noted) (rows : List Row) → RunsOn [] book after rows → count_by p (begun_in book) ≡ count_by p (closed_in book) + count_by p after
 all_once p book after rows f = omega (arith, each_once p [] book after rows f)

@@ -1,4 +1,4 @@
--- What message waiting does leaves alike worlds alike: where the mailboxes stand alike the same NOTIFYs go out, of two requests that ask the same of them the same comes.
+-- What message waiting does keeps two states indistinguishable: where the mailboxes are equal the same NOTIFYs are sent, and two requests that ask the same of them have the same effect.
 use Rattle.std.proofs.Common.{◌≡◌, ℕ, ◌+◌, Bool, true, false, List, [], ◌∷◌, refl, sym, ap, ◌∙◌, Option, Some, None, subst, codes}
 use Rattle.std.specs.Prelude.{◌==◌, if◌then◌else◌, Ok, Err}
 use Rattle.std.specs.declared.result.Result.{Result}
@@ -40,23 +40,23 @@ use Rattle.mmtel_run_laws.proofs.Emitting.{Knows, Pair, arm-alike, ask-alike, dr
 
 -- ---- what two requests ask of a mailbox
 
--- of the dialog in which they are said the same is read
+-- the dialog in which they are sent is read equally
 pub record AskAlike (m n : Said) : Type 0 where
   pub start : m.heard.start ≡ n.heard.start
   pub expires : m.heard.expires ≡ n.heard.expires
   pub number : number_in m.heard.lines ≡ number_in n.heard.lines
 
--- as SUBSCRIBEs they are of the same subscriber, and to the same mailbox
+-- as SUBSCRIBEs they are of the same subscriber, and for the same mailbox
 pub record SubscribeAlike (one other : Directory) (m n : Said) : Type 0 where
   pub asking : (within : Bool) → asking_of one within m.heard ≡ asking_of other within n.heard
   pub mailbox : mailbox_named one m.heard ≡ mailbox_named other n.heard
   pub leg : (tag : List ℕ) → leg_by tag m ≡ leg_by tag n
 
--- the transaction is of this peer, if of any
+-- the transaction is with this peer, if with any
 abbrev pub IsOf : TKey → Peer → World → Type 0
 IsOf key peer w = (z : Peer) → peer_by key.0 (live w.acts) ≡ Some z → z ≡ peer
 
--- a request is heard by its number alone
+-- of a request only its CSeq number matters
 abbrev having_numbered : Option ℕ → Subscription → Subscription
 having_numbered number s = record s { leg = with_dialogue s.leg (record s.leg.dialogue { last = last_after number s.leg.dialogue.last }) }
 
@@ -75,7 +75,7 @@ module _ (law : TextsDecideNothing) (records : List Sheet) (d e : Directory) (to
   abbrev Two : World → World → Type 0
   Two v w = Pair records d e keys v w
 
-  -- ---- single deeds
+  -- ---- elementary operations
 
   noting-alike : (deed other : boxes.Deed) (v w : World) → boxes.did deed (boxes_in v) ≡ boxes.did other (boxes_in w) → Two v w → Two (noting deed v) (noting other w)
   noting-alike deed other v w after a = record {
@@ -98,7 +98,7 @@ module _ (law : TextsDecideNothing) (records : List Sheet) (d e : Directory) (to
     among = a.among;
   }
 
-  -- the same deed
+  -- the same operation
   same_noted : (deed : boxes.Deed) (v w : World) → Two v w → Two (noting deed v) (noting deed w)
   same_noted deed v w a = noting-alike deed deed v w (ap (boxes.did deed) a.alike.boxes) a
 
@@ -153,13 +153,13 @@ module _ (law : TextsDecideNothing) (records : List Sheet) (d e : Directory) (to
         subst (λ (subs : List SubNo). Two (telling_each d token at subs (noting (boxes.Puts put.0 put.1) v)) (putting e token at (Some put) w)) (ap (subscribers_of put.0) (sym a.alike.boxes))
         (telling_each-alike (subscribers_of put.0 (boxes_in w)) (noting (boxes.Puts put.0 put.1) v) (noting (boxes.Puts put.0 put.1) w) (same_noted (boxes.Puts put.0 put.1) v w a))
 
-    -- the time of a subscription is over
+    -- a subscription expires
     pub box_due-alike : (sub : SubNo) (set : ℕ) (v w : World) → Two v w → Two (box_due d token at sub set v) (box_due e token at sub set w)
     box_due-alike sub set v w a =
         subst (λ (o : Option ℕ). Two (if is_last_set set o then telling_last d token at sub v else v) (box_due e token at sub set w)) (ap (set_by sub) (sym a.alike.boxes))
         (either-alike (is_last_set set (set_by sub (boxes_in w))) (telling_last d token at sub v) v (telling_last e token at sub w) w (telling_last-alike sub v w a) a)
 
-    -- a subscription is made to stand
+    -- the expiration of a subscription is set
     arming_until-alike : (sub : SubNo) (set : Option ℕ) (until : ℕ) (v w : World) → Two v w → Two (arming_until sub set until v) (arming_until sub set until w)
     arming_until-alike sub None until v w a = a
     arming_until-alike sub (Some set) until v w a = arm-alike law records d e keys K older knows (OfBox sub set) until v w a
@@ -173,7 +173,7 @@ module _ (law : TextsDecideNothing) (records : List Sheet) (d e : Directory) (to
         (subst (λ (o : Option ℕ). Two (arming_until sub o (until_of at seconds) vs) (arming_until sub (set_by sub (boxes_in w)) (until_of at seconds) ws)) (ap (set_by sub) (sym a.alike.boxes))
         (arming_until-alike sub (set_by sub (boxes_in w)) (until_of at seconds) vs ws (telling-alike sub false v w a)))
 
-    -- ---- of two requests, the answers to which leave worlds alike
+    -- ---- for two requests, the responses to which leave states indistinguishable
 
     module _ (key : TKey) (m n : Said) (asks : AskAlike m n)
         (answers : (answer : Answer) (v w : World) → IsOf key n.peer w → Two v w → Two (replying d token at key m answer v) (replying e token at key n answer w))
@@ -246,7 +246,7 @@ module _ (law : TextsDecideNothing) (records : List Sheet) (d e : Directory) (to
       other_same : other_answer d m.heard ≡ other_answer e n.heard
       other_same = ap (λ (x : Answer). other_by x m.heard.start) allowing_same ∙ ap (other_by (allowing e 200)) asks.start
 
-      -- what subscribes is asked where it is a SUBSCRIBE
+      -- the subscriber and the mailbox are compared where it is a SUBSCRIBE
       module _ (subscribes : is_method (codes "SUBSCRIBE") n.heard.start ≡ true → SubscribeAlike d e m n) where
         abbrev entered_if : SubNo → (is_subscribe : Bool) → Answer → World → World
         entered_if sub is_subscribe other u = if is_subscribe then refreshing_by d token at key m sub (refusal (asking_of d true m.heard)) u else replying d token at key m other u

@@ -1,4 +1,4 @@
--- The branch of an INVITE, PRACK or UPDATE that the server sent is read back as it was written, and a response names the branch of the one that it answers (RFC 3261 §8.1.1.7, §17.1.3).
+-- The branch of an INVITE, PRACK or UPDATE that the server sent is read back as it was written, and a response has the branch of its request (RFC 3261 §8.1.1.7, §17.1.3).
 use Rattle.std.proofs.Common.{◌≡◌, ◌∙◌, ◌^◌, ◌<◌, ◌-◌, Bool, true, false, inl, inr, ℕ, List, [], ◌∷◌, ◌++◌, Ok, Option, Some, None, ap, arith, codes, decimal, drop, length, refl, subst, sym, take, nat_lt}
 use Rattle.std.specs.Prelude.{◌⊎◌, if◌then◌else◌}
 use Rattle.std.specs.Option.{unwrap_or}
@@ -102,7 +102,7 @@ cookie = codes "z9hG4bK"
 some_same : (A : Type 0) (x y : A) → Some x ≡ Some y → x ≡ y
 some_same A x y e = cc
 
--- of a request that the server sent it is that, or nothing is read of it
+-- of a request that the server sent it is that one, or nothing is read of it
 branch_by : (o : Option Five) (m : Message Start) (sip : Addr) (branch : List ℕ) → five_at m.lines ≡ o → via_in m.lines ≡ Some (via_of sip branch) → ((head_with m.start o).branch ≡ []) ⊎ ((head_with m.start o).branch ≡ cookie ++ branch)
 branch_by None m sip branch e via = inl refl
 branch_by (Some five) m sip branch e via =
@@ -143,7 +143,7 @@ not_both sip branch m none awaited =
     let same : (head_with m.start None).method ≡ awaited.method = ap (λ (n : Message Start). (head_with n.start None).method) awaited.request.is in
     true_false (sym (ap is_awaited_method same ∙ awaited.waited_for) ∙ none None)
 
--- ---- which request a response answers
+-- ---- to which request a response belongs
 
 -- of a message that was read
 pub record WasRead (m : Said) : Type 0 where

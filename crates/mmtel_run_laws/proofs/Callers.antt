@@ -1,4 +1,4 @@
--- Callers whose answers stand alike beside two openings are decided alike by each record of the run.
+-- Callers for whom the tests of two openings have the same results are decided equally by each record of the run.
 use Rattle.std.proofs.Common.{append_assoc, ◌≡◌, Bool, List, [], ◌∷◌, ◌++◌, map, ap, sym, ◌∙◌, subst, inl, inr}
 use Rattle.mmtel_barring.specs.Barring.{rules_of}
 use Rattle.mmtel_call_laws.specs.Secret.Premises.{DecideAlike}
@@ -28,7 +28,7 @@ module _ (f g : Who → Bool) where
   back [] ys e = e
   back (x ∷ xs) ys e = back xs ys (ap rest e)
 
-  -- of the first record
+  -- for the first record
   one : (s : Sheet) (ys : List Who) → map f (parts_of s ++ ys) ≡ map g (parts_of s ++ ys) → AnswerAlikeTo s f g
   one s ys e = record { diversion = front first (second ++ ys) whole; incoming = front second ys (back first (second ++ ys) whole) }
     where

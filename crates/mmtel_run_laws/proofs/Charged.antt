@@ -1,4 +1,4 @@
--- The rows of a run, of all that the keeper took and that wait: those of calls, those of each call, and those of seats.
+-- The CDRs of a run, of all that the keeper accepted and that wait: those of calls, those of each call, and those of participants.
 use Rattle.std.proofs.Common.{◌≡◌, ℕ, Bool, true, false, not, List, [], ◌∷◌, ◌++◌, refl, sym, ap, ◌∙◌, subst, cond}
 use Rattle.std.specs.Prelude.{◌&&◌, filter, if◌then◌else◌}
 use Rattle.mmtel_b2bua.specs.Histories.{Deed, Drops, Finishes, Hears, Releases, Restores, table_after}
@@ -20,7 +20,7 @@ use Rattle.mmtel_run_laws.proofs.Books.{AreOfSeats, all_once, kept, of_seats}
 use Rattle.mmtel_run_laws.proofs.Hearing.{IsOfRun}
 use Rattle.mmtel_run_laws.proofs.Parting.{AreOfCalls, calls_are_of_calls}
 
--- ---- two ways to list the rows of calls
+-- ---- two ways to list the CDRs of calls
 
 closed-same : (site : Site) (deed : Deed) (older : List Deed) → closed_by site deed (table_after site older) ≡ rows_by site deed (table_after site older)
 closed-same site (Hears x) older = refl
@@ -34,9 +34,9 @@ unfolding rows_after
 all-closed site [] = refl
 all-closed site (deed ∷ older) = λ i. all-closed site older i ++ closed-same site deed older i
 
--- ---- rows of calls among those of seats
+-- ---- CDRs of calls among those of participants
 
--- a row of a call that also passes this test
+-- a CDR of a call that also passes this test
 abbrev and_so : (Row → Bool) → Row → Bool
 and_so p row = is_call_row row && p row
 
@@ -84,7 +84,7 @@ seats-alone (one ∷ closed) c s = go one.of_calls c s (λ c s. seats-alone clos
     go false c s later =
         ap (λ (b : Bool). cond b (one.row ∷ filter is_seat_row (rows_in closed)) (filter is_seat_row (rows_in closed))) s.0 ∙ ap (λ (rows : List Row). one.row ∷ rows) (later c s.1)
 
--- ---- of a world
+-- ---- of a state
 
 module _ (steps : CallsTakeTheirSteps) (exact : CallsOfTablesAreExact) (own : RowsAreOfTheirCalls) (seats : DeedsAreCharged)
     (d : Directory) (w : World) (filed : AreFiled d w) (few : HasNumbers (site_of d) w.deeds) (put : ArePutBack (site_of d) w.deeds) (of_run : Each IsOfRun w.rooms) where
@@ -96,7 +96,7 @@ module _ (steps : CallsTakeTheirSteps) (exact : CallsOfTablesAreExact) (own : Ro
       let k = kept seats (rooms_site d) w.rooms of_run in
       subst AreOfSeats (sym filed.seats) (of_seats [] k.book (running (rooms_in d w).live) (rows_left (rooms_site d) w.rooms) tt k.runs)
 
-  -- those of one call are the rows of its deeds
+  -- those of one call are the CDRs of its operations
   pub of_call : (number : ℕ) → rows_of_call w number ≡ rows_of (site_of d) number w.deeds
   of_call number =
       ap (filter (and_so (is_row_of number))) (sym filed.all)

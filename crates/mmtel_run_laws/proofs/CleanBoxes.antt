@@ -1,4 +1,4 @@
--- What subscribers to mailboxes are told is clean: each NOTIFY has the lines of its dialog, which are those of the SUBSCRIBE, and the server's own (RFC 6665 §4.2.2).
+-- What subscribers to mailboxes are sent has no injected header fields: each NOTIFY has the header fields of its dialog, which are those of the SUBSCRIBE, and the server's own (RFC 6665 §4.2.2).
 use Rattle.std.proofs.Common.{◌≡◌, ◌==◌, Bool, true, false, ℕ, List, [], ◌∷◌, Option, Some, None, IfSome, codes, refl, subst}
 use Rattle.std.specs.Prelude.{decimal, find, if◌then◌else◌}
 use Rattle.std.specs.Option.{option_map}
@@ -33,7 +33,7 @@ use Rattle.mmtel_run_laws.proofs.Courses.{IsCleanAnswer}
 
 -- ---- the dialogs of subscriptions
 
--- whoever subscribes does so in a clean dialog
+-- whoever subscribes does so in a dialog without injected fields
 abbrev pub IsCleanDeed : Deed → Type 0
 IsCleanDeed (Puts account counts) = Unit {0}
 IsCleanDeed (Subscribes account leg until) = IsCleanDialogue leg.dialogue
@@ -124,7 +124,7 @@ notice_in_clean sip d branch last seconds counts is e =
     request_clean d (next_number d.own) (codes "NOTIFY") (bringing sip branch (notice_lines last seconds) (summary counts)) is refl
     (record { branch_in = e; shown_in = lines_clean last seconds })
 
--- each that goes out, after these deeds
+-- each that is sent, after these operations
 pub notice_clean : (sip : Addr) (sub : SubNo) (last : Bool) (branch : List ℕ) (now : ℕ) (deeds : List Deed) (m : Message Start) → Each IsCleanDeed deeds → IsClean branch →
     notice sip sub last branch now (table_after deeds) ≡ Some m → IsCleanMessage m
 notice_clean sip sub last branch now deeds m c e is = by (held sub (table_after deeds)) (each_found IsCleanSubscription (is_numbered sub) (table_after deeds).live (boxes_clean deeds c)) is
@@ -135,7 +135,7 @@ notice_clean sip sub last branch now deeds m c e is = by (held sub (table_after 
         subst IsCleanMessage (same_Some (notice_of sip last branch now (table_after deeds) s) m is)
         (notice_in_clean sip s.leg.dialogue branch last (seconds_left s.until now) (counts_in s.account (table_after deeds)) h e)
 
--- ---- what is answered to a request for a mailbox
+-- ---- the responses to a request for a mailbox
 
 pub granting_clean : (seconds : ℕ) → IsCleanAnswer (granting seconds)
 granting_clean seconds = all_cons is_clean_line (codes "Expires", decimal seconds) [] (line_clean (codes "Expires") (decimal seconds) refl (decimal_clean seconds)) refl

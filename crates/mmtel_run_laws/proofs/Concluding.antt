@@ -1,4 +1,4 @@
--- What each call of a run comes to, put together; its rows and those of seats; and what is sent out.
+-- The outcome of each call of a run, put together; its CDRs and those of participants; and what is sent.
 use Rattle.std.proofs.Common.{◌≡◌, ◌≤◌, ℕ, ◌+◌, List, ◌++◌, true, false, Option, None, Some, refl, sym, ap, ◌∙◌, subst, arith}
 use Rattle.std.specs.Prelude.{max, count_by, length}
 use Rattle.mmtel_b2bua_laws.specs.Clean.{DeedsSendCleanMessages, LegsGoOutClean}
@@ -67,7 +67,7 @@ has_numbers d w k short = omega (arith, k.opened, keys_few w.acts, short.acts)
 
 -- ---- the bound
 
--- what is seen of it is what its Outcome says
+-- what is observed of it is its Outcome
 abbrev ShowsOutcome : Life → Type 0
 ShowsOutcome life = seen_of life ≡ signs_of_targets (opening_in life.start) (outcome_after life.start life.events).targets ++ sign_of_result (outcome_after life.start life.events).result
 
@@ -88,7 +88,7 @@ bounded bound_law forwards d life same shown =
 
 -- ---- the result so far
 
--- one that is offered has none
+-- a call that is offered has none
 still_pending : (c : Call) → is_offered c.phase ≡ true → result_of c ≡ Pending
 still_pending c offered = go c.phase c.answered offered
   where
@@ -101,7 +101,7 @@ still_pending c offered = go c.phase c.answered offered
 -- ---- the whole
 
 module _ (back : LegsGoBack) (room_replies : RoomsReplyInTheirOwn) (steps : CallsTakeTheirSteps) (exact_law : CallsOfTablesAreExact) (rows_law : RowsAreOfTheirCalls) (seats : DeedsAreCharged) (filed : RowsAreFiled) where
-  -- the rows of a short run
+  -- the CDRs of a short run
   charged : SeatsAreDue → SeatsAreMetered → RowsAreDue → (d : Directory) (token : List ℕ) (loaded : Texts) (fuel : ℕ) (happened : List Happened) → IsShort (world_after d token loaded fuel happened) →
       RowsAreCharged d (world_after d token loaded fuel happened)
   charged due metered named d token loaded fuel happened short =
@@ -176,7 +176,7 @@ module _ (back : LegsGoBack) (room_replies : RoomsReplyInTheirOwn) (steps : Call
     pub calls_come : CallsOfRunsComeToOutcome
     calls_come d token loaded happened short fuel number life enough is = comes d token loaded fuel happened (short fuel enough) number life is
 
--- ---- what is sent out
+-- ---- what is sent
 
 pub sends_clean : DeedsSendCleanMessages → LegsGoOutClean → EmitsAreClean → CallsAreToldWhatIsInForce → IsReadClean → ((m : Message Start) → IsCleanMessage m → HasOwnLines m) → RunsSendCleanMessages
 sends_clean sends legs seats views read own d token loaded happened home clean_token short fuel enough = all_own d happened own sends legs seats views read token home clean_token loaded fuel

@@ -1,4 +1,4 @@
--- What is decided of a request tells what it is: in a dialog it enters that one, and what opens a call is an INVITE without To tag. And what the transactions take a message for tells whether it is a request.
+-- The disposition of a request determines its kind: in a dialog it enters that one, and what opens a call is an INVITE without To tag. And how the transactions classify a message determines whether it is a request.
 use Rattle.std.proofs.Common.{◌≡◌, ℕ, Bool, true, false, not, ◌&&◌, ◌||◌, List, [], ◌∷◌, ◌++◌, refl, ap, sym, ◌∙◌, subst, Option, Some, None, Result, Ok, Err, codes, inl, inr}
 use Rattle.std.specs.Prelude.{if◌then◌else◌, is_none, is_some}
 use Rattle.std.specs.List.{find, list_any}
@@ -44,7 +44,7 @@ use Rattle.mmtel_run.specs.World.{World, calls_in}
 use Rattle.mmtel_run_laws.specs.Belonging.{is_opening, is_subscribing, may_subscribe}
 use Rattle.mmtel_run_laws.proofs.Fits.{true_false}
 
--- ---- kinds of courses
+-- ---- kinds of dispositions
 
 abbrev enters : Course → Bool
 enters (Refuse answer) = false
@@ -57,7 +57,7 @@ enters (Register account seconds) = false
 enters Subscribe = false
 enters (EnterBox sub) = true
 
--- it opens a call or a room, or asks for a seat
+-- it opens a call or a conference, or asks to join one
 abbrev pub opens : Course → Bool
 opens (Refuse answer) = false
 opens (Enter call side) = false
@@ -69,7 +69,7 @@ opens (Register account seconds) = false
 opens Subscribe = false
 opens (EnterBox sub) = false
 
--- where it enters
+-- the dialog that it enters
 abbrev entered : Holder → Course → Holder
 entered other (Refuse answer) = other
 entered other (Enter call side) = InCall call side
@@ -100,7 +100,7 @@ if_no : (k : Course → Bool) (b : Bool) (x y : Course) → k x ≡ false → k 
 if_no k true x y e f = e
 if_no k false x y e f = f
 
--- ---- what enters a dialog is named so
+-- ---- what enters a dialog names it
 
 registers : (k : Course → Bool) (o : Option Account) (m : HeardMessage) → ((answer : Answer) → k (Refuse answer) ≡ false) → ((account : Account) (seconds : ℕ) → k (Register account seconds) ≡ false) → k (registration_of o m) ≡ false
 registers k None m e f = e (plainly 404)
@@ -121,7 +121,7 @@ method_enters d full m =
     (if_no enters m.trusted _ _ (registers enters (to_account d.names.accounts m) m (λ answer. refl) (λ account seconds. refl)) refl)
     (if_no enters (is_subscribe m) Subscribe (Refuse (plainly 481)) refl refl))))
 
--- what enters the dialog of whoever has it enters that one
+-- what enters the dialog of its owner enters that one
 entering_named : (m : HeardMessage) (y x : Holder) → entering y m ≡ in_dialog x → y ≡ x
 entering_named m y x e = go (is_subscribe m && is_elsewhere y) e
   where
@@ -141,7 +141,7 @@ pub enters_named : (d : Directory) (merged full : Bool) (named : Option Holder) 
 unfolding course
 enters_named d merged full named m x e = enters_by d full named (public_part m) (first_that_applies (refusals d merged (is_some named) (public_part m))) x e
 
--- whose it is where it is a call's
+-- the owner where a call has the dialog
 none_some : (A : Type 0) (x : A) → None ≡ Some x → ⊥
 none_some A x e = cc
 
@@ -164,7 +164,7 @@ of_room None None x e = none_some Holder (InCall x.0 x.1) e
 of_room (Some sub) None x e = true_false (sym (ap (λ (o : Option Holder). is_call (holder_or (InCall x.0 x.1) o)) e))
 of_room b (Some y) x e = true_false (sym (ap (λ (o : Option Holder). is_call (holder_or (InCall x.0 x.1) o)) e))
 
--- it is no call's where it is nobody's, or a subscription's
+-- it is no call's where it has no owner, or is a subscription's
 pub of_nobody : (b : Option SubNo) (r : Option (RoomNo × ℕ)) (o : Option (CallNo × Side)) → in_call_or (in_room_or (in_box b) r) o ≡ None → o ≡ None
 of_nobody b r None e = refl
 of_nobody b r (Some y) e = let n : None ≡ Some (InCall y.0 y.1) = sym e in absurd (none_some Holder (InCall y.0 y.1) n)
@@ -189,7 +189,7 @@ named_tagged m es x e = elim (cases_Bool (is_method (codes "INVITE") m.start)) [
   | inr n ↦ ap (λ (b : Bool). b && is_none m.to_tag) n
 ]
 
--- ---- what opens a call or a room, or asks for a seat, is an INVITE without To tag
+-- ---- what opens a call or a conference, or asks to join one, is an INVITE without To tag
 
 method_opens : (d : Directory) (full : Bool) (m : HeardMessage) → is_method (codes "INVITE") m.start ≡ false → opens (by_method d full m) ≡ false
 method_opens d full m none =
@@ -240,7 +240,7 @@ pub opens_opening : (d : Directory) (merged full : Bool) (named : Option Holder)
 unfolding course
 opens_opening d merged full named m e = opens_by d merged full named (public_part m) (first_that_applies (refusals d merged (is_some named) (public_part m))) refl e
 
--- ---- what enters a dialog has a method that is known: no PRACK and no UPDATE where these are off
+-- ---- what enters a dialog has a known method: it is no PRACK and no UPDATE where these are switched off
 
 not_false : (b : Bool) → not b ≡ false → b ≡ true
 not_false true e = refl
@@ -312,7 +312,7 @@ known_across d merged full named side m x e off =
     let known = known_by d merged full named (public_part m.heard) (first_that_applies (refusals d merged (is_some named) (public_part m.heard))) refl (ap refuses e ∙ taken_there x) in
     across_by side m (unlisted names m.heard.start (codes "PRACK") (no_prack d.reliable d.names.mwi off) known) (unlisted names m.heard.start (codes "UPDATE") (no_update d.reliable d.names.mwi off) known)
 
--- ---- a SUBSCRIBE that is not refused is one where messages are waited for, and opens nothing
+-- ---- a SUBSCRIBE that is not refused comes where message waiting is switched on, and opens nothing
 
 pub subscribe_waits : (d : Directory) (merged full : Bool) (named : Option Holder) (m : HeardMessage) → refuses (course d merged full named m) ≡ false → is_subscribe m ≡ true → may_subscribe d m ≡ true
 unfolding course
@@ -338,7 +338,7 @@ other_method (Status code phrase) one other differ e = refl
 pub subscribe_opens_nothing : (m : HeardMessage) → is_subscribe m ≡ true → is_opening m ≡ false
 subscribe_opens_nothing m is = ap (λ (b : Bool). b && is_none m.to_tag) (other_method m.start (codes "SUBSCRIBE") (codes "INVITE") refl is)
 
--- ---- what subscribes is a SUBSCRIBE of no dialog
+-- ---- what subscribes is a SUBSCRIBE outside a dialog
 
 abbrev subscribes : Course → Bool
 subscribes (Refuse answer) = false
@@ -395,7 +395,7 @@ pub head_request : (m : Message Start) → (head_of m).is_request ≡ faults.is_
 unfolding head_of
 head_request m = request_by m.start (five_at m.lines)
 
--- a part that a request has, and one that a response has
+-- a classification of a request, and one of a response
 abbrev of_request : Part → Bool
 of_request part.Fresh = true
 of_request part.Full = true

@@ -1,4 +1,4 @@
--- What is decided of a request that was read: what is answered is clean, and a call is opened for a clean Request-URI alone.
+-- The decisions on a request that was read: the response has no injected header fields, and a call is opened for a Request-URI of one line alone.
 use Rattle.std.proofs.Common.{◌≡◌, Bool, true, false, not, ℕ, List, [], ◌∷◌, Option, Some, None, refl, sym, IfSome, Result, Ok, Err}
 use Rattle.std.specs.Prelude.{◌+◌, ◌&&◌, codes, decimal, if◌then◌else◌, is_some}
 use Rattle.std.specs.List.{list_all}
@@ -33,7 +33,7 @@ use Rattle.mmtel_run.specs.Refusals.{Course, Enter, EnterBox, EnterRoom, JoinRoo
 use Rattle.mmtel_run.specs.Rooms.{Holder, InBox, InCall, InRoom}
 use Rattle.mmtel_run_laws.proofs.Received.{IsReadWell}
 
--- ---- what was heard
+-- ---- what was received
 
 -- a message that was read, with what is read of it
 pub record IsHeardWell (m : HeardMessage) : Type 0 where
@@ -50,7 +50,7 @@ said_well peer source trusted m r = record {
   uri = r.uri_in;
 }
 
--- ---- tags and answers
+-- ---- tags and responses
 
 pub tag_clean : (token : List ℕ) (drawn : ℕ) (o : Option (List ℕ)) → IsClean token → IsClean (tag_for token drawn o)
 tag_clean token drawn None h = joined token (45 ∷ decimal (drawn + 1)) h (all_cons is_value_byte 45 (decimal (drawn + 1)) refl (decimal_clean (drawn + 1)))
@@ -92,7 +92,7 @@ second-none true b x y o h = absurd (none-some x (sym h))
 second-none false true x y o h = absurd (none-some y (sym h))
 second-none false false x y o h = refl
 
--- ---- courses
+-- ---- dispositions
 
 abbrev pub IsCleanCourse : Start → Course → Type 0
 IsCleanCourse start (Refuse answer) = IsCleanAnswer answer
@@ -128,7 +128,7 @@ module _ (d : Directory) (full : Bool) (m : HeardMessage) where
   opens : IsClean (request_uri m.start) → IsCleanCourse m.start (opening full)
   opens uri = either m.start full _ _ refl uri
 
-  -- an INVITE to the factory, to a room, or to anybody else
+  -- an INVITE to the factory, to a conference, or to anybody else
   target-clean : (o : Result Uri Refusal) → IsClean (request_uri m.start) → IsCleanCourse m.start (invited_at d full m o)
   target-clean (Ok target) uri =
       either m.start (is_factory d.factory target) (with_audio m OpenRoom) _ (either m.start (offers_audio m.body) OpenRoom _ tt refl)

@@ -1,4 +1,4 @@
--- Signals to calls and to rooms that are the same but for private places, what else is done on them, and deadlines, leave alike worlds alike.
+-- Signals to calls and to conferences that are the same but for private places, the other operations on them, and timers, keep two states indistinguishable.
 use Rattle.std.proofs.Common.{◌≡◌, ℕ, zero, suc, ◌+◌, Bool, false, ◌&&◌, List, [], ◌∷◌, ◌++◌, length, refl, sym, ap, ◌∙◌, Option, Some, None, subst}
 use Rattle.std.specs.Prelude.{if◌then◌else◌, ◌==◌, ◌||◌, is_some, nat_le, nat_lt}
 use Rattle.std.specs.Option.{option_map, unwrap_or}
@@ -62,11 +62,11 @@ use Rattle.mmtel_run_laws.proofs.BoxesAlike.{box_answered-alike, box_due-alike}
 use Rattle.mmtel_run_laws.proofs.Emitting.{Knows, Pair, acting-alike, emitted-alike, offering-alike, one_offer}
 use Rattle.mmtel_run_laws.proofs.Growing.{settled_before}
 
--- a table without the rows that wait
+-- a table without the CDRs that wait
 abbrev pub bare : Table → Table
 bare table = record table { rows = [] }
 
--- what is proved of the tables, beside what they keep
+-- what is proved of the tables, besides what they preserve
 pub record Laws : Type 0 where
   pub answers : AlikeTablesAnswerAlike
   pub rooms : alike.TablesStayAlike
@@ -119,9 +119,9 @@ module _ (law : TextsDecideNothing) (tables : TablesStayAlike) (told : CallsAreT
   key_same : (key : TKey) (v w : World) → Two v w → whose_key key (calls_in d v).entries ≡ whose_key key (calls_in e w).entries
   key_same key v w a = ap (λ (o : Option ℕ). calls_or_rooms (is_some o)) (laws.answers.heard records (trusts d) key (bare (calls_in d v)) (bare (calls_in e w)) (tables_alike v w a))
 
-  -- ---- what is done on the calls
+  -- ---- operations on the calls
 
-  -- the calls after these deeds
+  -- the calls after these operations
   abbrev after : Directory → Deed → World → Table
   after x deed u = table_after (site_of x) (deed ∷ u.deeds)
 
@@ -186,7 +186,7 @@ module _ (law : TextsDecideNothing) (tables : TablesStayAlike) (told : CallsAreT
       let s = tables.deeds records (site_of d) (site_of e) keys (BothRestore number one other) (bare (calls_in d v)) (bare (calls_in e w)) sites.configured (stands_alike v w a) same in
       lending-alike (Restores number one) (Restores number other) v w a s.alike.entries s.alike.opened s.one s.other
 
-  -- a call ends without it
+  -- a call ends without its detached leg
   abbrev finishing_by : Directory → (at : ℕ) → CallNo → Drawn → World → World
   finishing_by x at call tokens u = bringing at (Finishes call.0 at tokens) (finished_by (site_of x) call.0 at tokens (calls_in x u)).desk u
 
@@ -199,7 +199,7 @@ module _ (law : TextsDecideNothing) (tables : TablesStayAlike) (told : CallsAreT
       (bringing-alike at (Finishes call.0 at tokens) (Finishes call.0 at tokens) (finished_by (site_of d) call.0 at tokens (calls_in d v)).desk (finished_by (site_of e) call.0 at tokens (calls_in e w)).desk v w a
       s.alike.entries s.alike.opened s.one s.other desks k)
 
-  -- ---- what is done on the rooms
+  -- ---- operations on the conferences
 
   rooms_equal : directories.EqualButForAccounts (rooms_site d) (rooms_site e)
   rooms_equal = record {
@@ -230,14 +230,14 @@ module _ (law : TextsDecideNothing) (tables : TablesStayAlike) (told : CallsAreT
     among = a.among;
   }
 
-  -- they leave the same of the rooms, and the same is seen of what goes out
+  -- they leave the conferences indistinguishable, and the same is observed of their output
   abbrev pub Houses : both.Deeds → World → World → Type 0
   Houses x v w = alike.AreDoneAlike (rooms_site d) (rooms_site e) keys x (rooms_in d v) (rooms_in e w)
 
   desks_alike : (x : both.Deeds) (v w : World) → Two v w → Houses x v w → AlikeDesks S (comes_of d (both.one_deed x) v) (comes_of e (both.other_deed x) w)
   desks_alike x v w a does = (laws.seen.deeds (rooms_site d) (rooms_site e) keys x (rooms_in d v) (rooms_in e w) rooms_equal a.alike.rooms does).desk
 
-  -- the rows are taken out
+  -- the CDRs are removed
   dropped_alike : (x : both.Deeds) (n m : ℕ) (v w : World) → Two v w → Houses x v w → n ≡ m →
       alike.AlikeRooms (trusts d) (rooms.table_after (rooms_site d) (rooms.Drops n ∷ both.one_deed x ∷ v.rooms)) (rooms.table_after (rooms_site e) (rooms.Drops m ∷ both.other_deed x ∷ w.rooms))
   dropped_alike x n m v w a does same =
@@ -284,7 +284,7 @@ module _ (law : TextsDecideNothing) (tables : TablesStayAlike) (told : CallsAreT
       lodged at x one other (record v { drawn = one.tokens.drawn }) (record w { drawn = other.tokens.drawn })
       (with_drawn one.tokens.drawn other.tokens.drawn v w (ap (λ (t : Drawn). t.drawn) desks.tokens) a) does desks k
 
-  -- the rooms hear two signals
+  -- the conferences receive two signals
   abbrev seated_by : Directory → (at : ℕ) → RoomSignal → Drawn → World → World
   seated_by x at s tokens u = housed x at (rooms.Hears (record { at = at; tokens = tokens; signal = s })) u
 
@@ -295,7 +295,7 @@ module _ (law : TextsDecideNothing) (tables : TablesStayAlike) (told : CallsAreT
       subst (λ (t : Drawn). Two (seated_by d at (both.one_signal x) t v) (seated e token at (both.other_signal x) w)) (sym (tokens_same v w a))
       (housed-alike at (both.Hears at (tokens_now token w) x) v w a (record { done = heard; looks = looks }) k)
 
-  -- of what goes out the same is seen
+  -- the same is observed of the output
   pub seen-alike : (at : ℕ) (x : both.Signals) (v w : World) → Two v w → both.AreHeard S x (rooms_in d v) (rooms_in e w) →
       directories.SignalLooksAlike (rooms_site d) (rooms_site e) (both.other_signal x)
       → seen_all S (comes_of d (heard_in_rooms token at (both.one_signal x) v) v).out ≡ seen_all S (comes_of e (heard_in_rooms token at (both.other_signal x) w) w).out
@@ -303,7 +303,7 @@ module _ (law : TextsDecideNothing) (tables : TablesStayAlike) (told : CallsAreT
       subst (λ (t : Drawn). seen_all S (comes_of d (rooms.Hears (record { at = at; tokens = t; signal = both.one_signal x })) v).out ≡ seen_all S (comes_of e (heard_in_rooms token at (both.other_signal x) w) w).out)
       (sym (tokens_same v w a)) (desks_alike (both.Hears at (tokens_now token w) x) v w a (record { done = heard; looks = looks })).out
 
-  -- a seat is told a status
+  -- a participant is notified of a status
   abbrev noticed_by : Directory → (at : ℕ) → RoomNo → (seat code : ℕ) → Drawn → World → World
   noticed_by x at room seat code tokens u = housed x at (rooms.Notifies room.0 seat code tokens) u
 
@@ -315,7 +315,7 @@ module _ (law : TextsDecideNothing) (tables : TablesStayAlike) (told : CallsAreT
 
   -- ---- signals
 
-  -- two signals that are the same but for private places, each asked as it should be
+  -- two signals that are the same but for private places, each with the role that it should have
   pub record Says (at : ℕ) (x y : Signal) (r s : Role) (v w : World) : Type 0 where
     pub said : public_signal r x ≡ public_signal s y
     pub callers : CallersAlike records x y
@@ -394,9 +394,9 @@ module _ (law : TextsDecideNothing) (tables : TablesStayAlike) (told : CallsAreT
     asks_too = tt;
   }
 
-  -- ---- who hears that a request has no answer, or that a transaction ended
+  -- ---- the owner of a request receives that it has no response, or that a transaction ended
 
-  -- of the calls, of the mailboxes, or else of the rooms
+  -- the calls, the subscriptions, or else the conferences
   silenced-alike : (at : ℕ) (branch method : List ℕ) (whose : Whose) (v w : World) → K (silenced e token at branch method whose w).acts → Two v w →
       Two (silenced d token at branch method whose v) (silenced e token at branch method whose w)
   silenced-alike at branch method OfCalls v w k a = signalled-alike at (signal.Silent branch method) (signal.Silent branch method) Plain Plain v w a (silent_says at branch method v w) k
@@ -409,7 +409,7 @@ module _ (law : TextsDecideNothing) (tables : TablesStayAlike) (told : CallsAreT
   ended_of-alike at key OfBoxes v w k a = a
   ended_of-alike at key OfRooms v w k a = seated-alike at (both.Over key) v w a tt tt k
 
-  -- ---- deadlines
+  -- ---- timers
 
   abbrev offers_due : Due → List Offer
   offers_due (due.Again peer at text) = offer.To peer at text ∷ []
@@ -417,7 +417,7 @@ module _ (law : TextsDecideNothing) (tables : TablesStayAlike) (told : CallsAreT
   offers_due (due.Over key at) = []
   offers_due due.Nothing = []
 
-  -- what an untrusted peer sees of it is what it sees without those texts
+  -- what an untrusted peer observes of it is what it observes without those texts
   due_seen : (p : Peer) (x : Due) → trusts d p ≡ false → view p (offers_due (blank_due (trusts d) x)) ≡ view p (offers_due x)
   due_seen p (due.Again peer at text) strange = one_offer d p peer at (blank_if (trusts d peer) text) text strange (λ s. ap (λ (b : Bool). blank_if b text) s)
   due_seen p (due.Silent key branch method at) strange = refl
@@ -492,7 +492,7 @@ module _ (law : TextsDecideNothing) (tables : TablesStayAlike) (told : CallsAreT
   rung-alike due.Nothing (due.Over l j) v w s k a = absurd cc
   rung-alike due.Nothing due.Nothing v w s k a = a
 
-  -- the same deadline fires
+  -- the same timer fires
   abbrev fires_key : List Done → Option ℕ → List Done
   fires_key h None = h
   fires_key h (Some k) = DidFire k ∷ h
@@ -568,7 +568,7 @@ module _ (law : TextsDecideNothing) (tables : TablesStayAlike) (told : CallsAreT
   fired-alike now (OfAlarm armed others) v w k a =
       alarmed-alike armed.at armed.alarm (record (begun v) { armed = others }) (record (begun w) { armed = others }) k (with_armed others (begun v) (begun w) (begun-alike v w a))
 
-  -- which one is first is told by moment and step alone
+  -- moment and step alone determine which one is first
   abbrev comes_by : ℕ × ℕ → Armed → Bool
   comes_by next armed = nat_lt next.0 armed.at || (next.0 == armed.at && nat_le next.1 armed.step)
 

@@ -1,4 +1,4 @@
--- What a layer wants done leaves worlds alike, where untrusted peers see the same of it and the transactions read the same of the rest.
+-- The commands of a layer leave states indistinguishable, where untrusted peers observe the same of them and the transactions read the same of the rest.
 use Rattle.std.proofs.Common.{◌≡◌, ℕ, ◌+◌, ◌-◌, Bool, true, false, ◌&&◌, List, [], ◌∷◌, ◌++◌, refl, sym, ap, ◌∙◌, Option, Some, None, inl, inr, arith, subst}
 use Rattle.std.specs.Prelude.{◌==◌}
 use Rattle.std.specs.List.{list_any}
@@ -48,7 +48,7 @@ trusted_alike p q ks e =
     let same : q.0 ≡ p.0 = grind (arith, nat_tests, e) in
     ap (λ (n : ℕ). list_any (λ (k : KnownPeer). k.peer.0 == n && k.trusted) ks) same
 
--- an offer whose text is equal, unless it goes to a trusted peer
+-- an output whose text is equal, unless it goes to a trusted peer
 pub one_offer : (d : Directory) (p q : Peer) (at : ℕ) (s t : List ℕ) → trusts d p ≡ false → (trusts d q ≡ false → s ≡ t) → view p (offer.To q at s ∷ []) ≡ view p (offer.To q at t ∷ [])
 one_offer d p q at s t strange e = elim (cases_Bool (q.0 == p.0)) [
   | inl y ↦ ap (λ (x : List ℕ). view p (offer.To q at x ∷ [])) (e (trusted_alike p q d.peers.known y ∙ strange))
@@ -66,7 +66,7 @@ text_of : (b : Bool) (x y : List ℕ) → blank_if b x ≡ blank_if b y → b �
 text_of true x y e f = absurd (true_false f)
 text_of false x y e f = e
 
--- ---- what is seen, part by part
+-- ---- what is observed, classification by classification
 
 abbrev some_peer : Peer
 some_peer = record { 0 = 0 }
@@ -90,7 +90,7 @@ seen_head (Acked key x) = no_head
 seen_head (Settled key own) = no_head
 seen_head (Armed x) = no_head
 
--- the number of a reliable answer, and of those that are settled
+-- the number of a reliable response, and of those that are settled
 abbrev seen_number : Seen → Option ℕ
 seen_number (Asked p h x) = None
 seen_number (Replied key h number x) = number
@@ -131,7 +131,7 @@ abbrev rest_seen : List Seen → List Seen
 rest_seen [] = []
 rest_seen (x ∷ xs) = xs
 
--- whom the server trusts of the transactions is what these keys say, where those are live
+-- these keys are those of the transactions with trusted peers, where those are live
 abbrev pub Knows : Directory → (keys : TKey → Bool) → List Done → Type 0
 Knows d keys h = (key : ℕ) (q : Peer) → peer_of key (live h) ≡ Some q → keys (tkey key) ≡ trusts d q
 
@@ -139,7 +139,7 @@ module _ (records : List Sheet) (d e : Directory) (keys : TKey → Bool) where
   abbrev pub T : Trust
   T = trust_of (site_of d) keys
 
-  -- two worlds that are alike; what each call keeps was asked by its own peers, and the records in force are among these
+  -- two states that are indistinguishable; what each call stores was requested by its own peers, and the records in force are among these
   pub record Pair (v w : World) : Type 0 where
     pub alike : AlikeWorlds records d e v w
     pub one : AreKept records T (calls_in d v).entries
@@ -154,7 +154,7 @@ module _ (law : TextsDecideNothing) (records : List Sheet) (d e : Directory) (ke
   abbrev Two : World → World → Type 0
   Two v w = Pair records d e keys v w
 
-  -- ---- single deeds
+  -- ---- elementary operations
 
   pub offering-alike : (os ps : List Offer) (v w : World) → ((p : Peer) → trusts d p ≡ false → view p os ≡ view p ps) → Two v w → Two (offering os v) (offering ps w)
   offering-alike os ps v w s a = record {
@@ -219,7 +219,7 @@ module _ (law : TextsDecideNothing) (records : List Sheet) (d e : Directory) (ke
     among = a.among;
   }
 
-  -- ---- what is emitted, where two messages differ in what only a trusted peer is sent
+  -- ---- commands where two messages differ in what only a trusted peer is sent
 
   pub reply-alike : (at : ℕ) (key : TKey) (m n : Message Start) (v w : World) → head_of m ≡ head_of n → reliable_number m ≡ reliable_number n
       → ((q : Peer) → peer_of key.0 (live w.acts) ≡ Some q → trusts d q ≡ false → message_text m ≡ message_text n) → Two v w → Two (emit_one at (emit.Reply key m) v) (emit_one at (emit.Reply key n) w)
@@ -271,7 +271,7 @@ module _ (law : TextsDecideNothing) (records : List Sheet) (d e : Directory) (ke
     among = a.among;
   }
 
-  -- ---- emits
+  -- ---- commands
 
   emit-alike : (at : ℕ) (x y : Emit) (v w : World) → K w.acts → seen S x ≡ seen S y → Two v w → Two (emit_one at x v) (emit_one at y w)
   emit-alike at (emit.Ask p m) (emit.Ask q n) v w k e a =

@@ -1,4 +1,4 @@
--- The final of a call to its caller is offered to the peer who sent the INVITE: it is the first final in the server transaction of that, which is live until then.
+-- The final response of a call to its caller is sent to the peer that sent the INVITE: it is the first final response in the server transaction of that, which is live until then.
 use Rattle.std.proofs.Common.{◌≡◌, ◌≤◌, ◌<◌, ℕ, ◌+◌, ◌==◌, ◌&&◌, ◌||◌, not, Bool, true, false, List, [], ◌∷◌, ◌++◌, refl, sym, ap, ◌∙◌, subst, inl, inr, append_assoc, arith}
 use Rattle.std.specs.Prelude.{if◌then◌else◌, nat_lt, slice_get, Some}
 use Rattle.std.specs.List.{list_any}
@@ -33,7 +33,7 @@ use Rattle.mmtel_run_laws.proofs.Keyed.{keys}
 use Rattle.mmtel_run_laws.proofs.Replied.{HasReply, IsReply}
 use Rattle.mmtel_run_laws.proofs.Unanswered.{status_read}
 
--- ---- how many finals are shown
+-- ---- the number of final responses that are observed
 
 abbrev finals : List Sign → ℕ
 finals [] = 0
@@ -102,7 +102,7 @@ finals-result Pending = omega arith
 finals-result Answered = omega arith
 finals-result (Final cause) = finals-code (status_of cause)
 
--- ---- of one call all finals in its transaction are one
+-- ---- of one call all final responses in its transaction are one
 
 code-final : (code : ℕ) → is_provisional code ≡ false → 1 ≤ finals (final_sign code)
 code-final code final = subst (λ b. 1 ≤ finals (if b then [] else if nat_lt code 300 then Accepted ∷ [] else Refused code ∷ [])) (sym final) (go (nat_lt code 300))
@@ -150,7 +150,7 @@ module _ (key : TKey) where
     same-final (x ∷ xs) few (inr has) (inl so) = absurd (two n m x xs second first few so has)
     same-final (x ∷ xs) few (inr has) (inr so) = same-final xs (omega (arith, few, finals-append (sign_of key x) (signs_of key xs))) has so
 
--- ---- the first final in a transaction
+-- ---- the first final response in a transaction
 
 record FirstFinal (k : ℕ) (acts : List Done) : Type 0 where
   newer : List Done
@@ -206,7 +206,7 @@ some-final k m at [] older final =
     ap (λ b. b || list_any (is_final_in k) older) its
 some-final k m at (c ∷ newer) older final = ap (λ b. is_final_in k c || b) (some-final k m at newer older final) ∙ or-true (is_final_in k c)
 
--- ---- a reply that goes out was handed to its transaction
+-- ---- a response that is output was handed to its transaction
 
 handed-so : (w : World) (k : ℕ) (m : Message StartLine) (x : Emit) → IsReply k m x → GoesOut w x → (at : ℕ) × IsHanded w k m (DidReply k m at)
 handed-so w k m (emit.Ask peer message) is g = absurd is
@@ -223,7 +223,7 @@ handed-in w k m [] has g = absurd has
 handed-in w k m (x ∷ xs) (inl is) g = handed-so w k m x is g.0
 handed-in w k m (x ∷ xs) (inr has) g = handed-in w k m xs has g.1
 
--- ---- of a call
+-- ---- for a call
 
 module _ (w : World) (s : Start) (events : List Event) (emits : List Emit) (is : emits ≡ emits_after s events) (o : Opening) (targets : List Target) (result : Result)
     (shown : signs_after s events ≡ signs_of_targets o targets ++ sign_of_result result) (gone : Each (GoesOut w) emits) (said : SaidIn w w.acts) (run : IsRun w.acts)
@@ -239,7 +239,7 @@ module _ (w : World) (s : Start) (events : List Event) (emits : List Emit) (is :
       ap (λ (emits : List Emit). finals (signs_of s.arrival.key emits)) is ∙ (life-finals s events ∙ ap finals shown) in
       omega (arith, all, finals-append (signs_of_targets o targets) (sign_of_result result), finals-targets o targets, finals-result result)
 
-  -- the first one is offered
+  -- the first one is sent
   first-offered : (f : FirstFinal key_in w.acts) → IsOfferedTo w s.arrival.invite.peer (message_text f.m)
   first-offered f =
       let parted : w.acts ≡ (f.newer ++ DidReply key_in f.m f.at ∷ []) ++ f.older = f.all ∙ sym (append_assoc f.newer (DidReply key_in f.m f.at ∷ []) f.older) in
@@ -258,7 +258,7 @@ module _ (w : World) (s : Start) (events : List Event) (emits : List Emit) (is :
       let same : f.m ≡ m = same-final s.arrival.key f.m m f.final final emits one-final (own f.newer f.older f.m f.at f.all) has in
       subst (λ (m : Message StartLine). IsOfferedTo w s.arrival.invite.peer (message_text m)) same (first-offered f)
 
-  -- so it is with each reply of it
+  -- this holds for each response of it
   comes-so : (x : Emit) → ((k : ℕ) (m : Message StartLine) → IsReply k m x → (k == key_in) ≡ true → is_provisional (head_of m).status ≡ false →
       IsOfferedTo w s.arrival.invite.peer (message_text m)) → FinalComes w s x
   comes-so (emit.Ask peer message) each = tt

@@ -1,4 +1,4 @@
--- The role of a message hides no more than the call knows that hears it.
+-- The role of a message hides no more than the call that receives it determines.
 use Rattle.std.proofs.Common.{◌≡◌, ℕ, Bool, true, false, ◌&&◌, List, refl, ap, sym, ◌∙◌, Option, Some, None, subst, inl, inr, arith}
 use Rattle.std.specs.Prelude.{if◌then◌else◌, position, slice_get}
 use Rattle.std.proofs.lemmas.Bool.{cases_Bool}
@@ -53,7 +53,7 @@ said_own true own side m e = elim (cases_Bool (comes_from own m)) [
 
 -- ---- requests
 
--- one that goes to the other side while the call is offered: where reliable answers and UPDATE are off, there is none
+-- one that goes to the other side while the call is offered: where reliable responses and UPDATE are switched off, there is none
 across_fits : (reliable across restricted : Bool) (own : Peer) (side : Side) (m : Said) → (reliable ≡ false → across ≡ false) → across ≡ true
     → hides (if reliable && across then said_by restricted own side m else unshown_request) ≡ true → restricted ≡ true
 across_fits true true restricted own side m off is e = said_restricted restricted own side m e
@@ -99,7 +99,7 @@ module _ (wholes : MessagesAreWhole) (site : Site) (keys : TKey → Bool) where
     pub is_answer : (key : TKey) (role : Role) (asked : Peer) → (hides role ≡ true → comes_from asked m ≡ true) → keys key ≡ trusts site asked → IsAnswer T key asked role m
     is_answer key role asked is tie = record { whole = whole_from role asked is; known = tie }
 
-    -- where a target redirects to is for everybody
+    -- where a target redirects to is public
     redirect_shown : (restricted leg own : Bool) → (private_places (if leg then (if restricted && own then Says Callee else Plain) else Plain) m.heard).redirect ≡ false
     redirect_shown restricted false own = refl
     redirect_shown false true own = refl
@@ -132,7 +132,7 @@ module _ (wholes : MessagesAreWhole) (site : Site) (keys : TKey → Bool) where
     awaited (Lent loan) key c tie = tt
     awaited (Over cause) key c tie = tt
 
-    -- of the peers of both it comes, where it hides anything
+    -- it comes from the peers of both, where it hides anything
     pub both_own : (one other : Bool) → hides (if one && other then unshown_response else Plain) ≡ true → (one ≡ true) × (other ≡ true)
     both_own true true e = (refl, refl)
     both_own true false e = absurd (true_false (sym e))
@@ -195,7 +195,7 @@ module _ (wholes : MessagesAreWhole) (site : Site) (keys : TKey → Bool) where
               (ap (λ (o : Option ℕ). flight_at o c.flights) p ∙ g);
         }
 
-    -- what ties the client transaction, where it is known whom the server trusts of it
+    -- the client transaction is of such a peer, where it is known whether the server trusts its peer
     pub record KeyIsTied (key : TKey) (branch : List ℕ) (c : Call) : Type 0 where
       pub awaited : (i : Invitation) → is_current branch c ≡ true → current c.phase ≡ Some i → keys key ≡ trusts site i.dialogue.peer
       pub loose : (at : ℕ) (l : Loose) → position (is_of branch) c.loose ≡ Some at → slice_get c.loose at ≡ Some l → keys key ≡ trusts site l.invitation.dialogue.peer
@@ -211,7 +211,7 @@ module _ (wholes : MessagesAreWhole) (site : Site) (keys : TKey → Bool) where
           (others key branch c tie.loose tie.taken),
     )
 
-    -- by the INVITE that it answers
+    -- by the INVITE to which it belongs
     pub answer_by : (o : Option (List ℕ)) (key : TKey) (role : Role) (e : Entry) → ((branch : List ℕ) → o ≡ Some branch → role ≡ response_role_of branch m e.call) → ((branch : List ℕ) → o ≡ Some branch → KeyIsTied key branch e.call)
         → AnswersOne o T key role m e.call
     answer_by None key role e is tie = tt

@@ -1,4 +1,4 @@
--- What calls bring forth goes out.
+-- The output of calls is sent.
 use Rattle.std.proofs.Common.{◌≡◌, ℕ, zero, suc, List, [], ◌∷◌, ◌++◌, length, refl, sym, ap, ◌∙◌, subst, Option, Some, None, inl, inr, append_assoc, append-nil}
 use Rattle.std.specs.Prelude.{if◌then◌else◌, Bool, true, false}
 use Rattle.mmtel_b2bua.specs.Histories.{Deed, Drops, table_after}
@@ -29,7 +29,7 @@ use Rattle.mmtel_run_laws.specs.Sent.{GoesOut, IsHanded, IsOfferedTo}
 use Rattle.mmtel_run_laws.specs.Timed.{moment_due}
 use Rattle.mmtel_run_laws.proofs.Walking.{FiresBy, IsUnsent, IsWalked, came_at, fires_at}
 
--- ---- offers and calls on the transactions are only added
+-- ---- outputs and operations on the transactions are only added
 
 in-left : {A : Type 0} (x : A) (xs ys : List A) → IsIn x xs → IsIn x (xs ++ ys)
 in-left x [] ys h = absurd h
@@ -83,7 +83,7 @@ emitted_deeds : (at : ℕ) (xs : List Emit) (w : World) → (emitted at xs w).de
 emitted_deeds at [] w = refl
 emitted_deeds at (x ∷ xs) w = emitted_deeds at xs (emit_one at x w) ∙ emit_deeds at x w
 
--- ---- what went out has gone out, whatever is added
+-- ---- what was sent has been sent, whatever is added
 
 offered_more : (w v : World) (peer : Peer) (text : List ℕ) → Extends w v → IsOfferedTo w peer text → IsOfferedTo v peer text
 offered_more w v peer text e (at, is) = (at, subst (IsIn (offer.To peer at text)) (sym e.offered) (in-left (offer.To peer at text) w.offers e.offers is))
@@ -109,7 +109,7 @@ all_more : (w v : World) (xs : List Emit) → Extends w v → Each (GoesOut w) x
 all_more w v [] e g = tt
 all_more w v (x ∷ xs) e g = (goes_more w v x e g.0, all_more w v xs e g.1)
 
--- ---- what is emitted goes out
+-- ---- the commands are sent
 
 to_peer_is : (at : ℕ) (text : List ℕ) (peer : Peer) (o : Option Peer) → o ≡ Some peer → IsIn (offer.To peer at text) (to_peer at text o)
 to_peer_is at text peer o is = subst (λ o. IsIn (offer.To peer at text) (to_peer at text o)) (sym is) (inl refl)
@@ -143,7 +143,7 @@ emitted_go at (x ∷ xs) w = (
   emitted_go at xs (emit_one at x w),
 )
 
--- ---- what was replied is offered, where the transaction was live then
+-- ---- what was replied is sent, where the transaction was live then
 
 abbrev pub IsSaidBy : World → Done → List Done → Type 0
 IsSaidBy w (DidBegin step) older = Unit {0}
@@ -206,7 +206,7 @@ pub said_at : (w : World) (newer older : List Done) (act : Done) → SaidIn w (n
 said_at w [] older act s = s.0
 said_at w (one ∷ newer) older act s = said_at w newer older act s.1
 
--- ---- what the deeds bring forth
+-- ---- the output of the operations
 
 module _ (d : Directory) where
   abbrev AllGone : World → List Deed → Type 0
@@ -222,7 +222,7 @@ module _ (d : Directory) where
     gone : AllGone w w.deeds → AllGone v v.deeds
     said : SaidOn w v
 
-  -- nothing is done on calls
+  -- no operation on calls
   alike : (at : ℕ) (w v : World) → v.deeds ≡ w.deeds → Extends w v → SaidOn w v → SendsOn at w v
   alike at w v deeds e said = record { extends = e; gone = λ g. subst (AllGone v) (sym deeds) (gone_more w v w.deeds e g); said = said }
 

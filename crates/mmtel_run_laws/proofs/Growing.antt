@@ -1,4 +1,4 @@
--- What is true of all that was done on the transactions was true of it before: deeds only add to that list.
+-- What holds for all operations on the transactions held for those before: operations only add to that list.
 use Rattle.std.proofs.Common.{ℕ, zero, suc, List, [], ◌∷◌, ◌++◌, length, Bool, true, false, Option, Some, None, Result, Ok, Err}
 use Rattle.mmtel_answers.specs.Said.{Said, status_of}
 use Rattle.mmtel_b2bua.specs.Histories.{Deed, Drops, Finishes, Hears, Releases, Restores, finished_by, hears_after}
@@ -47,8 +47,8 @@ use Rattle.mmtel_run.proofs.BoxSteps as mailing
 use Rattle.mmtel_run.proofs.BoxSteps.{AreAnswers, AreSteps, tells_in}
 use Rattle.mmtel_run.specs.World.{World, boxes_in, serving, acknowledging_by, adopting, adoption_of, alarmed, answering, begun, bringing, calls_in, came, cancelling, cancelling_call, comes_of, drawing, emit_one, emitted, ended_of, entering_room, fired, finishing, handing, heard_in_rooms, heard_now, hearing, holder_in, housed, joining_of, joining_room, lending, lodging, met, next_tag, noticed, opening_of, opening_room, registering, repeating, replaced, replaced_by, replaced_with, replacing, replying, responding_to, room_joined, room_opened, rooms_in, rung, seated, signalled, silenced, taken_out, taking, told, tokens_now}
 
--- P is of all that was done, and of all that was done before
--- whatever is asked, and whatever refuses it
+-- P holds for all operations, and for all before
+-- whatever is requested, and whatever refuses it
 abbrev pub Anyhow : (within : Bool) → Option ℕ → Type 0
 Anyhow within o = Unit {0}
 
@@ -79,7 +79,7 @@ module _ (P : List Done → Type 0) (older : (x : Done) (h : List Done) → P (x
   replying_before : (d : Directory) (token : List ℕ) (at : ℕ) (key : TKey) (s : Said) (answer : Answer) (w : World) → AllTrue (replying d token at key s answer w) → AllTrue w
   replying_before d token at key s answer w e = older (DidReply key.0 (response_to d.sip (tag_for token w.drawn s.heard.to_tag) s answer) at) w.acts e
 
-  -- from a later world to an earlier one
+  -- from a later state to an earlier one
   abbrev Back : World → World → Type 0
   Back w v = AllTrue v → AllTrue w
 
@@ -137,7 +137,7 @@ module _ (P : List Done → Type 0) (older : (x : Done) (h : List Done) → P (x
       others = λ w is. replying_before d token at key s (other_answer d s.heard) w;
     }
 
-    -- ---- deadlines
+    -- ---- timers
 
     silenced_before : (at : ℕ) (branch method : List ℕ) (whose : Whose) (w : World) → AllTrue (silenced d token at branch method whose w) → AllTrue w
     silenced_before at branch method OfCalls w e = signalled_before at (signal.Silent branch method) w e
@@ -206,7 +206,7 @@ module _ (P : List Done → Type 0) (older : (x : Done) (h : List Done) → P (x
       replacing_before peer room seat (Some replaces) w e = noticed_before at room seat 100 w (replaced_before peer room seat replaces (noticed d token at room seat 100 w) e)
 
     module _ (at : ℕ) (s : Said) where
-      -- ---- rooms
+      -- ---- conferences
 
       opened_before : (key : TKey) (tag : List ℕ) (is_full : Bool) (w : World) → AllTrue (room_opened d at key s tag is_full w) → AllTrue w
       opened_before key tag true w e = older (DidReply key.0 (response_to d.sip tag s (plainly 503)) at) w.acts e

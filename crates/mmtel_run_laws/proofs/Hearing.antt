@@ -1,6 +1,6 @@
--- What is done on calls and rooms in one event of a run: what calls hear they hear with the records and registrations that were in force before it, and each request with a server transaction
--- of its own; a leg that is put back is of the side that is away; and no seat of a room is left, and no room closed, without a signal. What is done on mailboxes is none of this.
--- The words of a run are walked once. A world stands so still where nothing is done on calls and rooms, and after a deed on calls, and after one on rooms.
+-- The operations on calls and conferences in one event of a run: calls receive each signal with the records and registrations that were in force before it, and each request with a server transaction
+-- of its own; a leg that is put back is of the side that is detached; and no participant leaves, and no conference closes, without a signal. Operations on mailboxes are none of these.
+-- The definitions of a run are traversed once. A state is unchanged in this sense where nothing is done on calls and conferences, and after an operation on calls, and after one on conferences.
 use Rattle.std.proofs.Common.{◌≡◌, ℕ, zero, suc, ◌+◌, List, [], ◌∷◌, ◌++◌, length, refl, sym, ap, ◌∙◌, subst, ◌≤◌, arith, le_refl, ◌==◌, inl, inr, Bool, true, false, Option, Some, None, IfSome, Result, Ok, Err}
 use Rattle.std.specs.Prelude.{if◌then◌else◌, is_some, nat_le, option_map, slice_get}
 use Rattle.std.specs.List.{find}
@@ -72,7 +72,7 @@ use Rattle.mmtel_run_laws.proofs.Awaiting.{IsWaiting}
 use Rattle.mmtel_run_laws.proofs.Keyed.{HasKey, HasNoKey, Keyed, all_other, ended_keyed, dropped_keyed, fresh_keyed, keys, keys_fresh, keys_grow, more_keyed, quiet_keyed, released_keyed, restored_keyed}
 use Rattle.mmtel_run_laws.proofs.Replied.{AllAnswered, HasReply, IsAnswered, IsElsewhere, IsFrom, MayReply, RepliesSo, acts_later, key_from, no_from, replies_elsewhere, replies_more, replies_so}
 
--- ---- a deed that was heard so, where these were done before
+-- ---- an operation that was received so, where these were done before
 
 abbrev pub Sees : InForce → (now : ℕ) → Deed → Type 0
 Sees view now (Hears x) = (x.view ≡ view) × (x.at ≤ now)
@@ -81,7 +81,7 @@ Sees view now (Restores number away) = Unit {0}
 Sees view now (Finishes number at tokens) = Unit {0}
 Sees view now (Drops count) = Unit {0}
 
--- deeds of which each leg that is taken out of a call is put back by the next deed, and is of the side that is away, or that call ends by the next deed; where a leg of the call of a number is `away`, it was taken out by the last of them
+-- operations in which each leg that is taken out of a call is put back by the next one, and is of the detached side, or the call ends by the next one; where a leg of a call is `away`, the last of them took it out
 abbrev pub IsWhole : Site → (away : Option ℕ) → List Deed → Type 0
 IsWhole site None [] = Unit {0}
 IsWhole site None (Hears x ∷ older) = IsWhole site None older
@@ -97,7 +97,7 @@ IsWhole site (Some away) (Restores number leg ∷ older) = ⊥
 IsWhole site (Some away) (Finishes number at tokens ∷ older) = ⊥
 IsWhole site (Some away) (Drops count ∷ older) = ⊥
 
--- what is done on rooms in a run
+-- the operations on conferences in a run
 abbrev pub IsOfRun : rooms.Deed → Type 0
 IsOfRun (rooms.Opens coming) = Unit {0}
 IsOfRun (rooms.Joins room coming) = Unit {0}
@@ -114,7 +114,7 @@ get-next (y ∷ xs) x = get-next xs x
 
 -- ---- the transactions of a run, and by which of them its calls were opened
 
--- more calls were made of the transactions, and what was opened stays
+-- more operations were done on the transactions, and what was opened stays
 -- where these were done on the calls, what was replied is such as may be
 record Grows (site : Site) (deeds : List Deed) (before after : List Done) : Type 0 where
   le : keys before ≤ keys after
@@ -138,7 +138,7 @@ grows {site} {deeds} c h run so = record {
   answered = λ a. (so, a);
 }
 
--- an INVITE that opens a call opened this transaction, which waits for its final
+-- an INVITE that opens a call opened this transaction, which awaits its final response
 abbrev pub OpensAt : List Done → ℕ → Peer → Type 0
 OpensAt h n p = (e : Entry) × (slice_get (opened h) n ≡ Some e) × IsWaiting p e
 
@@ -214,13 +214,13 @@ pub record Adds (d : Directory) (now : ℕ) (w0 : World) (away : Option ℕ) (w 
   pub rooms : Each IsOfRun w.rooms
   pub awaited : AreAwaited d w
 
--- and the records and registrations stand as they stood
+-- and the records and registrations are unchanged
 record Still (d : Directory) (now : ℕ) (w0 : World) (away : Option ℕ) (w : World) : Type 0 where
   adds : Adds d now w0 away w
   texts : w.texts ≡ w0.texts
   registrations : w.registrations ≡ w0.registrations
 
--- ---- deadlines that fire at a moment are not later
+-- ---- timers that fire at a moment are not later
 
 abbrev NextBy : ℕ → Option Next → Type 0
 NextBy now o = IfSome o (λ n. n.at ≤ now)
@@ -246,7 +246,7 @@ next-by : (now : ℕ) (es : List Entry) → NextBy now (next_due now es)
 next-by now [] = tt
 next-by now (e ∷ es) = sooner-by now (due_one now e (deadline e)) (next_due now es) (one-by now e (deadline e)) (next-by now es)
 
--- what one of a message says
+-- the moment of one of a transaction
 abbrev DueBy : ℕ → Due → Type 0
 DueBy now (due.Again peer at text) = Unit {0}
 DueBy now (due.Silent key branch method at) = at ≤ now
@@ -263,7 +263,7 @@ says-by now (Some n) h = go (is_some (resend_at n.entry)) (ends n.entry.plan)
     go false true = h
     go false false = h
 
--- one of a call or of a seat
+-- one of a call or of a participant
 abbrev ChosenBy : ℕ → Option Chosen → Type 0
 ChosenBy now o = IfSome o (λ c. c.first.at ≤ now)
 
@@ -304,7 +304,7 @@ due-by now w = first-by now (next_due now (live w.acts)) (first_armed now w.arme
 
 -- ---- one event
 
--- so many transactions are still of a world in which more calls are made of them
+-- so many transactions are still those of a state in which more operations are done on them
 keyed-same : (d : Directory) (w v : World) → v.deeds ≡ w.deeds → keys w.acts ≤ keys v.acts → IsKeyed d w → IsKeyed d v
 keyed-same d w v deeds le k = subst (Keyed (site_of d) (keys v.acts)) (sym deeds) (more_keyed (site_of d) (keys w.acts) (keys v.acts) w.deeds le k)
 
@@ -312,16 +312,16 @@ module _ (d : Directory) (token : List ℕ) (back : LegsGoBack) (own_law : Rooms
   abbrev StillAt : (away : Option ℕ) → World → Type 0
   StillAt away w = Still d now w0 away w
 
-  -- no leg is away
+  -- no leg is detached
   abbrev StillSo : World → Type 0
   StillSo w = Still d now w0 None w
 
   abbrev AddsSo : World → Type 0
   AddsSo w = Adds d now w0 None w
 
-  -- ---- nothing is done on calls and rooms
+  -- ---- nothing is done on calls and conferences
 
-  -- whatever becomes of records and registrations
+  -- whatever happens to records and registrations
   alone : {away : Option ℕ} (w v : World) → v.deeds ≡ w.deeds → v.rooms ≡ w.rooms → Grows (site_of d) w.deeds w.acts v.acts → Adds d now w0 away w → Adds d now w0 away v
   alone {away} w v deeds seats more t = record {
     added = t.added;
@@ -384,7 +384,7 @@ module _ (d : Directory) (token : List ℕ) (back : LegsGoBack) (own_law : Rooms
   emitted_still at (x ∷ xs) w so t =
       emitted_still at xs (emit_one at x w) (sent_later w (emit_one at x w) xs (emit_deeds at x w) (emit_keys at x w) so.1) (emit_still at x w so.0 t)
 
-  -- ---- a deed on calls
+  -- ---- an operation on calls
 
   -- what was replied before it is such as may be after it
   abbrev AnsweredBy : Deed → World → Type 0
@@ -424,14 +424,14 @@ module _ (d : Directory) (token : List ℕ) (back : LegsGoBack) (own_law : Rooms
       emitted_still at desk.out (record w { deeds = Drops (length desk.rows) ∷ deed ∷ w.deeds; drawn = desk.tokens.drawn; waiting = w.waiting ++ desk.rows }) own
       (quiet done _ refl refl refl refl (grows_refl w.acts) still)
 
-  -- they hear what is no request
+  -- they receive a signal that is no request
   signalled_still : (at : ℕ) (x : Signal) (w : World) → at ≤ now → HasNoKey x → StillSo w → StillSo (signalled d token at x w)
   signalled_still at x w le none t =
       bringing_still at (Hears (heard_now token at x w)) (hears_after (site_of d) w.deeds (heard_now token at x w)).desk w
       ((λ i. in_force (t.texts i) (t.registrations i)), le) (quiet_keyed (site_of d) (keys w.acts) w.deeds (heard_now token at x w) none t.adds.keyed) (no-opening w.acts x none)
       (answered_by (Hears (heard_now token at x w)) w (no_from (keys w.acts) x none) t) t.adds.whole refl t
 
-  -- the leg of a call is away, and it ends
+  -- the leg of a call is detached, and it ends
   finishing_still : (at : ℕ) (call : CallNo) (w : World) → StillAt (Some call.0) w → StillSo (finishing d token at call w)
   finishing_still at call w t =
       bringing_still at (Finishes call.0 at (tokens_now token w)) (finished_by (site_of d) call.0 at (tokens_now token w) (calls_in d w)).desk w tt
@@ -446,7 +446,7 @@ module _ (d : Directory) (token : List ℕ) (back : LegsGoBack) (own_law : Rooms
   restoring_still number leg w fits t =
       lending_still (Restores number leg) w tt (restored_keyed (site_of d) (keys w.acts) number leg w.deeds t.adds.keyed) tt (answered_by (Restores number leg) w tt t) (fits, t.adds.whole) t
 
-  -- ---- a deed on rooms
+  -- ---- an operation on conferences
 
   lodging_still : {away : Option ℕ} (at : ℕ) (deed : rooms.Deed) (desk : Desk) (w : World) → IsOfRun deed → Each (MaySend w) desk.out → StillAt away w → StillAt away (lodging at deed desk w)
   lodging_still at deed desk w of_run own t =
@@ -464,7 +464,7 @@ module _ (d : Directory) (token : List ℕ) (back : LegsGoBack) (own_law : Rooms
         registrations = t.registrations;
       })
 
-  -- rooms reply in the transaction of the request that is heard in the deed
+  -- conferences reply in the transaction of the request that is received in the operation
   abbrev IsAway : World → ℕ → Type 0
   IsAway w k = IsElsewhere (keys w.acts) k w.deeds
 
@@ -483,7 +483,7 @@ module _ (d : Directory) (token : List ℕ) (back : LegsGoBack) (own_law : Rooms
       let v : World = record w { drawn = (comes_of d deed w).tokens.drawn } in
       lodging_still at deed (comes_of d deed w) v of_run own (quiet w v refl refl refl refl (grows_refl w.acts) t)
 
-  -- they hear what is no request
+  -- they receive a signal that is no request
   seated_still : (at : ℕ) (x : RoomSignal) (w : World) → SignalIsOf (λ k. false) x → StillSo w → StillSo (seated d token at x w)
   seated_still at x w none t = housed_still at (heard_in_rooms token at x w) w tt (comes_own (λ k. false) (heard_in_rooms token at x w) w none (none_own w)) t
 
@@ -491,7 +491,7 @@ module _ (d : Directory) (token : List ℕ) (back : LegsGoBack) (own_law : Rooms
   noticed_still at room seat code w t =
       let deed : rooms.Deed = rooms.Notifies room.0 seat code (tokens_now token w) in housed_still at deed w tt (comes_own (λ k. false) deed w tt (none_own w)) t
 
-  -- ---- mailboxes: whatever holds on as calls and rooms, records and registrations stand, and more calls are made of the transactions, message waiting leaves
+  -- ---- mailboxes: message waiting preserves whatever is preserved while calls and conferences, records and registrations are unchanged, and more operations are done on the transactions
 
   module _ (P : World → Type 0)
       (more : (w v : World) → v.deeds ≡ w.deeds → v.rooms ≡ w.rooms → v.texts ≡ w.texts → v.registrations ≡ w.registrations → Grows (site_of d) w.deeds w.acts v.acts → P w → P v) where
@@ -525,7 +525,7 @@ module _ (d : Directory) (token : List ℕ) (back : LegsGoBack) (own_law : Rooms
   putting_adds : (put : Option (Account × Counts)) (w : World) → AddsSo w → AddsSo (putting d token now put w)
   putting_adds = steps.puts d token now (λ w v. AddsSo w → AddsSo v) (steps_left AddsSo adds_more now) (λ account counts w. noted_left AddsSo adds_more (boxes.Puts account counts) w)
 
-  -- ---- deadlines
+  -- ---- timers
 
   silenced_still : (at : ℕ) (branch method : List ℕ) (whose : Whose) (w : World) → at ≤ now → StillSo w → StillSo (silenced d token at branch method whose w)
   silenced_still at branch method OfCalls w le t = signalled_still at (signal.Silent branch method) w le tt t
@@ -574,7 +574,7 @@ module _ (d : Directory) (token : List ℕ) (back : LegsGoBack) (own_law : Rooms
   -- ---- messages
 
   module _ (s : Said) where
-    -- the server's own answer
+    -- the server's own response
     replying_adds : (key : TKey) (answer : Answer) (w : World) → IsAway w key.0 → AddsSo w → AddsSo (replying d token now key s answer w)
     replying_adds key answer w away t =
         alone w _ refl refl (grows (DidReply key.0 (response_to d.sip (tag_for token w.drawn s.heard.to_tag) s answer) now) w.acts (λ r. r) (inr away)) t
@@ -664,7 +664,7 @@ module _ (d : Directory) (token : List ℕ) (back : LegsGoBack) (own_law : Rooms
         replacing_still s.peer room seat (replacement_in s.heard (comes_of d deed w).out) (seated d token now (of_room.Request room seat key s) w)
         (housed_still now deed w tt (comes_own (λ k. k == key.0) deed w (eq-eqb key.0 key.0 refl) (away_own key w away)) t)
 
-    -- a request of a fresh transaction, which is the one after so many
+    -- a request of a new transaction, which is the one after so many
     module _ (n : ℕ) (w : World) (le : n + 1 ≤ keys w.acts) (k : Keyed (site_of d) n w.deeds) (first : OpensAt w.acts n s.peer)
         (answered : (deed : Deed) → IsFrom n deed → AllAnswered (site_of d) (deed ∷ w.deeds) w.acts) (t : StillSo w) where
       -- no call was opened by it
@@ -720,7 +720,7 @@ module _ (d : Directory) (token : List ℕ) (back : LegsGoBack) (own_law : Rooms
     responding_still key OfBoxes w t = box_answered_still (branch_in s.heard.vias) (status_of s.heard.start) w t
     responding_still key OfRooms w t = seated_still now (of_room.Answer key s) w tt t
 
-    -- the message was taken for this
+    -- the message was classified as this
     abbrev heard_as : Part → World → World
     heard_as p w = record w { acts = DidHear s.peer (message_in s.heard) now p ∷ w.acts }
 
@@ -749,7 +749,7 @@ module _ (d : Directory) (token : List ℕ) (back : LegsGoBack) (own_law : Rooms
     said_adds part.AckOf2xx w taken t = (acknowledging_still (holder_in d s.heard (heard_as part.AckOf2xx w)) (heard_as part.AckOf2xx w) (heard_still part.AckOf2xx w taken t)).adds
     said_adds part.Stray w taken t = (heard_still part.Stray w taken t).adds
 
-    -- the transactions as they are once it is heard
+    -- the transactions once it is received
     hearing_is : (o : Option transaction.Heard) (w : World) → hearing now s o w ≡ hearing_as (part_of (head_of (message_in s.heard)) (live w.acts)) o w
     hearing_is None w = refl
     hearing_is (Some said) w = refl
@@ -779,7 +779,7 @@ module _ (d : Directory) (token : List ℕ) (back : LegsGoBack) (own_law : Rooms
       let left : World = met d token now x begins in
       handing_adds took left.waiting left (met_adds x begins (quiet (begun w) begins refl refl refl refl (grows_refl (begun w).acts) (begun_still w t)))
 
--- one event, with the deadlines before it
+-- one event, with the timers before it
 pub event_adds : (d : Directory) (token : List ℕ) → LegsGoBack → RoomsReplyInTheirOwn → (fuel : ℕ) (x : Notice) (w : World) → IsKeyed d w → IsWhole (site_of d) None w.deeds →
     Each IsOfRun w.rooms → AreAwaited d w →
     Adds d (clock_at w x.at) w None (one_more d token fuel x w)

@@ -63,9 +63,9 @@ keeps : {L : Type 0} (P : L → Type 0) (o : Option L) (f : L → Bool) → IfSo
 keeps P None f h = tt
 keeps P (Some l) f h = if_some P (f l) l (λ e. h)
 
--- ---- lines: none but one of a home domain says one
+-- ---- lines: none but one of a home domain sets one
 
--- by its first word, where this stands behind it
+-- by its first word, where this comes after it
 kind_clean : (word s : List ℕ) → IfSome (kind_of word) (λ k. IfSome (line_of_kind k s) (λ l. AreClean (home_in l)))
 kind_clean word s =
     either _ (bytes_eq word (codes "sip")) _ _ (bind_any _ (addr_of s) _ (λ addr. refl))

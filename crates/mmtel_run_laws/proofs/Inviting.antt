@@ -1,4 +1,4 @@
--- Whatever is done on rooms, each INVITE of a seat was sent to its peer, and each that goes out has a number of its own.
+-- Whatever is done on conferences, each INVITE of a participant was sent to its peer, and each that is sent has a number of its own.
 use Rattle.std.proofs.Common.{◌≡◌, ◌<◌, ◌≤◌, ◌^◌, ◌+◌, ◌&&◌, Bool, true, false, not, ℕ, zero, suc, List, [], ◌∷◌, ◌++◌, take, drop, Option, Some, None, refl, subst, sym, inl, inr, arith, nat_lt, Result, Ok, Err, codes}
 use Rattle.std.specs.Prelude.{if◌then◌else◌, option_to_list, position, remove, slice_get, slice_set}
 use Rattle.std.specs.Str.{bytes_eq}
@@ -122,9 +122,9 @@ each_without P None items e = e
 each_without P (Some at) items e = each_without_at P at items e
 
 module _ (was : List ℕ → Peer → Type 0) (site : Site) (text : List ℕ) (low : ℕ) where
-  -- ---- what goes out
+  -- ---- the output
 
-  -- what is asked is among what was sent, if it is an INVITE
+  -- the request is among those that were sent, if it is an INVITE
   abbrev pub AskWasSent : Emit → Type 0
   AskWasSent (emit.Ask peer m) = (branch : List ℕ) → IsInvite site.sip branch m → was branch peer
   AskWasSent (emit.Reply key m) = Unit {0}
@@ -141,7 +141,7 @@ module _ (was : List ℕ → Peer → Type 0) (site : Site) (text : List ℕ) (l
     pub same : desk.tokens.token ≡ text
     pub out_in : desk.tokens.drawn < 2 ^ 60 → AreNumbered site.sip text low desk.tokens.drawn desk.out
 
-  -- from a desk to a later one
+  -- from an output to a later one
   pub record Goes (desk later : Desk) : Type 0 where
     pub asked : AllWereSent later.out → AllWereSent desk.out
     pub counted : Counted desk → Counted later
@@ -206,7 +206,7 @@ module _ (was : List ℕ → Peer → Type 0) (site : Site) (text : List ℕ) (l
   if_goes true desk one two e f = e
   if_goes false desk one two e f = f
 
-  -- ---- what is asked and has no answer that is waited for
+  -- ---- requests whose response is not awaited
 
   no_bye : (d : Dialogue) (number : ℕ) (given : Given) → IsNotAwaited (numbered d number (codes "BYE") given)
   no_bye d number given None = refl
@@ -334,7 +334,7 @@ module _ (was : List ℕ → Peer → Type 0) (site : Site) (text : List ℕ) (l
   told_by_moves P goes_on line None s = same P s
   told_by_moves P goes_on line (Some number) s = told_to_moves P goes_on line number s
 
-  -- ---- a seat is left
+  -- ---- a participant leaves
 
   filed_goes : (now : ℕ) (meter : Option Noted) (desk : Desk) → Goes desk (seats.filed_by now meter desk)
   filed_goes now None desk = stays desk
@@ -359,7 +359,7 @@ module _ (was : List ℕ → Peer → Type 0) (site : Site) (text : List ℕ) (l
   bye_sent (Came leg) d invite same_peer is = subst (λ (p : Peer). InviteWasSent was p invite) (sym same_peer) is
   bye_sent (Brought leg) d invite same_peer is = subst (λ (p : Peer). InviteWasSent was p invite) (sym same_peer) is
 
-  -- what is brought forth by one that has its BYE, or none
+  -- the output for one that gets its BYE, or none
   record Departs (seat : Seat) (e later : Effects) : Type 0 where
     pub desk_in : Goes e.desk later.desk
     pub loose_in : SeatIs seat → AllLoose e.loose → AllLoose later.loose
@@ -395,7 +395,7 @@ module _ (was : List ℕ → Peer → Type 0) (site : Site) (text : List ℕ) (l
       if_moves P (is_creator number) s (seats.closed site now s.room.seats s) s
       (record { desk_in = m.desk_in; room_in = λ all p room. m.room_in all room room; loose_in = λ all p room loose. m.loose_in all room room loose }) (same P s)
 
-  -- ---- who comes, and who is invited
+  -- ---- who joins, and who is invited
 
   with_new_in : (P : Type 0) (new : Seat) (s later : Step) → later.room ≡ joining.with_new new s.room → later.effects.loose ≡ s.effects.loose →
       Goes s.effects.desk later.effects.desk → (AllWereSent later.effects.desk.out → SeatIs new) → Moves P s later
@@ -533,7 +533,7 @@ module _ (was : List ℕ → Peer → Type 0) (site : Site) (text : List ℕ) (l
   on_ack_moves m place seat s =
       if_moves (SeatIs seat) (requests.acknowledges m seat.awaited) s _ s (put_moves seat (record seat { awaited = None }) place s (λ p. p)) (same (SeatIs seat) s)
 
-  -- ---- what comes of an INVITE
+  -- ---- the outcomes of an INVITE
 
   noted_sent : (key : TKey) (peer : Peer) (invite : Option Invite) → InviteWasSent was peer invite → InviteWasSent was peer (answers.noted key invite)
   noted_sent key peer None is = tt
@@ -622,7 +622,7 @@ module _ (was : List ℕ → Peer → Type 0) (site : Site) (text : List ℕ) (l
   unfolding answers.on_silence
   on_silence_moves now place seat s = if_moves (SeatIs seat) (requests.is_waiting seat.invite) s _ s (ended_unasked_moves now (own_status 408) place seat s) (same (SeatIs seat) s)
 
-  -- ---- deadlines
+  -- ---- timers
 
   cancelled_in_goes : (invite : Option Invite) (desk : Desk) → Goes desk (answers.cancelled_in site.sip invite desk)
   cancelled_in_goes None desk = stays desk
@@ -657,7 +657,7 @@ module _ (was : List ℕ → Peer → Type 0) (site : Site) (text : List ℕ) (l
   on_due_moves now (due.Cap number) place seat s = if_moves (SeatIs seat) (not (is_seated seat) && answers.waits number seat.invite) s _ s (too_long_moves now place seat s) (same (SeatIs seat) s)
   on_due_moves now (due.NoAck number) place seat s = if_moves (SeatIs seat) (answers.is_awaited number seat.awaited) s _ s (unacknowledged_moves now place seat s) (same (SeatIs seat) s)
 
-  -- ---- the seats of a table
+  -- ---- the participants of a table
 
   hears_moves : (now : ℕ) (heard : SeatSignal) → RowMoves (tables.hears site now heard)
   unfolding tables.hears
@@ -675,7 +675,7 @@ module _ (was : List ℕ → Peer → Type 0) (site : Site) (text : List ℕ) (l
   abbrev LiveIs : List Room → Type 0
   LiveIs live = Each RoomIs live
 
-  -- rooms that move, where nothing was left before
+  -- conferences that change, where nothing was abandoned before
   pub record Steps (live : List Room) (e : Effects) (later : List Room) (f : Effects) : Type 0 where
     pub desk_in : Goes e.desk f.desk
     pub live_in : AllWereSent f.desk.out → LiveIs live → LiveIs later
@@ -731,7 +731,7 @@ module _ (was : List ℕ → Peer → Type 0) (site : Site) (text : List ℕ) (l
   through_in row good (Ok place) live e = stays_at row good place (slice_get live place) live e refl
   through_in row good (Err fault) live e = unmoved live e
 
-  -- ---- INVITEs that were left
+  -- ---- INVITEs that were abandoned
 
   pub record MovesTable (live : List Room) (loose : List Loose) (e : Effects) (later : Moved) : Type 0 where
     pub desk_in : Goes e.desk later.effects.desk
@@ -742,7 +742,7 @@ module _ (was : List ℕ → Peer → Type 0) (site : Site) (text : List ℕ) (l
   beside : (live : List Room) (loose : List Loose) (e : Effects) (s : Stepped) → Steps live e s.live s.effects → MovesTable live loose e (tables.beside loose s)
   beside live loose e s m = record { desk_in = m.desk_in; live_in = m.live_in; loose_in = λ is. is; new_in = m.loose_in }
 
-  -- what is left of one
+  -- what remains of one
   record Rests (l : Loose) (desk : Desk) (rest : Rest) : Type 0 where
     pub desk_in : Goes desk rest.desk
     pub left_in : LooseWasSent was l → AllLoose (option_to_list rest.left)
@@ -861,7 +861,7 @@ module _ (was : List ℕ → Peer → Type 0) (site : Site) (text : List ℕ) (l
   unfolding tables.closed
   closed_sent room live each = closed_at_sent (tables.place_of room live) live each
 
-  -- ---- deeds
+  -- ---- operations
 
   pub record Does (deed : Deed) (table : Table) : Type 0 where
     pub desk_in : Counted (fresh (tokens_of deed)) → Counted (histories.effects_of site deed table).desk
@@ -941,7 +941,7 @@ module _ (one two : List ℕ → Peer → Type 0) (more : (branch : List ℕ) (p
   pub table_more : (table : Table) → TableWasSent one table → TableWasSent two table
   table_more table is = record { live_in = live_more table.live is.live_in; loose_in = loose_more table.loose is.loose_in }
 
--- ---- the law
+-- ---- the theorem
 
 sent_before : (sip : Addr) (asks others : Asks) (branch : List ℕ) (peer : Peer) → WasSent sip asks branch peer → WasSent sip (asks ++ others) branch peer
 sent_before sip [] others branch peer is = absurd is

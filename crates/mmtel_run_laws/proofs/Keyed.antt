@@ -1,4 +1,4 @@
--- Calls are opened and asked by requests that each have a server transaction of their own, of a greater number than those before, so fewer are opened than there are transactions.
+-- Calls are opened and receive requests by server transactions of their own, of a greater number than those before, so fewer are opened than there are transactions.
 use Rattle.std.proofs.Common.{◌≡◌, ℕ, ◌+◌, ◌≤◌, ◌<◌, List, [], ◌∷◌, length, refl, sym, subst, arith, length-append, le_trans}
 use Rattle.std.proofs.lemmas.Bool.{ne_eqb}
 use Rattle.mmtel_b2bua.specs.Histories.{Deed, Drops, Finishes, Heard, Hears, Releases, Restores, table_after}
@@ -24,7 +24,7 @@ use Rattle.mmtel_types.specs.declared.sides.Side.{Side}
 abbrev pub keys : List Done → ℕ
 keys h = length (opened h)
 
--- of one call one at most
+-- at most one by one operation
 one-heard : (step key : ℕ) (p : Peer) (m : Message Start) (now : ℕ) (taken : Part) → length (heard_opens step key p m now taken) ≤ 1
 one-heard step key p m now part.Fresh = omega arith
 one-heard step key p m now part.Full = omega arith
@@ -52,11 +52,11 @@ keys_few [] = omega arith
 keys_few (x ∷ h) =
     omega (arith, keys_few h, length-append (opened h) (opens (step_of h) (offers h) (length (opened h)) x), one-more (step_of h) (offers h) (length (opened h)) x)
 
--- a request that is fresh opens one
+-- a request that is new opens one
 pub keys_fresh : (p : Peer) (m : Message Start) (now : ℕ) (h : List Done) → keys (DidHear p m now part.Fresh ∷ h) ≡ keys h + 1
 keys_fresh p m now h = length-append (opened h) (opens (step_of h) (offers h) (length (opened h)) (DidHear p m now part.Fresh))
 
--- ---- deeds of which each opens or asks by a server transaction of its own, of so many
+-- ---- operations of which each opens or requests by a server transaction of its own, of so many
 
 abbrev pub OpensBelow : ℕ → Signal → Type 0
 OpensBelow n (signal.Arrived key invite served registration identities) = key.0 < n
@@ -152,7 +152,7 @@ pub all_other : (n : ℕ) (key : TKey) (deeds : List Deed) → key.0 ≡ n → E
 all_other n key [] is h = tt
 all_other n key (deed ∷ deeds) is h = (deed-other n key deed is h.0, all_other n key deeds is h.1)
 
--- ---- one more deed
+-- ---- one more operation
 
 -- a signal of a request has this transaction
 abbrev pub HasKey : ℕ → Signal → Type 0
@@ -176,7 +176,7 @@ HasNoKey (signal.Silent branch method) = Unit {0}
 HasNoKey (signal.Due call what) = Unit {0}
 HasNoKey (signal.Over key) = Unit {0}
 
--- one more is opened at most
+-- at most one more is opened
 next-opened : (s : Signal) (n : ℕ) → opened_after s n ≤ n + 1
 next-opened (signal.Arrived key invite served registration identities) n = omega arith
 next-opened (signal.Request call side key request) n = omega arith
@@ -257,7 +257,7 @@ no-own (signal.Silent branch method) deeds h = tt
 no-own (signal.Due call what) deeds h = tt
 no-own (signal.Over key) deeds h = tt
 
--- a request of a fresh transaction is heard
+-- a request of a new transaction is received
 pub fresh_keyed : (site : Site) (n : ℕ) (deeds : List Deed) (x : Heard) → HasKey n x.signal → Keyed site n deeds → Keyed site (n + 1) (Hears x ∷ deeds)
 fresh_keyed site n deeds x h k = record {
   opened = omega (arith, next-opened x.signal (table_after site deeds).opened, k.opened);
@@ -266,7 +266,7 @@ fresh_keyed site n deeds x h k = record {
   own = (key-own n x.signal deeds h k.below, k.own);
 }
 
--- what is no request is heard
+-- a signal that is no request is received
 pub quiet_keyed : (site : Site) (n : ℕ) (deeds : List Deed) (x : Heard) → HasNoKey x.signal → Keyed site n deeds → Keyed site n (Hears x ∷ deeds)
 quiet_keyed site n deeds x h k = record {
   opened = omega (arith, same-opened x.signal (table_after site deeds).opened h, k.opened);
@@ -275,7 +275,7 @@ quiet_keyed site n deeds x h k = record {
   own = (no-own x.signal deeds h, k.own);
 }
 
--- rows are handed over
+-- CDRs are handed over
 pub dropped_keyed : (site : Site) (n count : ℕ) (deeds : List Deed) → Keyed site n deeds → Keyed site n (Drops count ∷ deeds)
 dropped_keyed site n count deeds k = record { opened = k.opened; below = (tt, k.below); rises = (tt, k.rises); own = (tt, k.own) }
 

@@ -1,4 +1,4 @@
--- Whom the server trusts of the transactions of a run is one function: of all that were ever opened.
+-- Which transactions of a run are with trusted peers is one function: of all that were ever opened.
 use Rattle.std.proofs.Common.{◌≡◌, ℕ, ◌+◌, ◌<◌, ◌≤◌, Bool, true, false, not, List, [], ◌∷◌, ◌++◌, length, map, refl, sym, ap, ◌∙◌, Option, Some, None, subst, inl, inr, arith, length-append}
 use Rattle.std.specs.Prelude.{if◌then◌else◌, ◌==◌, ◌||◌, nat_lt, filter}
 use Rattle.std.specs.List.{find}
@@ -111,7 +111,7 @@ entry_key : (h : List Done) (e : Entry) → (entry_of h e).key ≡ e.key
 entry_key [] e = refl
 entry_key (c ∷ h) e = if_key (nat_lt e.key (length (opened h))) (change (step_of h) (offers h) c (entry_of h e)) e e.key (change_key (step_of h) (offers h) c (entry_of h e) ∙ entry_key h e) refl
 
--- ---- which is below how many were opened
+-- ---- which is below the number of those that were opened
 
 abbrev AllBelow : ℕ → List Entry → Type 0
 AllBelow n [] = Unit {0}
@@ -125,7 +125,7 @@ joined : (n : ℕ) (es fs : List Entry) → AllBelow n es → AllBelow n fs → 
 joined n [] fs b c = c
 joined n (e ∷ es) fs b c = (b.0, joined n es fs b.1 c)
 
--- what a call opens has the next number, if it opens any
+-- what an operation opens has the next number, if it opens any
 heard_next : (step key : ℕ) (p : Peer) (m : Message Start) (now : ℕ) (t : Part) → AllBelow (key + length (heard_opens step key p m now t)) (heard_opens step key p m now t)
 heard_next step key p m now part.Fresh = (omega arith, tt)
 heard_next step key p m now part.Full = tt
@@ -198,7 +198,7 @@ trusts_one d (Some q) = trusts d q
 abbrev pub keys_in : Directory → List Done → TKey → Bool
 keys_in d final key = trusts_one d (ever key.0 final)
 
--- these are the last ones of what was done in the end
+-- these are the last ones of all operations in the end
 abbrev pub IsLast : (final : List Done) → List Done → Type 0
 IsLast final h = (g : List Done) × (final ≡ g ++ h)
 

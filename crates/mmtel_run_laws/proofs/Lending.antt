@@ -1,4 +1,4 @@
--- A leg that is taken out of a call of a run is put back by the next deed, and is of the side that is away, or the call ends by the next deed: so it is in the life of each call.
+-- A leg that is taken out of a call of a run is put back by the next operation, and is of the side that is detached, or the call ends by the next operation: so it is in the trace of each call.
 use Rattle.std.proofs.Common.{◌≡◌, ℕ, Bool, true, false, List, [], ◌∷◌, Option, Some, None, refl, sym, ap, ◌∙◌, subst, cond}
 use Rattle.std.specs.Prelude.{if◌then◌else◌, find, length, nat_lt}
 use Rattle.std.specs.List.{position_or_len}
@@ -41,7 +41,7 @@ put_back site (Some number) (Restores other leg ∷ older) w = absurd w
 put_back site (Some number) (Finishes other at tokens ∷ older) w = absurd w
 put_back site (Some number) (Drops count ∷ older) w = absurd w
 
--- ---- the call of a number stands in the table
+-- ---- the call of a number is in the table
 
 passes : (p : Entry → Bool) (es : List Entry) (e : Entry) → find p es ≡ Some e → p e ≡ true
 passes p [] e h = absurd (none-some e h)
@@ -62,11 +62,11 @@ numbered : (n : ℕ) (e : Entry) → is_numbered n e ≡ true → number_of e �
 unfolding is_numbered
 numbered n e h = eqb-true (number_of e) n h
 
--- a deed that names it is of it
+-- an operation that names it is of it
 named : (n : ℕ) (es : List Entry) (e : Entry) → entry_of n es ≡ Some e → option_map number_of (find (is_numbered n) es) ≡ Some n
 named n es e h = let is = found n es e h in ap (option_map number_of) is ∙ ap Some (numbered n e (passes (is_numbered n) es e is))
 
--- one whose leg goes out, and one whose leg is put back
+-- one whose leg is taken out, and one whose leg is put back
 goes-out : (n : ℕ) (side : Side) (es : List Entry) (leg : Released) → leg_out n side es ≡ Some leg → option_map number_of (find (is_numbered n) es) ≡ Some n
 goes-out n side es leg h = go (entry_of n es) refl h
   where
@@ -81,7 +81,7 @@ is-away n es leg h = go (entry_of n es) refl h
     go None is h = absurd (let e : false ≡ true = h in cc)
     go (Some e) is h = named n es e is
 
--- ---- a life
+-- ---- a trace
 
 abbrev IsLent : Life → Type 0
 IsLent life = AreLentAtOnce false life.events
@@ -94,7 +94,7 @@ module _ (back : LegsGoBack) (site : Site) (number : ℕ) where
   hears x es None None (Some earlier) life before h = subst IsLent (same_Some earlier life h) (before earlier refl)
   hears x es None (Some s) (Some earlier) life before h = subst IsLent (same_Some _ life h) (before earlier refl)
 
-  -- two deeds of one call
+  -- two operations on one call
   both : (x y : Event) → ((events : List Event) → AreLentAtOnce false events → AreLentAtOnce false (y ∷ x ∷ events)) → (one two : Option ℕ) → one ≡ two → (was : Option Life) (life : Life) →
       ((earlier : Life) → was ≡ Some earlier → IsLent earlier) →
       (if is_number number two then goes_on None (Some y) (if is_number number one then goes_on None (Some x) was else was) else (if is_number number one then goes_on None (Some x) was else was)) ≡ Some life →
@@ -111,7 +111,7 @@ module _ (back : LegsGoBack) (site : Site) (number : ℕ) where
           subst IsLent (same_Some (record earlier { events = y ∷ x ∷ earlier.events }) life h) (lends earlier.events (before earlier refl))
       go false was before h = before life h
 
-  -- the leg of this call was taken out, so both deeds are of it
+  -- the leg of this call was taken out, so both operations are of it
   abbrev Went : (n m : ℕ) (side : Side) (older : List Deed) → Type 0
   Went n m side older = (n ≡ m) × ((leg : Released) × (leg_out m side (table_after site older).entries ≡ Some leg)) × IsWhole site None older
 

@@ -1,4 +1,4 @@
--- What a run comes to:
+-- The outcome of a run:
 mod Keyed
 mod Replied
 mod Awaiting
@@ -29,12 +29,12 @@ mod Sending
 mod Concluding
 mod Homes
 mod Mailboxes
--- What it offers:
+-- Its outputs:
 mod Adding
 mod Apart
 mod Seeing
 mod PeersApart
--- What nobody may learn from it:
+-- Noninterference:
 mod Acts
 mod Adopting
 mod BoxesAlike

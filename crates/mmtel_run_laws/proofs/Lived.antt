@@ -1,4 +1,4 @@
--- What holds of the life of a call: of how it opened, and of each thing that came to it.
+-- What holds for the trace of a call: for how it opened, and for each event of it.
 use Rattle.std.proofs.Common.{◌≡◌, ℕ, Bool, true, false, List, [], ◌∷◌, Option, Some, None, refl, subst, IfSome}
 use Rattle.std.specs.Prelude.{if◌then◌else◌}
 use Rattle.std.proofs.lemmas.Option.{none-some, same_Some}
@@ -9,7 +9,7 @@ use Rattle.mmtel_call_decisions.specs.Site.{Site}
 use Rattle.mmtel_call_laws.specs.Story.{Start}
 
 module _ (site : Site) (number : ℕ) (P : Start → List Event → Type 0) where
-  -- of a deed of this call: it holds as the call opens by it, and goes on to hold where it did before
+  -- for an operation on this call: it holds as the call opens by it, and still holds where it did before
   pub record HoldsBy (deed : Deed) (older : List Deed) : Type 0 where
     pub opens : IfSome (opening_by site deed (table_after site older)) (λ s. P s [])
     pub comes : IfSome (event_by deed number (table_after site older).entries) (λ x. (s : Start) (earlier : List Event) → P s earlier → P s (x ∷ earlier))

@@ -1,4 +1,4 @@
--- Accounts that nothing names by which one is looked up may be renamed: each account is looked up alike then.
+-- Accounts that are named by no URI by which an account is looked up may be renamed: the lookup of each account has the same result then.
 use Rattle.std.proofs.Common.{◌≡◌, ℕ, zero, suc, Bool, true, false, ◌&&◌, List, [], ◌∷◌, ◌++◌, map, refl, ap, ◌∙◌, Option, Some, None, Result, Ok, Err, subst, inl, inr, codes}
 use Rattle.std.specs.Prelude.{if◌then◌else◌, option_to_list, slice_get}
 use Rattle.std.specs.List.{flat_map, list_all}
@@ -102,7 +102,7 @@ module _ (one other : List AccountIdentity) where
       (in_option i.sip (front (option_to_list i.sip) (option_to_list i.tel) a)) (in_option i.tel (back (option_to_list i.sip) (option_to_list i.tel) a))
   in_caller i (Some n) a = in_option (or_no_uri (uri_of n.uri)) a
 
-  -- ---- who registers
+  -- ---- who is registered
 
   in_value : (o : Option (List ℕ)) → AllAgree (option_to_list (o >>= uri_in)) → (o >>= account_in one) ≡ (o >>= account_in other)
   in_value None a = refl
@@ -113,7 +113,7 @@ module _ (one other : List AccountIdentity) where
   in_register true o a = in_value o a
   in_register false o a = refl
 
-  -- ---- where a response redirects to, and whom a room invites
+  -- ---- where a response redirects to, and whom a conference invites
 
   in_redirect : (home : List ℕ) (o : Option Uri) → AllAgree (map (new_target home) (option_to_list o)) → (uri : Uri) → o ≡ Some uri → Agree (new_target home uri)
   in_redirect home None a uri is = absurd cc
@@ -163,7 +163,7 @@ module _ (one other : Directory) where
       (where_if one.names.accounts other.names.accounts (is_opening left.heard) (targets_in left.heard ++ callers_in left.heard None) a opens))
   caller_looks left (Some tests) a = tt
 
-  -- with message waiting, who subscribes, and to whose mailbox
+  -- with message waiting, the subscriber and the mailbox
   subscriptions_look : (m : HeardMessage) → Names (subscribed_by one m) → may_subscribe one m ≡ true → (sender_of one m ≡ sender_of other m) × (mailbox_named one m ≡ mailbox_named other m)
   subscriptions_look m a does =
       let xs : List AccountIdentity = one.names.accounts in
@@ -213,7 +213,7 @@ module _ (one other : Directory) where
       let rest : List Uri = flat_map (λ (x : ℕ × MaskedDigest). looked_up_by one x.1) events in
       (digest_looks event.1 (front xs ys (looked_up_by one event.1) rest a), all_look_up events (back xs ys (looked_up_by one event.1) rest a))
 
--- ---- the law
+-- ---- the theorem
 
 module _ (agree : LookUpsAgree) where
   all_agree : (renamed : List Account) (one other : Directory) → Renames renamed one other → (us : List Uri) → list_all (names_none renamed one.names.accounts) us ≡ true →

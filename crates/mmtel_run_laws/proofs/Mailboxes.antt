@@ -1,4 +1,4 @@
--- Whom the server tells of a mailbox, and what; and that a SUBSCRIBE of a peer that is not trusted has a refusal.
+-- Whom the server notifies of a mailbox, and with which content; and that a SUBSCRIBE of a peer that is not trusted is refused.
 use Rattle.std.proofs.Common.{◌≡◌, ℕ, zero, suc, List, [], ◌∷◌, ◌++◌, length, refl, sym, ap, ◌∙◌, subst, Bool, true, false, not, ◌&&◌, Option, Some, None, Result, Ok, Err}
 use Rattle.std.proofs.Common.{codes, inl, inr, append_assoc, append-nil}
 use Rattle.std.specs.Prelude.{IfSome, if◌then◌else◌, is_some, nat_le}
@@ -102,7 +102,7 @@ each_of : {A : Type 0} (P : A → Type 0) (xs : List A) → ((x : A) → IsIn x 
 each_of P [] f = tt
 each_of P (x ∷ xs) f = (f x (inl refl), each_of P xs (λ y is. f y (inr is)))
 
--- of the first that something is, where it becomes another, or is taken out
+-- the first with a property, where it is changed or removed
 each_changed : {A : Type 0} (P : A → Type 0) (is : A → Bool) (change : A → A) (xs : List A) → ((x : A) → P x → P (change x)) → Each P xs → Each P (changed is change xs)
 each_changed P is change [] f e = tt
 each_changed P is change (x ∷ xs) f e = go (is x) (each_changed P is change xs f e.1)
@@ -120,9 +120,9 @@ each_without P is (x ∷ xs) e = go (is x) (each_without P is xs e.1)
     go false others = (e.0, others)
 
 module _ (d : Directory) where
-  -- ---- who subscribes is trusted
+  -- ---- each subscriber is trusted
 
-  -- whoever subscribes by this deed, if somebody does, is trusted
+  -- the subscriber by this operation, if there is one, is trusted
   abbrev IsByTrusted : boxes.Deed → Type 0
   IsByTrusted (boxes.Puts account counts) = Unit {0}
   IsByTrusted (boxes.Subscribes account leg until) = is_trusted leg.dialogue.peer d.peers.known ≡ true
@@ -165,7 +165,7 @@ module _ (d : Directory) where
   all_trusted [] e = tt
   all_trusted (deed ∷ deeds) e = did_trusted deed (table_after deeds) e.0 (all_trusted deeds e.1)
 
-  -- ---- what was asked stays so behind further deeds
+  -- ---- what was requested is so after further operations
 
   calls_more : (deed : calls.Deed) (deeds : List calls.Deed) (x : Emit) → IsOfCalls d deeds x → IsOfCalls d (deed ∷ deeds) x
   calls_more deed deeds x o = record { newer = deed ∷ o.newer; older = o.older; deed = o.deed; done = ap (λ (l : List calls.Deed). deed ∷ l) o.done; out = o.out }
@@ -221,14 +221,14 @@ module _ (d : Directory) where
     boxes_on deed (DidFire key) a = tt
     boxes_on deed (DidSettle key own) a = tt
 
-  -- ---- what is so of a world in which this was said of mailboxes
+  -- ---- what holds for a state in which these counts of mailboxes were set
 
   record Sound (said : List (Account × Counts)) (w : World) : Type 0 where
     puts : puts_in w.boxes ≡ said
     by : Each IsByTrusted w.boxes
     asks : Each (AsksSo d w.deeds w.rooms w.boxes) w.acts
 
-  -- nothing is said by it
+  -- it sets no counts
   none_put : (deed : boxes.Deed) (deeds : List boxes.Deed) → MakesNone deed → puts_in (deed ∷ deeds) ≡ puts_in deeds
   none_put (boxes.Puts account counts) deeds none = absurd none
   none_put (boxes.Subscribes account leg until) deeds none = refl
@@ -238,7 +238,7 @@ module _ (d : Directory) where
   none_put (boxes.Ends sub) deeds none = refl
   none_put (boxes.Answers branch code) deeds none = refl
 
-  -- one that goes out then is of one of these
+  -- one that is sent then is of one of these
   abbrev GoesSo : List calls.Deed → List rooms.Deed → List boxes.Deed → (at : ℕ) → Emit → Type 0
   GoesSo c r b at (emit.Ask peer message) = IsOfOne d c r b peer message at
   GoesSo c r b at (emit.Reply key message) = Unit {0}
@@ -260,7 +260,7 @@ module _ (d : Directory) where
     emitted_sound at (emit.ArmSeat room seat what when ∷ xs) w e g =
         emitted_sound at xs (emit_one at (emit.ArmSeat room seat what when) w) e.1 (record { puts = g.puts; by = g.by; asks = g.asks })
 
-    -- ---- a deed on calls, and one on rooms
+    -- ---- an operation on calls, and one on conferences
 
     lending_sound : (deed : calls.Deed) (w : World) → Sound said w → Sound said (lending deed w)
     lending_sound deed w g = record {
@@ -315,7 +315,7 @@ module _ (d : Directory) where
     housed_sound : (at : ℕ) (deed : rooms.Deed) (w : World) → Sound said w → Sound said (housed d at deed w)
     housed_sound at deed w g = lodging_sound at deed (record w { drawn = (comes_of d deed w).tokens.drawn }) (record { puts = g.puts; by = g.by; asks = g.asks })
 
-    -- ---- a deed on mailboxes
+    -- ---- an operation on mailboxes
 
     noting_sound : (deed : boxes.Deed) (w : World) → MakesNone deed → Sound said w → Sound said (noting deed w)
     noting_sound deed w none g = record {
@@ -374,7 +374,7 @@ module _ (d : Directory) where
             record { puts = g.puts; by = g.by; asks = (inr (inr (notice_so at sub last peer message w (held sub (boxes_in w)) refl g.by.1 lives is)), g.asks) };
       }
 
-      -- ---- deadlines
+      -- ---- timers
 
       answered_sound : (branch : Option (List ℕ)) (code : ℕ) (w : World) → Sound said w → Sound said (box_answered branch code w)
       answered_sound = steps.answered (λ w v. Sound said w → Sound said v) (λ w g. g) (λ deed w none g. noting_sound deed w none g)
@@ -556,7 +556,7 @@ module _ (d : Directory) where
 
   -- ---- events
 
-  -- whoever is trusted is said so
+  -- the message is marked as that of a trusted peer exactly where its peer is trusted
   abbrev IsOwnTrust : Digest → Type 0
   IsOwnTrust events.Nothing = Unit {0}
   IsOwnTrust (events.Refused peer source reply) = Unit {0}
@@ -570,7 +570,7 @@ module _ (d : Directory) where
   put_by (events.Heard s) = None
   put_by (events.Asked request kept rows) = put_in d.names request kept
 
-  -- what was said then
+  -- the counts that are set then
   abbrev also : List (Account × Counts) → Option (Account × Counts) → List (Account × Counts)
   also said None = said
   also said (Some put) = said ++ put ∷ []
@@ -680,7 +680,7 @@ module _ (d : Directory) where
 
 -- ---- a SUBSCRIBE of a peer that is not trusted
 
--- it is refused, or is for a subscription
+-- it is refused, or belongs to a subscription
 abbrev IsDue : Course → Type 0
 IsDue (Refuse answer) = nat_le 300 answer.code ≡ true
 IsDue (Enter call side) = ⊥
@@ -692,7 +692,7 @@ IsDue (Register account seconds) = ⊥
 IsDue Subscribe = Unit {0}
 IsDue (EnterBox sub) = Unit {0}
 
--- one method is no other
+-- one method is not another
 other_method : (line : Start) (name : List ℕ) → bytes_eq (codes "SUBSCRIBE") name ≡ false → is_method (codes "SUBSCRIBE") line ≡ true → is_method name line ≡ false
 other_method (start.Request method uri) name other e = subst (λ (b : List ℕ). bytes_eq b name ≡ false) (sym ((bytes_eq-Decides method (codes "SUBSCRIBE")).0 e)) other
 other_method (start.Status code phrase) name other e = refl

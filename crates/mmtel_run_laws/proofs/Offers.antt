@@ -1,4 +1,4 @@
--- What is offered exactly is seen alike: as many firings as are enough for both runs, of which none changes what is compared.
+-- Exact outputs are indistinguishable: for as many firings as are enough for both runs, since further ones do not change what is compared.
 use Rattle.std.proofs.Common.{◌≡◌, ◌<◌, ◌^◌, ◌+◌, ℕ, zero, suc, List, [], ◌∷◌, ◌++◌, Option, None, refl, sym, ap, ◌∙◌, subst, arith}
 use Rattle.mmtel_directory.specs.declared.directories.Directory.{Directory}
 use Rattle.mmtel_in_force.specs.Texts.{Texts}
@@ -65,10 +65,10 @@ masks_once d token loaded happened masked other is too =
     masked_by d token loaded happened masked too.fuel is
     ∙ (ap (λ (n : ℕ). mask d token loaded n happened) (turned is.fuel too.fuel) ∙ sym (masked_by d token loaded happened other is.fuel too))
 
--- ---- the run whose offers are seen
+-- ---- the run whose outputs are observed
 
 module _ (once : Once) (secret : KeepsTheSecretInBoth) (looks : RenamedAreLookedUpAlike) where
-  -- where few numbers are drawn by so many firings as are enough, so it is by more
+  -- where few numbers are drawn by so many firings as are enough, few are by more
   early_by : (d : Directory) (token : List ℕ) (loaded : Texts) (happened : List Happened) (n more : ℕ) → IsEnough d token loaded n happened → IsShortRun d token loaded happened → AllEarly d token (n + more) (notices d happened) (beginning loaded)
   early_by d token loaded happened n more enough short =
       let few : (world_after d token loaded n happened).drawn < 2 ^ 60 = (short n enough).drawn in
@@ -107,9 +107,9 @@ module _ (once : Once) (secret : KeepsTheSecretInBoth) (looks : RenamedAreLooked
       let none = nobody d (records_in d loaded happened) masked in
       offers_keep d token loaded happened offers given d [] run others masked seer read short strange none.0 none.1 is too other
 
--- ---- runs of which the same is noticed
+-- ---- runs that read the same of their events
 
--- what is true of a run by what is noticed of it alone
+-- what holds for a run by what it reads of its events alone
 abbrev IsShortBy : Directory → List ℕ → Texts → List Notice → Type 0
 IsShortBy d token loaded xs = (fuel : ℕ) → IsEnoughAfter d token fuel xs (beginning loaded) → IsShort (after d token fuel xs (beginning loaded))
 

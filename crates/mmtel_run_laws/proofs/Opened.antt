@@ -1,4 +1,4 @@
--- The INVITE that opened a call opened a server transaction that waits for its final.
+-- The INVITE that opened a call opened a server transaction that awaits its final response.
 use Rattle.std.proofs.Common.{◌≡◌, ℕ, List, [], ◌∷◌, Option, Some, None, IfSome}
 use Rattle.std.specs.Option.{option_map}
 use Rattle.mmtel_b2bua.specs.Histories.{Deed, Drops, Finishes, Heard, Hears, Releases, Restores, table_after}
@@ -14,7 +14,7 @@ use Rattle.mmtel_transaction.specs.Calls.{Done}
 use Rattle.mmtel_run_laws.proofs.Hearing.{IsAskedIn, IsOpenedBy, OpensAt}
 use Rattle.mmtel_run_laws.proofs.Lived.{AllHold, life_holds}
 
--- what holds of how each call opens holds of how this one did
+-- what holds for how each call opens holds for how this one did
 module _ (site : Site) (number : ℕ) (P : Start → Type 0) where
   abbrev pub Starts : Start → List Event → Type 0
   Starts s events = P s

@@ -1,4 +1,4 @@
--- Each row of a call is that of the caller's, a target's or a diverting account's part, and none is a participant's.
+-- Each CDR of a call is that of the caller's, a target's or a diverting account's part, and none is a participant's.
 use Rattle.std.proofs.Common.{◌≡◌, ℕ, ◌<◌, ◌^◌, ◌+◌, suc, Bool, true, false, not, List, [], ◌∷◌, ◌++◌, Option, Some, None, map, refl, sym, ap, ◌∙◌, subst, arith, cond, append-nil}
 use Rattle.std.specs.Prelude.{if◌then◌else◌, filter, find, min, ◌-◌, option_to_list}
 use Rattle.std.proofs.lemmas.Bool.{eq-eqb}
@@ -124,7 +124,7 @@ fewer site (Restores number away) older h = h
 fewer site (Finishes number at tokens) older h = h
 fewer site (Drops count) older h = h
 
--- ---- a number without a life has no rows
+-- ---- a number without a trace has no CDRs
 
 -- where one passes the first test and the second, one passes the second
 finds-other : (p q : Entry → Bool) (es : List Entry) (e : Entry) → find p es ≡ Some e → q e ≡ true → find q es ≡ None → ⊥
@@ -147,7 +147,7 @@ numbered : (n : ℕ) (e : Entry) → is_number n (Some (number_of e)) ≡ true �
 unfolding is_numbered
 numbered n e h = h
 
--- of a call that no deed opens
+-- for a call that no operation opens
 no-life : (opens : Option Start) (came : Option Event) (was : Option Life) → goes_on opens came was ≡ None → (opens ≡ None) × (was ≡ None)
 no-life (Some s) came was h = absurd (none-some (record { start = s; events = [] }) (sym h))
 no-life None came None h = (refl, refl)
@@ -180,7 +180,7 @@ module _ (steps : CallsTakeTheirSteps) (site : Site) (n : ℕ) where
       go true is h before never = absurd (never is h)
       go false is h before never = append-nil (rows_of site n older) ∙ before h
 
--- ---- the rows of a number
+-- ---- the CDRs of a number
 
 over-cause : (phase : Phase) → is_over phase ≡ true → (cause : Cause) × (phase ≡ Over cause)
 over-cause (Offered x) h = absurd (let e : false ≡ true = h in cc)
@@ -206,7 +206,7 @@ module _ (steps : CallsTakeTheirSteps) (exact : CallsOfTablesAreExact) (site : S
       go None none = subst AreOfCalls (sym (no-rows steps site n deeds few none)) tt
       go (Some life) is = life-rows n life (exact site deeds n life few is)
 
--- ---- and so all rows
+-- ---- and so all CDRs
 
 later-kept : (n : ℕ) (row : Row) (rows : List Row) → AreOfCalls (filter (is_row_of n) (row ∷ rows)) → AreOfCalls (filter (is_row_of n) rows)
 later-kept n row rows h = go (is_row_of n row) h

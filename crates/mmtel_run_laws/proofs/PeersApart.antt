@@ -1,4 +1,4 @@
--- In a configuration each number and each address of a peer stands once.
+-- In a configuration each number and each address of a peer occurs once.
 use Rattle.std.proofs.Common.{◌≡◌, ◌+◌, ℕ, List, [], ◌∷◌, ◌++◌, length, refl, sym, ap, ◌∙◌, subst, append-nil, true, not, Option, Some, None, Result, Ok, Err, inl, inr}
 use Rattle.std.specs.Prelude.{if◌then◌else◌}
 use Rattle.std.specs.List.{flat_map}
@@ -22,7 +22,7 @@ use Rattle.mmtel_run_laws.specs.Seen.{PeersAreApart}
 abbrev Apart : List Line → Type 0
 Apart said = are_apart (flat_map peer_in said) ≡ true
 
--- ---- one line more
+-- ---- one more line
 
 one_more : (said : List Line) (x : Line) → flat_map peer_in (said ++ x ∷ []) ≡ flat_map peer_in said ++ peer_in x
 one_more said x = flat_map-append peer_in said (x ∷ []) ∙ ap (λ (ks : List KnownPeer). flat_map peer_in said ++ ks) (append-nil (peer_in x))

@@ -1,4 +1,4 @@
--- What is read of bytes is clean, whatever they are: the lines of a message, and the reply to what is refused as it is read.
+-- What is read of bytes has no injected header fields, whatever they are: the header fields of a message, and the reply to what is refused as it is read.
 use Rattle.std.proofs.Common.{◌≡◌, ◌==◌, Bool, true, false, ℕ, List, [], ◌∷◌, ◌++◌, ◌+◌, length, Option, Some, None, refl, sym, subst, arith, IfSome, Ok, Err, map, take, drop, nat_lt}
 use Rattle.std.specs.Prelude.{codes, cond, if◌then◌else◌}
 use Rattle.std.specs.List.{list_all}
@@ -37,7 +37,7 @@ use Rattle.mmtel_scan.specs.declared.classes.Class.TheVariants.{Blank, Token}
 use Rattle.mmtel_scan.proofs.ChainLaws.{bind_some, some_is, unless_some, where_some}
 use Rattle.mmtel_scan.proofs.Runs.{and_true, run_each}
 
--- ---- header lines
+-- ---- header fields
 
 token_byte : (b : ℕ) → in_class Token b ≡ true → is_value_byte b ≡ true
 unfolding in_class
@@ -111,7 +111,7 @@ headers_clean : (ls : List (List ℕ)) → AreCleanLines (map header_line ls)
 headers_clean [] = refl
 headers_clean (l ∷ ls) = all_cons is_clean_line (header_line l) (map header_line ls) (header_clean l) (headers_clean ls)
 
--- ---- one value a line
+-- ---- one value for each field
 
 merged_clean : (m : Mode) (parting between : List ℕ) (texts : List (List ℕ)) → IsClean parting → IsClean between → AreClean texts → IsClean (merged_text m parting between texts)
 merged_clean m parting between texts p b e =
@@ -177,7 +177,7 @@ start_phrase line s e = by (after_text (codes "SIP/2.0 ") line) e
 
 -- ---- what was read
 
--- a message: its lines, its phrase where it has one, and a Request-URI that is not malformed
+-- a message: its header fields, its phrase where it has one, and a Request-URI that is not malformed
 pub record IsReadWell (m : Message Start) : Type 0 where
   pub lines_in : AreCleanLines m.lines
   pub phrase_in : IsClean (phrase_in m.start)

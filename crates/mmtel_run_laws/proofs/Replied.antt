@@ -1,4 +1,4 @@
--- In which server transactions was replied in a run: each reply is one that the calls brought forth, or is in a transaction by which no call was opened.
+-- In which server transactions responses were sent in a run: each is one that the calls output, or is in a transaction by which no call was opened.
 use Rattle.std.proofs.Common.{◌≡◌, ◌<◌, ◌≤◌, ℕ, Bool, true, List, [], ◌∷◌, ◌++◌, refl, ap, arith, inl, inr, le_trans}
 use Rattle.std.specs.Prelude.{◌⊎◌}
 use Rattle.std.proofs.lemmas.Bool.{ne_eqb}
@@ -17,7 +17,7 @@ use Rattle.mmtel_transaction.specs.declared.words.Emit.{Emit}
 use Rattle.mmtel_transaction.specs.declared.words.Emit.TheVariants as emit
 use Rattle.mmtel_run_laws.proofs.Keyed.{HasKey, HasNoKey, IsBelow, all_below, keys, keys_grow}
 
--- ---- a reply, of what goes out
+-- ---- a response, among the output
 
 abbrev pub IsReply : ℕ → Message Start → Emit → Type 0
 IsReply k m (emit.Ask peer message) = ⊥
@@ -32,12 +32,12 @@ abbrev pub HasReply : ℕ → Message Start → List Emit → Type 0
 HasReply k m [] = ⊥
 HasReply k m (x ∷ xs) = IsReply k m x ⊎ HasReply k m xs
 
--- the calls brought it forth, in one of these deeds
+-- the calls output it, in one of these operations
 abbrev pub IsBrought : Site → ℕ → Message Start → List Deed → Type 0
 IsBrought site k m [] = ⊥
 IsBrought site k m (deed ∷ older) = HasReply k m (out_by site deed (table_after site older)) ⊎ IsBrought site k m older
 
--- in one of these deeds, each of a request of one of so many transactions
+-- in one of these operations, each of a request of one of so many transactions
 pub record IsBroughtBy (site : Site) (n k : ℕ) (m : Message Start) (deeds : List Deed) : Type 0 where
   pub newer : List Deed
   pub older : List Deed
@@ -50,7 +50,7 @@ pub record IsElsewhere (n k : ℕ) (deeds : List Deed) : Type 0 where
   pub below : k < n
   pub other : Each (IsOtherDeed (tkey k)) deeds
 
--- so may be replied, after these deeds
+-- such a response may be sent, after these operations
 abbrev pub MayReply : Site → ℕ → List Deed → ℕ → Message Start → Type 0
 MayReply site n deeds k m = IsBroughtBy site n k m deeds ⊎ IsElsewhere n k deeds
 
@@ -63,12 +63,12 @@ IsAnswered site n deeds (DidAck k m) = Unit {0}
 IsAnswered site n deeds (DidFire k) = Unit {0}
 IsAnswered site n deeds (DidSettle k own) = Unit {0}
 
--- each reply, of the transactions that were opened before it
+-- each response, in the transactions that were opened before it
 abbrev pub AllAnswered : Site → List Deed → List Done → Type 0
 AllAnswered site deeds [] = Unit {0}
 AllAnswered site deeds (act ∷ older) = IsAnswered site (keys older) deeds act × AllAnswered site deeds older
 
--- what goes out replies so
+-- the output has responses of this kind
 abbrev pub RepliesSo : (ℕ → Message Start → Type 0) → Emit → Type 0
 RepliesSo P (emit.Ask peer message) = Unit {0}
 RepliesSo P (emit.Reply key message) = P key.0 message
@@ -94,7 +94,7 @@ replies_more site n m deeds (emit.Settled key own) le a = tt
 replies_more site n m deeds (emit.Arm call what at) le a = tt
 replies_more site n m deeds (emit.ArmSeat room seat what at) le a = tt
 
--- ---- after one deed more
+-- ---- after one more operation
 
 -- which opens no call by one of so many transactions
 abbrev pub OpensFrom : ℕ → Signal → Type 0
@@ -188,7 +188,7 @@ acts_later site n deed deeds (act ∷ acts) le from a =
     let less : keys acts ≤ n = le_trans (keys_grow act acts) le in
     (act-later site (keys acts) deed deeds act (from-less n (keys acts) deed less from) a.0, acts_later site n deed deeds acts less from a.1)
 
--- ---- what goes out
+-- ---- the output
 
 reply-so : (x : Emit) (P : ℕ → Message Start → Type 0) → ((k : ℕ) (m : Message Start) → IsReply k m x → P k m) → RepliesSo P x
 reply-so (emit.Ask peer message) P each = tt

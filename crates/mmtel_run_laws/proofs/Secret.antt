@@ -1,4 +1,4 @@
--- Through two runs that are the same without private places worlds stay alike, each under its configuration, so an untrusted peer sees the same of them.
+-- Through two runs that are the same without private places states stay indistinguishable, each under its configuration, so an untrusted peer observes the same of them.
 use Rattle.std.proofs.Common.{◌≡◌, ◌≢◌, ◌<◌, ◌^◌, Ok, Err, ℕ, max, Bool, true, false, List, [], ◌∷◌, ◌++◌, map, refl, sym, ap, ◌∙◌, Option, Some, None, subst, inl, inr, arith, drop}
 use Rattle.std.specs.Prelude.{◌==◌, option_to_list}
 use Rattle.std.proofs.lemmas.Bool.{cases_Bool}
@@ -54,7 +54,7 @@ use Rattle.mmtel_run_laws.proofs.Growing.{after_before, begun_before, handing_be
 use Rattle.mmtel_run_laws.proofs.Keys.{IsLast, keys_in, knows, older}
 use Rattle.mmtel_run_laws.proofs.TellingAlike.{Below, told-alike, trusts_same}
 
--- ---- masked digests
+-- ---- masked events
 
 abbrev pub left_of : Said → MaskedDigest → Said
 left_of other Nothing = other
@@ -98,7 +98,7 @@ waits_in other (Refused peer source reply) = other
 waits_in other (Heard left tests) = other
 waits_in other (Asked put waits) = waits
 
--- the kinds are apart
+-- the kinds are distinct
 abbrev kind_of : MaskedDigest → ℕ
 kind_of Nothing = 0
 kind_of (Refused peer source reply) = 1
@@ -109,7 +109,7 @@ abbrev first_of : ℕ × MaskedDigest → List (ℕ × MaskedDigest) → ℕ × 
 first_of other [] = other
 first_of other (x ∷ xs) = x
 
--- ---- what is read of a datagram is known as trusted exactly where its peer is
+-- ---- what is read of a datagram is marked as trusted exactly where its peer is
 
 abbrev TrustedAs : Directory → Digest → Type 0
 TrustedAs d Events.Nothing = Unit {0}
@@ -205,7 +205,7 @@ all_among records d [] sub = tt
 all_among records d (x ∷ xs) sub =
     (among_event records d x x.event (uploads_of d.names xs) sub, all_among records d xs (λ s is. sub s (in_right (option_to_list (upload_at d.names x.event x.kept)) (uploads_of d.names xs) s is)))
 
--- the text that is put is the account's, and no other one's
+-- the text that is put is the account's, and no other account's
 abbrev pub PutIts : Type 0
 PutIts = (a : Account) (text : List ℕ) (s : List (Account × List ℕ)) → text_at (put a text s) a ≡ Some text
 
@@ -284,7 +284,7 @@ module _ (below : Below) (its : PutIts) (others : PutOthers) (records : List She
       offering-alike below.texts records d e keys K before kn (offer.Web at (web_reply d.names v.texts r k rows) ∷ []) (offer.Web at (web_reply e.names w.texts s l more) ∷ []) _ _ (λ p strange. refl)
       (keeping-alike (kept_upload k (upload_in d.names r)) (kept_upload l (upload_in e.names s)) v w same (subst (PutIsAmong records) same among) a)
 
-  -- and behind it what an upload to a mailbox brings
+  -- and after it the effect of an upload to a mailbox
   served-alike : (at : ℕ) (r s : Request) (k l : Kept) (rows more : List Row) (v w : World) → kept_upload k (upload_in d.names r) ≡ kept_upload l (upload_in e.names s) → put_in d.names r k ≡ put_in e.names s l
       → PutIsAmong records (kept_upload k (upload_in d.names r)) → Two v w → Two (served d token at r k rows v) (served e token at s l more w)
   served-alike at r s k l rows more v w same waits among a =
@@ -328,7 +328,7 @@ module _ (below : Below) (its : PutIts) (others : PutOthers) (records : List She
   met-alike at (Events.Asked r k rows) (Events.Asked s l more) v w same trusted too among looks tied tied_too kw km z =
       served-alike at r s k l rows more v w (ap (text_in (kept_upload k (upload_in d.names r))) same) (ap (waits_in (put_in d.names r k)) same) among z
 
-  -- ---- rows are handed over, or not
+  -- ---- CDRs are handed over, or not
 
   filing_one : (rows : List Row) (v w : World) → Two v w → Two (filing rows v) w
   filing_one rows v w a = record {
@@ -408,7 +408,7 @@ module _ (below : Below) (its : PutIts) (others : PutOthers) (records : List She
     among = a.among;
   }
 
-  -- the world in which an event comes at a moment of the clock
+  -- the state in which an event comes at a moment of the clock
   abbrev coming_at : Directory → (fuel at : ℕ) → World → World
   coming_at x fuel at u = record (begun (settled x token fuel at u)) { clock = at }
 
@@ -473,7 +473,7 @@ module _ (below : Below) (its : PutIts) (others : PutOthers) (records : List She
 
 -- ---- two runs
 
--- where each client transaction and each INVITE that is acknowledged is tied to the peer that was asked
+-- where each client transaction and each INVITE that is acknowledged is with the peer that was sent the request
 module _ (below : Below) (keeps : KeepsPeers) (its : PutIts) (others : PutOthers) (tied : RunsAreTied) where
   pub both : KeepsTheSecretInBoth
   both d e token loaded fuel happened run seer read sites looks early strange same =

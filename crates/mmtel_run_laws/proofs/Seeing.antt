@@ -1,4 +1,4 @@
--- What is sent to a peer's address is what the peer is offered.
+-- What is sent to a peer's address is what is output for the peer.
 use Rattle.std.proofs.Common.{◌≡◌, ◌==◌, ℕ, List, [], ◌∷◌, map, refl, sym, ap, ◌∙◌, subst, Bool, true, false, Option, Some, None, inl, inr}
 use Rattle.std.specs.Prelude.{if◌then◌else◌}
 use Rattle.std.proofs.lemmas.Bool.{cases_Bool}
@@ -15,7 +15,7 @@ use Rattle.mmtel_types.specs.declared.numbers.Peer.{Peer}
 use Rattle.mmtel_run_laws.proofs.Apart.{addr_is, addr_self, one_peer, peer_is, peer_self, some_is, turned}
 use Rattle.mmtel_run_laws.specs.Seen.{BytesAreSeen, texts_seen}
 
--- ---- one peer's
+-- ---- for one peer
 
 module _ (known : List KnownPeer) (apart : are_apart known ≡ true) (p : Peer) (a : Addr) (is : addr_of p known ≡ Some a) where
   -- the address of a peer is this one exactly where the peer is this one

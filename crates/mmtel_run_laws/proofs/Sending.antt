@@ -1,4 +1,4 @@
--- Each message that is built in a run is clean, and each text that is offered to a peer is that of such a message.
+-- Each message that is built in a run has no injected header fields, and each text that is sent to a peer is that of such a message.
 use Rattle.std.proofs.Common.{◌≡◌, ℕ, zero, suc, List, [], ◌∷◌, ◌++◌, length, refl, sym, subst, Bool, true, false, Option, Some, None, ◌⊎◌, inl, inr, ◌∙◌, append_assoc, IfSome, Result, Ok, Err}
 use Rattle.std.specs.Prelude.{option_map, codes}
 use Rattle.std.specs.List.{find}
@@ -90,7 +90,7 @@ use Rattle.mmtel_run_laws.proofs.Received.{IsCleanRead, reads_clean}
 use Rattle.mmtel_run_laws.proofs.Sheets.{kept_clean}
 use Rattle.mmtel_run_laws.proofs.Transacted.{AreGoodActs, IsGoodAct, IsOwnDue, due_own, repeat_own, same_again, sent_still}
 
--- ---- what is told of records
+-- ---- what calls get of records
 
 told-clean : (o : Option (List ℕ)) → IfSome (map_some kept_sheet o) IsCleanSheet
 told-clean None = tt
@@ -100,7 +100,7 @@ records_clean : CallsAreToldWhatIsInForce → (texts : Texts) (registrations : R
 records_clean law texts registrations number =
     subst (λ (o : Option Sheet). IfSome o IsCleanSheet) (sym (law texts registrations (record { 0 = number })).sheet) (told-clean (text_at texts (record { 0 = number })))
 
--- ---- what is good of a world
+-- ---- the invariant of a state
 
 module _ (d : Directory) (whole : List Happened) where
   record Good (w : World) : Type 0 where
@@ -111,7 +111,7 @@ module _ (d : Directory) (whole : List Happened) where
     acts : AreGoodActs w.acts
     offers : Each (IsOwnOffer d whole w.acts w.deeds) w.offers
 
-  -- what was offered before one more call on the transactions
+  -- what was output before one more operation on the transactions
   offer_still : (c : Done) (acts : List Done) (deeds : List Deed) (x : Offer) → IsOwnOffer d whole acts deeds x → IsOwnOffer d whole (c ∷ acts) deeds x
   offer_still c acts deeds (offer.To peer at text) (inl sent) = inl (sent_still c acts text sent)
   offer_still c acts deeds (offer.To peer at text) (inr plain) = inr plain
@@ -121,7 +121,7 @@ module _ (d : Directory) (whole : List Happened) where
   offers_still c acts deeds [] o = tt
   offers_still c acts deeds (x ∷ xs) o = (offer_still c acts deeds x o.0, offers_still c acts deeds xs o.1)
 
-  -- and before one more deed on calls
+  -- and before one more operation on calls
   offer_kept : (deed : Deed) (acts : List Done) (deeds : List Deed) (x : Offer) → IsOwnOffer d whole acts deeds x → IsOwnOffer d whole acts (deed ∷ deeds) x
   offer_kept deed acts deeds (offer.To peer at text) (inl sent) = inl sent
   offer_kept deed acts deeds (offer.To peer at text) (inr (inl ack)) = inr (inl (ack_still d whole deeds deed text ack))
@@ -132,7 +132,7 @@ module _ (d : Directory) (whole : List Happened) where
   offers_kept deed acts deeds [] o = tt
   offers_kept deed acts deeds (x ∷ xs) o = (offer_kept deed acts deeds x o.0, offers_kept deed acts deeds xs o.1)
 
-  -- the message that one more call builds is offered
+  -- the message that one more operation builds is sent
   acting_good : (c : Done) (w : World) (offers : List Offer) → IsGoodAct c w.acts → Each (IsOwnOffer d whole (c ∷ w.acts) w.deeds) offers → Good w → Good (offering offers (acting c w))
   acting_good c w offers good own g = record {
     deeds = g.deeds;
@@ -143,7 +143,7 @@ module _ (d : Directory) (whole : List Happened) where
     offers = each_append (IsOwnOffer d whole (c ∷ w.acts) w.deeds) w.offers offers (offers_still c w.acts w.deeds w.offers g.offers) own;
   }
 
-  -- the same deeds, calls on transactions and offers
+  -- the same operations on calls and transactions, and the same outputs
   alike : (w v : World) → v.deeds ≡ w.deeds → v.rooms ≡ w.rooms → v.boxes ≡ w.boxes → v.acts ≡ w.acts → v.offers ≡ w.offers → Good w → Good v
   alike w v deeds seats mailboxes acts offers g = record {
     deeds = subst (Each IsGivenClean) (sym deeds) g.deeds;
@@ -156,13 +156,13 @@ module _ (d : Directory) (whole : List Happened) where
         (subst (λ (h : List Done). Each (IsOwnOffer d whole h w.deeds) v.offers) (sym acts) (subst (Each (IsOwnOffer d whole w.acts w.deeds)) (sym offers) g.offers));
   }
 
-  -- nothing is offered
+  -- nothing is sent
   silent_good : (c : Done) (w v : World) → IsGoodAct c w.acts → v.deeds ≡ w.deeds → v.rooms ≡ w.rooms → v.boxes ≡ w.boxes → v.acts ≡ c ∷ w.acts → v.offers ≡ w.offers → Good w → Good v
   silent_good c w v good deeds seats mailboxes acts offers g =
       alike (acting c w) v deeds seats mailboxes acts offers
       (record { deeds = g.deeds; acked = g.acked; rooms = g.rooms; boxes = g.boxes; acts = (good, g.acts); offers = offers_still c w.acts w.deeds w.offers g.offers })
 
-  -- a text is offered to a peer by no transaction
+  -- a text is sent to a peer by no transaction
   abbrev IsOwnText : List Done → List Deed → List ℕ → Type 0
   IsOwnText acts deeds text = IsSentIn acts text ⊎ (IsOwnAck d whole deeds text ⊎ IsOwnReply d whole text)
 
@@ -183,7 +183,7 @@ module _ (d : Directory) (whole : List Happened) (own_law : (m : Message Start) 
   peer_own c acts deeds m at None b = tt
   peer_own c acts deeds m at (Some peer) b = (inl (record { message = m; built = inl b; is = refl }), tt)
 
-  -- what goes out is clean, and each ACK of a 2xx passes on what goes on of an ACK of these deeds
+  -- the output has no injected header fields, and each ACK of a 2xx relays what is relayed of an ACK of these operations
   abbrev IsCleanAfter : List Deed → Emit → Type 0
   IsCleanAfter deeds x = IsCleanEmit (acked_after (site_of d) deeds) x
 
@@ -217,7 +217,7 @@ module _ (d : Directory) (whole : List Happened) (own_law : (m : Message Start) 
 
   module _ (sends : DeedsSendCleanMessages) (legs : LegsGoOutClean) (seats_send : EmitsAreClean) (views : CallsAreToldWhatIsInForce) (read : IsReadClean)
       (token : List ℕ) (home : IsClean d.home) (clean_token : IsClean token) where
-    -- this was read of an event of the run: whatever is answered to it by no transaction, where it is clean, is the answer to this event
+    -- this was read of an event of the run: whatever response no transaction sends to it, where it has no injected header fields, is the response to this event
     record IsMet (x : Digest) : Type 0 where
       own : (tag : List ℕ) (m : Message Start) → plain_reply d tag x ≡ Some m → IsCleanMessage m → IsOwnReply d whole (message_text m)
       heard : (said : Said) → x ≡ events.Heard said → IsHeardIn d whole said
@@ -228,9 +228,9 @@ module _ (d : Directory) (whole : List Happened) (own_law : (m : Message Start) 
       heard = λ said digest. record { earlier = earlier; event = event; later = later; in_order = is; is = digest };
     }
 
-    -- ---- a deed on calls
+    -- ---- an operation on calls
 
-    -- the ACKs that a deed lets calls hear
+    -- the ACKs that calls receive by an operation
     abbrev acks_of : Deed → World → List Acked
     acks_of deed w = acked_by (site_of d) deed (calls_in d w).entries
 
@@ -272,7 +272,7 @@ module _ (d : Directory) (whole : List Happened) (own_law : (m : Message Start) 
       offers = offers_kept d whole deed w.acts w.deeds w.offers g.offers;
     }
 
-    -- ---- a deed on rooms
+    -- ---- an operation on conferences
 
     lodging_good : (at : ℕ) (deed : rooms.Deed) (desk : Desk) (w : World) → Each (IsCleanEmit []) desk.out → heads.IsCleanDeed deed → Good d whole w → Good d whole (lodging at deed desk w)
     lodging_good at deed desk w out c g =
@@ -290,7 +290,7 @@ module _ (d : Directory) (whole : List Happened) (own_law : (m : Message Start) 
     noticed_good : (at : ℕ) (room : RoomNo) (seat code : ℕ) (w : World) → Good d whole w → Good d whole (noticed d token at room seat code w)
     noticed_good at room seat code w g = housed_good at (rooms.Notifies room.0 seat code (tokens_now token w)) w clean_token g
 
-    -- ---- a deed on mailboxes, and a NOTIFY
+    -- ---- an operation on mailboxes, and a NOTIFY
 
     noted_good : (deed : boxes.Deed) (w : World) → IsCleanBoxDeed deed → Good d whole w → Good d whole (noting deed w)
     noted_good deed w c g = record { deeds = g.deeds; acked = g.acked; rooms = g.rooms; boxes = (c, g.boxes); acts = g.acts; offers = g.offers }
@@ -313,7 +313,7 @@ module _ (d : Directory) (whole : List Happened) (own_law : (m : Message Start) 
     box_answered_good : (branch : Option (List ℕ)) (code : ℕ) (w : World) → Good d whole w → Good d whole (box_answered branch code w)
     box_answered_good = steps.answered StaysGood (λ w g. g) (λ deed w none. noted_good deed w (none_clean deed none))
 
-    -- ---- deadlines
+    -- ---- timers
 
     silenced_good : (at : ℕ) (branch method : List ℕ) (whose : Whose) (w : World) → Good d whole w → Good d whole (silenced d token at branch method whose w)
     silenced_good at branch method OfCalls w g = signalled_good at (signal.Silent branch method) w tt tt g
@@ -335,7 +335,7 @@ module _ (d : Directory) (whole : List Happened) (own_law : (m : Message Start) 
     fires_good None w g = g
     fires_good (Some next) w g = silent_good d whole (DidFire next.entry.key) w (record w { acts = fires w.acts (Some next) }) tt refl refl refl refl refl g
 
-    -- what is sent again then was sent before
+    -- what is retransmitted then was sent before
     due_still : (o : Option Next) (acts : List Done) (x : Due) → IsOwnDue (IsSentIn acts) x → IsOwnDue (IsSentIn (fires acts o)) x
     due_still None acts x t = t
     due_still (Some next) acts (due.Again peer at text) t = sent_still (DidFire next.entry.key) acts text t
@@ -351,7 +351,7 @@ module _ (d : Directory) (whole : List Happened) (own_law : (m : Message Start) 
     alarmed_good at (OfSeat room seat what) w g = seated_good at (of_room.Due room seat what) w tt g
     alarmed_good at (OfBox sub set) w g = steps.ends d token at StaysGood (steps_good at) sub set w g
 
-    -- what a deadline of a message says is read of what was done on the transactions before it fires
+    -- what a timer of a transaction causes is read of the operations on the transactions before it fires
     fired_good : (now : ℕ) (x : Deadline) (w : World) → Good d whole w → Good d whole (fired d token now x w)
     fired_good now OfMessage w g =
         let b : Good d whole (begun w) = begun_good w g in
@@ -371,7 +371,7 @@ module _ (d : Directory) (whole : List Happened) (own_law : (m : Message Start) 
     -- ---- messages
 
     module _ (at : ℕ) (s : Said) (well : IsHeardWell s.heard) (met : IsMet (events.Heard s)) where
-      -- an answer with a tag of the server
+      -- a response with a tag of the server
       tagged_good : (key : TKey) (tag : List ℕ) (answer : Answer) (w : World) → IsClean tag → IsCleanAnswer answer → Good d whole w → Good d whole (emit_one at (emit.Reply key (response_to d.sip tag s answer)) w)
       tagged_good key tag answer w t a g = emit_good at (emit.Reply key (response_to d.sip tag s answer)) w (answer_clean d.sip tag s answer t well.lines_in a) g
 
@@ -380,7 +380,7 @@ module _ (d : Directory) (whole : List Happened) (own_law : (m : Message Start) 
           tagged_good key (tag_for token w.drawn s.heard.to_tag) answer (drawing (tags_due s.heard.to_tag) w) (tag_clean token w.drawn s.heard.to_tag clean_token) a
           (alike d whole w (drawing (tags_due s.heard.to_tag) w) refl refl refl refl refl g)
 
-      -- one that is too many
+      -- a message beyond the capacity
       too_many_good : (w : World) → Good d whole w → Good d whole (replying_plainly d token at s (plainly 503) w)
       too_many_good w g =
           let tag : List ℕ = tag_for token w.drawn s.heard.to_tag in
@@ -389,7 +389,7 @@ module _ (d : Directory) (whole : List Happened) (own_law : (m : Message Start) 
           (inr (inr (met.own tag said refl (answer_clean d.sip tag s (plainly 503) (tag_clean token w.drawn s.heard.to_tag clean_token) well.lines_in refl))))
           (alike d whole w (drawing (tags_due s.heard.to_tag) w) refl refl refl refl refl g)
 
-      -- the leg of whoever sent the INVITE
+      -- the leg of the sender of the INVITE
       leg_clean : (tag : List ℕ) → IsClean tag → IsCleanLeg (released.Caller (leg_by tag s))
       leg_clean tag t = record { dialog = opened_clean s.peer s.heard.lines tag well.lines_in t; tag = t }
 
@@ -499,12 +499,12 @@ module _ (d : Directory) (whole : List Happened) (own_law : (m : Message Start) 
           taking_good (tkey n) (course d (is_merged n (live w.acts)) (are_full (calls_in d w).entries) (holder_in d s.heard w) s.heard) w
           (course_clean read d (is_merged n (live w.acts)) (are_full (calls_in d w).entries) (holder_in d s.heard w) s.heard well) g
 
-      -- what was sent is sent again
+      -- what was sent is retransmitted
       repeating_good : (o : Option (Peer × List ℕ)) (w : World) → IfSome o (λ sent. IsSentIn w.acts sent.1) → Good d whole w → Good d whole (repeating at o w)
       repeating_good None w c g = g
       repeating_good (Some sent) w c g = plain_good d whole at sent.0 sent.1 w (inl c) g
 
-      -- the message was taken for this
+      -- the message was classified as this
       abbrev heard_as : Part → World → World
       heard_as p w = record w { acts = DidHear s.peer (message_in s.heard) at p ∷ w.acts }
 
@@ -540,7 +540,7 @@ module _ (d : Directory) (whole : List Happened) (own_law : (m : Message Start) 
           (is_ack_heard (message_in s.heard) (live w.acts) is) (heard_good part.AckOf2xx w is g)
       said_good part.Stray w is g = heard_good part.Stray w is g
 
-      -- the transactions as they are once it is heard
+      -- the transactions once it is received
       hearing_is : (o : Option transaction.Heard) (w : World) → hearing at s o w ≡ hearing_as (part_of (head_of (message_in s.heard)) (live w.acts)) o w
       hearing_is None w = refl
       hearing_is (Some said) w = refl

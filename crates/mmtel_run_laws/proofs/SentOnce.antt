@@ -1,4 +1,4 @@
--- Through a run each INVITE of a call, and what is in flight, was sent to its peer, and each has a number of its own, as long as fewer than 2^60 numbers are drawn; and numbers are drawn on.
+-- Through a run each INVITE of a call, and what is in flight, was sent to its peer, and each has a number of its own, as long as fewer than 2^60 numbers are drawn; and the count of drawn numbers never decreases.
 use Rattle.std.proofs.Common.{codes, ◌≡◌, ◌<◌, ◌≤◌, ◌^◌, ◌+◌, ℕ, zero, suc, Bool, true, false, List, [], ◌∷◌, ◌++◌, take, drop, length, Option, Some, None, Result, Ok, Err, refl, sym, cond, subst, inl, arith, append-nil}
 use Rattle.std.specs.Prelude.{position, remove, slice_get, slice_set}
 use Rattle.std.specs.Option.{option_map}
@@ -93,7 +93,7 @@ Asks = List (Peer × Message Start)
 abbrev pub EntryWasSent : Addr → Asks → Entry → Type 0
 EntryWasSent sip asks e = CallWasSent (WasAsked sip asks) e.call
 
--- what is proved of the INVITEs of calls and of rooms
+-- what is proved of the INVITEs of calls and of conferences
 pub record Once : Type 0 where
   pub steps : StepsSendOnce
   pub openings : OpeningsSendOnce
@@ -102,7 +102,7 @@ pub record Once : Type 0 where
   pub returned : ReturnedCallsWereSent
   pub rooms : RoomsSendOnce
 
--- ---- places in a list
+-- ---- positions in a list
 
 each_set : {A : Type 0} (P : A → Type 0) (xs : List A) (at : ℕ) (y : A) → P y → Each P xs → Each P (slice_set xs at y)
 each_set P [] at y is e = tt
@@ -260,7 +260,7 @@ module _ (steps : StepsSendOnce) (openings : OpeningsSendOnce) (site : Site) (be
     unfolding ended
     ended_well at number es had = ended_by_well at (place_of number es) es had
 
--- ---- the world
+-- ---- the state
 
 emitted_asks : (at : ℕ) (out : List Emit) (w : World) → asks_of (emitted at out w).acts ≡ asks_after out (asks_of w.acts)
 emitted_asks at [] w = refl
@@ -303,7 +303,7 @@ emitted_deeds at (emit.Arm call what when ∷ out) w = emitted_deeds at out (emi
 emitted_deeds at (emit.ArmSeat room seat what when ∷ out) w = emitted_deeds at out (emit_one at (emit.ArmSeat room seat what when) w)
 
 module _ (d : Directory) (token : List ℕ) where
-  -- each INVITE of a call and of a room was sent to its peer; and INVITEs have numbers of their own
+  -- each INVITE of a call and of a conference was sent to its peer; and INVITEs have numbers of their own
   pub record AreSent (asks : Asks) (drawn : ℕ) (deeds : List Deed) (houses : List rooms.Deed) : Type 0 where
     pub calls_sent : Each (EntryWasSent d.sip asks) (table_after (site_of d) deeds).entries
     pub rooms_sent : TableWasSent (WasSent d.sip asks) (rooms.table_after (rooms_site d) houses)
@@ -312,7 +312,7 @@ module _ (d : Directory) (token : List ℕ) where
   abbrev pub Holds : World → Type 0
   Holds w = AreSent (asks_of w.acts) w.drawn w.deeds w.rooms
 
-  -- from one world to another
+  -- from one state to another
   pub record Goes (w v : World) : Type 0 where
     pub early : Holds w → IsEarly v → IsEarly w
     pub holds : Holds w → Holds v
@@ -327,7 +327,7 @@ module _ (d : Directory) (token : List ℕ) where
   pub then_goes : (w v u : World) → Goes w v → Goes v u → Goes w u
   then_goes w v u a b = record { early = λ had less. a.early had (b.early (a.holds had) less); holds = λ had. b.holds (a.holds had) }
 
-  -- what draws no tag for a call, and asks nothing
+  -- what draws no tag for a call, and sends no request
   drew_more : (w v : World) (count : ℕ) → asks_of v.acts ≡ asks_of w.acts → v.drawn ≡ w.drawn + count → v.deeds ≡ w.deeds → v.rooms ≡ w.rooms → Goes w v
   drew_more w v count asks drawn deeds houses = record {
     early = λ had less. omega (arith, less, drawn);
@@ -339,12 +339,12 @@ module _ (d : Directory) (token : List ℕ) where
         });
   }
 
-  -- what was asked before, and what is asked now
+  -- what was requested before, and what is requested now
   sent_now : (asks : Asks) (out : List Emit) (method branch : List ℕ) (peer : Peer) → WasAsked d.sip (asks ++ asks_in out) method branch peer → WasAsked d.sip (asks_after out asks) method branch peer
   sent_now asks out method branch peer was = sent_after d.sip method branch peer out asks (sent_parted d.sip method branch peer asks (asks_in out) was)
 
   module _ (once : Once) where
-    -- a deed on the calls, by which this goes out
+    -- an operation on the calls, with this output
     record Brings (w : World) (deed : Deed) (desk : Desk) : Type 0 where
       pub calls_in : Each (EntryWasSent d.sip (asks_of w.acts ++ asks_in desk.out)) (table_after (site_of d) (deed ∷ w.deeds)).entries
       pub out_in : desk.tokens.drawn < 2 ^ 60 → AreNumbered d.sip token w.drawn desk.tokens.drawn desk.out
@@ -410,7 +410,7 @@ module _ (d : Directory) (token : List ℕ) where
     restoring_goes number away w =
         lending_goes (Restores number away) w (λ had. restored_sent once.steps once.openings (site_of d) (asks_of w.acts) (tokens_now token w) once number away (calls_in d w).entries had.calls_sent)
 
-    -- a deed on the rooms
+    -- an operation on the conferences
     module _ (at : ℕ) (deed : rooms.Deed) (w : World) (text : tokens_of deed ≡ tokens_now token w) where
       abbrev out_desk : Desk
       out_desk = comes_of d deed w
@@ -461,7 +461,7 @@ module _ (d : Directory) (token : List ℕ) where
     noticed_goes : (at : ℕ) (room : RoomNo) (seat code : ℕ) (w : World) → Goes w (noticed d token at room seat code w)
     noticed_goes at room seat code w = housed_goes at (rooms.Notifies room.0 seat code (tokens_now token w)) w refl
 
-    -- a room is opened: an answer goes out, and nothing is asked
+    -- a conference is opened: a response is sent, and no request
     module _ (at : ℕ) (c : rooms.Coming) (w : World) where
       opens_quiet : asks_of (lodging at (rooms.Opens c) (comes_of d (rooms.Opens c) w) w).acts ≡ asks_of w.acts
       unfolding come
@@ -498,12 +498,12 @@ module _ (d : Directory) (token : List ℕ) where
     handing_goes false (row ∷ rows) w = same w
     handing_goes true (row ∷ rows) w = record { early = λ had less. less; holds = λ had. record { calls_sent = had.calls_sent; rooms_sent = had.rooms_sent; numbered = had.numbered } }
 
-    -- ---- mailboxes: the answer of a NOTIFY is not waited for as that of an INVITE is
+    -- ---- mailboxes: the response to a NOTIFY is not awaited as that to an INVITE is
 
     notes_goes : (deed : boxes.Deed) (w : World) → Goes w (noting deed w)
     notes_goes deed w = drew_more w (noting deed w) 0 refl (omega arith) refl refl
 
-    -- what goes out without a number
+    -- what is sent without a number
     unnumbered_goes : (at : ℕ) (out : List Emit) (w : World) → AreNumbered d.sip token w.drawn w.drawn out → Goes w (emitted at out w)
     unnumbered_goes at out w are =
         let known : Asks = asks_of w.acts in
@@ -530,7 +530,7 @@ module _ (d : Directory) (token : List ℕ) where
     notice_numbered low peer last branch at table None = omega arith
     notice_numbered low peer last branch at table (Some s) = (low, inl (refl, unawaited d.sip s.leg.dialogue branch last (seconds_left s.until at) (counts_in s.account table)), omega arith)
 
-    -- the steps of message waiting, and what a request brings
+    -- the steps of message waiting, and the effect of a request
     box_steps : (at : ℕ) → AreSteps d token at Goes
     box_steps at = record {
       same = same;
@@ -563,7 +563,7 @@ module _ (d : Directory) (token : List ℕ) where
     box_answered_goes : (branch : Option (List ℕ)) (code : ℕ) (w : World) → Goes w (box_answered branch code w)
     box_answered_goes branch code w = mailing.answered Goes same (λ deed v none. notes_goes deed v) branch code w
 
-    -- ---- deadlines
+    -- ---- timers
 
     silenced_goes : (at : ℕ) (branch method : List ℕ) (whose : Whose) (w : World) → Goes w (silenced d token at branch method whose w)
     silenced_goes at branch method OfCalls w = signalled_goes at (signal.Silent branch method) w
@@ -641,7 +641,7 @@ module _ (d : Directory) (token : List ℕ) where
           then_goes w v (replaced d token at peer room seat replaces v) (noticed_goes at room seat 100 w) (replaced_by_goes peer (side_replaced replaces (calls_in d v).entries) v)
 
     module _ (at : ℕ) (s : Said) where
-      -- ---- who comes to a room
+      -- ---- who joins a conference
 
       turned_goes : (key : TKey) (tag : List ℕ) (code : ℕ) (w : World) → Goes w (turned_away d at key s tag code w)
       turned_goes key tag code w = drew_more w (turned_away d at key s tag code w) 0 refl (omega arith) refl refl

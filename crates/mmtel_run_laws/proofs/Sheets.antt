@@ -1,4 +1,4 @@
--- The records in force have clean URIs: each URI of a record is read of a text by the grammar of URIs.
+-- The records in force have URIs of one line: each URI of a record is read from a text by the grammar of URIs.
 use Rattle.std.proofs.Common.{◌≡◌, ℕ, Bool, true, false, List, [], ◌∷◌, ◌++◌, length, Option, Some, None, refl, IfOk, IfSome, Result, Ok, Err}
 use Rattle.std.specs.Prelude.{if◌then◌else◌, nat_lt, nat_le, not, ◌&&◌, ◌+◌, ℤ, int_lt, codes}
 use Rattle.std.specs.List.{list_all}

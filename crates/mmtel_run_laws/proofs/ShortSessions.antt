@@ -1,4 +1,4 @@
--- A 422 of the server's own comes for a session that is too short, and for nothing else.
+-- The server itself sends a 422 for a session that is too short, and for nothing else.
 use Rattle.std.proofs.Common.{◌≡◌, ◌∙◌, ◌==◌, ◌&&◌, ◌||◌, ℕ, Bool, true, false, not, List, [], ◌∷◌, length, Option, Some, None, Result, Ok, Err, refl, ap, sym, codes, arith}
 use Rattle.std.specs.Prelude.{if◌then◌else◌, is_none, is_some}
 use Rattle.std.proofs.lemmas.Bool.{and_parts, eqb-true}
@@ -31,7 +31,7 @@ use Rattle.mmtel_run_laws.specs.Sessions.{AsksTooLittle, IsElseTaken, IsElseTake
 
 -- ---- such a request is refused
 
--- the answer, by the conditions in their order
+-- the response, by the conditions in their order
 abbrev decided : Directory → HeardMessage → (known scheme hops dialog once : Bool) → (options : List (List ℕ)) → (timed : Bool) → Result (Option ℕ) SessionFault → Option Answer
 decided directory message known scheme hops dialog once options timed asked = first_that_applies (
     (not known, allowing directory 405) ∷ (scheme, plainly 416) ∷ (hops, plainly 483) ∷ (dialog, plainly 481) ∷ (once, plainly 482) ∷
@@ -47,7 +47,7 @@ refused directory merged full named message asks taken =
 
 -- ---- and no other
 
--- a course that is no 422
+-- a disposition that is no 422
 abbrev IsOther : Course → Type 0
 IsOther (Refuse answer) = answer.code ≡ 422 → ⊥
 IsOther (Enter call side) = Unit {0}
@@ -106,7 +106,7 @@ in_other : (directory : Directory) (full : Bool) (named : Option Holder) (messag
 in_other directory full None message = method_other directory full message
 in_other directory full (Some holder) message = entering_other holder message
 
--- what it is, it is no 422
+-- it is a disposition that is no 422
 not_so : (one : Course) (answer : Answer) → IsOther one → one ≡ Refuse answer → answer.code ≡ 422 → ⊥
 not_so (Refuse other) answer f is code = let same : other ≡ answer = cc in f (ap (λ (a : Answer). a.code) same ∙ code)
 not_so (Enter call side) answer f is code = cc
@@ -118,7 +118,7 @@ not_so (Register account seconds) answer f is code = cc
 not_so Subscribe answer f is code = cc
 not_so (EnterBox sub) answer f is code = cc
 
--- one of these conditions holds, and its answer is no 422
+-- one of these conditions holds, and its response is no 422
 refused_other : (A : Type 0) (code : ℕ) (answer given : Answer) → Refuse given ≡ Refuse answer → answer.code ≡ 422 → given.code ≡ code → (code ≡ 422 → ⊥) → A
 refused_other A code answer given is so number other = let same : given ≡ answer = cc in absurd (other (sym number ∙ ap (λ (a : Answer). a.code) same ∙ so))
 
@@ -132,7 +132,7 @@ none_left (option ∷ options) e =
     let none : length (option ∷ options) ≡ 0 = eqb-true (length (option ∷ options)) 0 (not_false (length (option ∷ options) == 0) e) in
     absurd (omega (arith, none))
 
--- what is asked for is too little
+-- the interval that is requested is too small
 small_of : (asked : Result (Option ℕ) SessionFault) → is_short_session asked ≡ true → (interval : ℕ) × (asked ≡ Err (session.Small interval))
 small_of (Ok interval) e = absurd (let f : false ≡ true = e in cc)
 small_of (Err session.Malformed) e = absurd (let f : false ≡ true = e in cc)
@@ -142,7 +142,7 @@ module _ (directory : Directory) (merged full : Bool) (named : Option Holder) (m
   abbrev Told : Type 0
   Told = AsksTooLittle directory message × IsElseTaken directory merged (is_some named) message × (answer ≡ too_small)
 
-  -- the course where this is the first that applies
+  -- the disposition where this is the first condition that applies
   abbrev by_first : List (Bool × Answer) → Course
   by_first others = course_by directory full named (public_part message) (first_that_applies others)
 
@@ -167,7 +167,7 @@ module _ (directory : Directory) (merged full : Bool) (named : Option Holder) (m
   abbrev foreign : List (Bool × Answer)
   foreign = (is_foreign message.start, plainly 416) ∷ hopless
 
-  -- one more condition: it holds, and its answer is another; or it does not
+  -- one more condition: it holds, and its response is another; or it does not
   on_next : (condition : Bool) (given : Answer) (others : List (Bool × Answer)) (code : ℕ) → given.code ≡ code → (code ≡ 422 → ⊥) →
       (condition ≡ false → by_first others ≡ Refuse answer → Told) → by_first ((condition, given) ∷ others) ≡ Refuse answer → Told
   on_next true given others code number other goes is = refused_other Told code answer given is so number other
@@ -207,7 +207,7 @@ alone : (directory : Directory) (merged full : Bool) (named : Option Holder) (me
     AsksTooLittle directory message × IsElseTaken directory merged (is_some named) message × (answer ≡ too_small)
 alone directory merged full named message answer is so = alone_at directory merged full named message answer so is
 
--- ---- in every world
+-- ---- in every state
 
 answered : (directory : Directory) (token : List ℕ) (at : ℕ) (key : TKey) (said : Said) (world : World) → AsksTooLittle directory said.heard → IsElseTakenIn directory world key said →
     taking_fresh directory token at key said world ≡ replying directory token at key said too_small world

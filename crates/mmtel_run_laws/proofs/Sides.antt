@@ -1,4 +1,4 @@
--- In each of two runs a message hides no more than the call knows that hears it.
+-- In each of two runs a message hides no more than the call that receives it determines.
 use Rattle.std.proofs.Common.{◌≡◌, ℕ, Bool, true, false, ◌&&◌, List, refl, ap, sym, ◌∙◌, Option, Some, None, subst}
 use Rattle.std.specs.Prelude.{if◌then◌else◌, is_none, is_some, position, slice_get}
 use Rattle.std.specs.Option.{option_map, unwrap_or}
@@ -83,7 +83,7 @@ module _ (wholes : MessagesAreWhole) (d : Directory) (keys : TKey → Bool) (x :
   fresh_by opens cancels subscribes =
       if opens then opening_role (hides_caller x u m.heard) else if cancels then unshown_request else if subscribes then Plain else dialog_role x u m
 
-  -- a request that is fresh, and no CANCEL
+  -- a request that is new, and no CANCEL
   fresh_is : (c : CallNo × Side) → part_of (head_of (message_in m.heard)) (live u.acts) ≡ part.Fresh → is_cancel (head_of (message_in m.heard)) ≡ false →
       named_by m.heard entries ≡ Some c
       → role_of x u m ≡ request_role_of x.reliable c.1 m (entry_of c.0.0 entries)
@@ -121,7 +121,7 @@ module _ (wholes : MessagesAreWhole) (d : Directory) (keys : TKey → Bool) (x :
     sent_any (trust_of (site_of x) (λ key. false)) S (λ peer. sym (same peer)) i.call.phase i.call c.1 m (tied.ack c.0.0 c.1 i named (entry_found c.0.0 place i entries q g)),
   )
 
-  -- whom the server trusts of a transaction that is of such a peer
+  -- whether the server trusts the peer of a transaction that is with such a peer
   known_by : (key : ℕ) (peer : Peer) (o : Option Peer) → ((q : Peer) → o ≡ Some q → keys (tkey key) ≡ trusts d q) → option_map (trusts x) o ≡ Some (trusts x peer) →
       keys (tkey key) ≡ trusts d peer
   known_by key peer None known is = let n : None ≡ Some (trusts x peer) = is in absurd cc
@@ -133,7 +133,7 @@ module _ (wholes : MessagesAreWhole) (d : Directory) (keys : TKey → Bool) (x :
   known : (key : ℕ) (peer : Peer) → IsOfOne x u (tkey key) peer → keys (tkey key) ≡ trusts d peer
   known key peer is = known_by key peer (peer_of key (live u.acts)) (λ q e. knows key q e) is
 
-  -- the INVITEs of calls that have this branch
+  -- the INVITEs of calls with this branch
   sent_with : (branch : List ℕ) → invite_answered m ≡ Some branch → position (sent_it (Some branch)) entries ≡ position (sent_it (invite_answered m)) entries
   sent_with branch is = sym (ap (λ (o : Option (List ℕ)). position (sent_it o) entries) is)
 
@@ -157,12 +157,12 @@ module _ (wholes : MessagesAreWhole) (d : Directory) (keys : TKey → Bool) (x :
         taken = λ at l a b. known key l.invitation.dialogue.peer (t.taken at l a b);
       })
 
-  -- ---- a response of a seat: no INVITE of a call has its branch
+  -- ---- a response for a participant: no INVITE of a call has its branch
 
   abbrev table : Table
   table = rooms_in x u
 
-  -- what is of the rooms is of no call
+  -- what is of the conferences is of no call
   abbrev calls_have : Whose → Bool
   calls_have OfCalls = true
   calls_have OfBoxes = false
@@ -188,7 +188,7 @@ module _ (wholes : MessagesAreWhole) (d : Directory) (keys : TKey → Bool) (x :
         ap (λ (o : Option ℕ). answered_role branch m (entry_at o entries))
         (none_of (position (sent_it (Some branch)) entries) (ap (λ (o : Option ℕ). is_some o) (sent_with branch is) ∙ none))
 
-    -- it hides where it comes from the peers of both
+    -- it hides something only where it comes from the peers of both
     seat_role : role_of x u m ≡ seat_answer_role m left asked
     seat_role =
         role_is (part.Answer key) p

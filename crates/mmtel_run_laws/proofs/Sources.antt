@@ -41,7 +41,7 @@ hex_all (b ∷ token) e =
 abbrev IsFine : Addr → Type 0
 IsFine addr = IsSource addr × (0 < addr.port)
 
--- the address that a line gives, where it gives one
+-- the address that a line sets, where it sets one
 abbrev IsFineLine : Line → Type 0
 IsFineLine l = IfSome (first_of (sip_in l)) IsFine
 

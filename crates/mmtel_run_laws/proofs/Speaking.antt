@@ -1,4 +1,4 @@
--- Of two messages that are the same without private places the same is read and decided, and the answers to them differ in texts to trusted peers alone.
+-- Of two messages that are the same without private places the same is read and decided, and the responses to them differ in texts to trusted peers alone.
 use Rattle.std.proofs.Common.{◌≡◌, ℕ, Bool, true, false, List, [], ap, sym, ◌∙◌, Option, None, codes, refl, subst}
 use Rattle.mmtel_answers.specs.Answers.{own_reply}
 use Rattle.mmtel_answers.specs.Said.{Said}
@@ -47,7 +47,7 @@ use Rattle.mmtel_run_laws.proofs.BoxesAlike.{AskAlike, SubscribeAlike}
 use Rattle.mmtel_run_laws.proofs.Fits.{true_false}
 use Rattle.mmtel_run_laws.proofs.Testing.{lines_by, plain_identities, unplaced}
 
--- ---- the dialog of an INVITE: what is private of it is what a dialog leaves out
+-- ---- the dialog of an INVITE: its private places are those that a dialog leaves out
 
 hide_absorbs : (b : Bool) (v : List ℕ) → hide_if true (hide_if b v) ≡ hide_if true v
 hide_absorbs true v = hidden_once v
@@ -62,7 +62,7 @@ opened_by : (b : Bool) (p : Places) (peer : Peer) (h : HeardMessage) (tag : List
 opened_by true p peer h tag asked = opened_hidden (places_in h.start p) peer h.lines tag (request_to p h.start asked)
 opened_by false p peer h tag asked = refl
 
--- ---- and of a request that hides but private entries of History-Info nothing that a dialog has is private
+-- ---- and in a request that hides only private entries of History-Info nothing that a dialog stores is private
 
 remote_plain : (es : Entries) (ls : List Line) → remote_of Caller (masked_lines (only es) ls) ≡ remote_of Caller ls
 remote_plain es ls = remotes (only es) Caller ls ∙ ap (λ (t : List ℕ). aiming_at t (remote_of Caller ls)) (target (only es) ls refl)
@@ -132,7 +132,7 @@ module _ (heads : HeardAlikeHaveOneHead) (responses : AlikeResponsesHaveOneHead)
 
     -- ---- what is decided
 
-    -- for whom a peer registers is never private
+    -- whom a peer registers is never private
     pub registered_same : registrant d.names.accounts n.heard ≡ registrant e.names.accounts n.heard → registrant d.names.accounts m.heard ≡ registrant e.names.accounts n.heard
     registered_same looks = ap (λ (h : HeardMessage). registrant d.names.accounts h) public_same ∙ looks
 
@@ -159,7 +159,7 @@ module _ (heads : HeardAlikeHaveOneHead) (responses : AlikeResponsesHaveOneHead)
     pub refer_same : m.heard.refer_to ≡ n.heard.refer_to
     refer_same = ap (λ (x : Said). x.heard.refer_to) same
 
-    -- ---- whose leg it is that comes
+    -- ---- the leg of the party that joins
 
     -- the dialog of an INVITE without private places is the same but for these
     pub leg_same : (tag : List ℕ) → m.heard.trusted ≡ trusts d m.peer → n.heard.trusted ≡ trusts d n.peer → is_request m.heard.start ≡ true → is_request n.heard.start ≡ true →
@@ -172,7 +172,7 @@ module _ (heads : HeardAlikeHaveOneHead) (responses : AlikeResponsesHaveOneHead)
         ∙ (opened_by n.heard.trusted (private_places s n.heard) n.peer n.heard tag request_too
         ∙ ap (λ (b : Bool). public_dialog_by b (opened_dialog n.peer n.heard.lines tag)) told_too))))
 
-    -- ---- what is asked of a mailbox
+    -- ---- what a request asks of a mailbox
 
     pub asked_same : AskAlike m n
     asked_same = record {
@@ -183,7 +183,7 @@ module _ (heads : HeardAlikeHaveOneHead) (responses : AlikeResponsesHaveOneHead)
           ∙ (ap (λ (x : Said). number_in x.heard.lines) same ∙ number_by n.heard.trusted (private_places s n.heard) n.heard);
     }
 
-    -- of two SUBSCRIBEs, which hide but private entries of History-Info
+    -- for two SUBSCRIBEs, which hide only private entries of History-Info
     module _ (one : r ≡ Plain) (other : s ≡ Plain) (looks : sender_of d (without_private s n).heard ≡ sender_of e (without_private s n).heard)
         (looks_too : mailbox_named d n.heard ≡ mailbox_named e n.heard) where
       plain_same : without_private Plain m ≡ without_private Plain n
@@ -212,7 +212,7 @@ module _ (heads : HeardAlikeHaveOneHead) (responses : AlikeResponsesHaveOneHead)
         leg = λ tag. sym (leg_plain tag m) ∙ (ap (leg_by tag) plain_same ∙ leg_plain tag n);
       }
 
-    -- ---- the answers
+    -- ---- the responses
 
     pub reply_head : (tag : List ℕ) (answer : Answer) → is_request m.heard.start ≡ true → head_of (response_to d.sip tag m answer) ≡ head_of (response_to e.sip tag n answer)
     reply_head tag answer request =

@@ -1,4 +1,4 @@
--- How things stood for a call of a run, each time that it heard something, and in which step it made each of its diversions.
+-- The state of the run for each signal that a call of it received, and in which step it made each of its diversions.
 use Rattle.std.proofs.Common.{◌≡◌, ℕ, ◌-◌, List, [], ◌∷◌, ◌++◌, Option, Some, None, refl, ap, sym, ◌∙◌, subst, Bool, true, false, inl, inr, IfSome, append_assoc}
 use Rattle.std.proofs.lemmas.Bool.{eqb-true}
 use Rattle.std.specs.Prelude.{◌⊎◌, nat_lt, if◌then◌else◌, option_to_list}
@@ -43,7 +43,7 @@ use Rattle.mmtel_run.specs.World.{World}
 use Rattle.mmtel_run_laws.specs.Stood.{HeardIn, Later, NotYet, Opening, ReachedIn, StoodIn, inputs_of, made_by}
 use Rattle.mmtel_run_laws.proofs.Telling.{AllTold, IsTold, ToldIn}
 
--- ---- what is no signal makes no diversion
+-- ---- an event that is no signal makes no diversion
 
 lent-left : (phase : Phase) (side : Side) (c : Call) → (lent_in phase side c).diversions ≡ c.diversions
 lent-left (Offered x) side c = refl
@@ -87,12 +87,12 @@ module _ (texts_law : TextsAreThoseKept) (last_law : LastIsInForce) (told_law : 
   abbrev StoodSo : ℕ → Life → Option Account → Standing → Type 0
   StoodSo number came own now = StoodIn (inputs_of d token loaded) fuel whole number came own now
 
-  -- a deed of the call of this number, by which its life came to be this one
+  -- an operation of the call of this number, by which its trace became this one
   record ComesBy (number : ℕ) (deed : Deed) (older : List Deed) (came : Life) : Type 0 where
     mine : is_number number (call_of (site_of d) deed (table_after (site_of d) older)) ≡ true
     comes : life_of (site_of d) number (deed ∷ older) ≡ Some came
 
-  -- as the calls were told then
+  -- the state as the calls got it then
   stood : (number : ℕ) (came : Life) (own : Option Account) (x : Heard) (older : List Deed) → ToldIn d token loaded fuel whole x older → ComesBy number (Hears x) older came →
       StoodSo number came own (standing x.at x.view (option_to_list own ++ busy_beside number (table_after (site_of d) older).entries))
   stood number came own x older t by =
@@ -118,9 +118,9 @@ module _ (texts_law : TextsAreThoseKept) (last_law : LastIsInForce) (told_law : 
         live = ap (λ (deeds : List Deed). calls_among (option_to_list own ++ busy_beside number (table_after (site_of d) deeds).entries)) t.is;
       }
 
-  -- ---- a life
+  -- ---- a trace
 
-  -- each signal that came to it, by its own deed
+  -- each signal of it, by its own operation
   abbrev StoodThen : ℕ → Start → Event → List Event → Type 0
   StoodThen number s (lives.Hears x) older = StoodSo number (record { start = s; events = lives.Hears x ∷ older }) None x.now
   StoodThen number s (lives.Releases side) older = Unit {0}
@@ -135,7 +135,7 @@ module _ (texts_law : TextsAreThoseKept) (last_law : LastIsInForce) (told_law : 
     pub opened : StoodSo number (record { start = life.start; events = [] }) life.start.arrival.served.origin life.start.now
     pub events : AllStoodThen number life.start life.events
 
-  -- with the call of this number it opens
+  -- the call of this number opens by it
   opens-so : (number : ℕ) (x : Heard) (older : List Deed) (a : Arrival) (came : Life) → came ≡ record { start = start_by (site_of d) x (table_after (site_of d) older).entries a; events = [] } →
       (a.number.0 ≡ number) → ToldIn d token loaded fuel whole x older → ComesBy number (Hears x) older came →
       StoodSo number came a.served.origin (start_by (site_of d) x (table_after (site_of d) older).entries a).now
@@ -215,7 +215,7 @@ module _ (texts_law : TextsAreThoseKept) (last_law : LastIsInForce) (told_law : 
     abbrev heard-so : (x : story.Heard) (newer older : List Event) → events ≡ newer ++ lives.Hears x ∷ older → StoodThen number s (lives.Hears x) older → HeardSo x.now
     heard-so x newer older is t = record { heard = x; earlier = older; later = newer; in_order = is; so = refl; stood = t }
 
-    -- one that was made by then
+    -- a diversion that was made by then
     by-step : (k : ℕ) (x : Event) (newer older : List Event) → events ≡ newer ++ x ∷ older → StoodThen number s x older → nat_lt k (made_by s older) ≡ false → nat_lt k (made_by s (x ∷ older)) ≡ true →
         Reached k (standing_by x (stood_after s older k))
     by-step k (lives.Hears x) newer older is t before after = Later (heard-so x newer older is t) before after
@@ -236,7 +236,7 @@ module _ (texts_law : TextsAreThoseKept) (last_law : LastIsInForce) (told_law : 
         go true before earlier = earlier before
         go false before earlier = by-step k x newer older is t.0 before made
 
-    -- as things stand in some step
+    -- the state in some step
     abbrev SomeStep : Standing → Type 0
     SomeStep now = HeardSo now ⊎ (now ≡ s.now)
 

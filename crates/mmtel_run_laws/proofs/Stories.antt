@@ -1,4 +1,4 @@
--- The 181s of a life, whatever comes to the call: those that are due of its diversions.
+-- The 181s of a trace, whatever happens to the call: those that are due for its diversions.
 use Rattle.std.proofs.Common.{◌≡◌, Bool, true, false, List, [], ◌∷◌, ◌++◌, length, drop, refl, sym, ap, ◌∙◌, append-nil}
 use Rattle.mmtel_b2bua_laws.specs.Known.{outcome_after}
 use Rattle.mmtel_b2bua_laws.specs.Lives.{Event, call_after}
@@ -34,7 +34,7 @@ drop-all : {A : Type 0} (xs : List A) → drop (length xs) xs ≡ []
 drop-all [] = refl
 drop-all (x ∷ xs) = drop-all xs
 
--- a signal that says nothing
+-- a signal that has no effect
 quiet-none : (s : Start) (x : Heard) (c : Call) → own_notices s (quiet x) (added x.desk.out (next_step s (quiet x) c).desk.out) ≡ []
 unfolding step row
 quiet-none s x c = none-own s (quiet x) (added x.desk.out x.desk.out) (ap (notices_in s.arrival.key) (drop-all x.desk.out))
@@ -42,7 +42,7 @@ quiet-none s x c = none-own s (quiet x) (added x.desk.out x.desk.out) (ap (notic
 no-more : (notices more : List (Message StartLine)) → more ≡ [] → notices ++ more ≡ notices
 no-more notices more e = ap (λ l. notices ++ l) e ∙ append-nil notices
 
--- ---- a life beside its story
+-- ---- the trace with transfers beside the plain trace
 
 module _ (silent : TellsNothingLater) (ends : EndsInSilence) (s : Start) where
   -- both have the same 181s
@@ -63,7 +63,7 @@ module _ (silent : TellsNothingLater) (ends : EndsInSilence) (s : Start) where
     finishes = λ at desk earlier heard r. no-more (notices_of s earlier) _ (ends s.site at (call_after s earlier) desk s.arrival.key) ∙ r;
   }
 
--- the server's own 181s are those of the diversions that its Outcome says were made
+-- the server's own 181s are those of the diversions that its Outcome contains
 pub lives_told : CallsGoOn → ChargingIsExact → TellsOfItsDiversions → TellsNothingLater → EndsInSilence → (s : Start) (events : List Event) →
     notices_of s events ≡ notices_due s.site (opening_in s) (received_list s.arrival.invite) (outcome_after s events).targets
 lives_told goes charged told silent ends s events =

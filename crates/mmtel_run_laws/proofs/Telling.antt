@@ -1,4 +1,4 @@
--- Each deed of a run: what it was heard with, and in which event; which transactions its requests have; and what was done on rooms.
+-- Each operation of a run: with what it was received, and in which event; which transactions its requests have; and what was done on conferences.
 use Rattle.std.proofs.Common.{◌≡◌, ℕ, List, [], ◌∷◌, ◌++◌, ◌≤◌, None, refl, sym, ap, ◌∙◌, subst, append_assoc, append-nil, le_refl}
 use Rattle.mmtel_b2bua.specs.Histories.{Deed, Drops, Finishes, Heard, Hears, Releases, Restores}
 use Rattle.mmtel_b2bua_laws.specs.Legs.{LegsGoBack}
@@ -32,7 +32,7 @@ module _ (d : Directory) (token : List ℕ) (loaded : Texts) (fuel : ℕ) (whole
       ap (λ (ns : List Notice). after d token fuel ns (beginning loaded)) (notices-append d earlier (event ∷ []))
       ∙ after-append d token fuel (notices d earlier) (notice_of d event ∷ []) (beginning loaded)
 
-  -- ---- a deed of a run, where these were done before it
+  -- ---- an operation of a run, where these were done before it
 
   pub record ToldIn (x : Heard) (older : List Deed) : Type 0 where
     pub earlier : List Happened
@@ -57,7 +57,7 @@ module _ (d : Directory) (token : List ℕ) (loaded : Texts) (fuel : ℕ) (whole
   AllTold [] = Unit {0}
   AllTold (deed ∷ older) = IsTold deed older × AllTold older
 
-  -- the run of these events, up to there
+  -- the run of these events, up to that point
   pub record WellTold (happened : List Happened) : Type 0 where
     pub deeds : AllTold (deeds_after (inputs_of d token loaded) fuel happened)
     pub keyed : IsKeyed d (at_end_of happened)

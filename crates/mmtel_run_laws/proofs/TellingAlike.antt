@@ -1,4 +1,4 @@
--- What is heard of a peer leaves alike worlds alike, where two messages are the same but for private places and the tests beside them have the same answers.
+-- What is received from a peer keeps two states indistinguishable, where two messages are the same but for private places and their tests have the same results.
 use Rattle.std.proofs.Common.{◌≡◌, ℕ, ◌+◌, ◌==◌, Bool, true, false, ◌&&◌, List, [], ◌∷◌, ◌++◌, length, refl, sym, ap, ◌∙◌, Option, Some, None, Result, Ok, Err, subst, append-nil, codes}
 use Rattle.std.specs.Prelude.{if◌then◌else◌}
 use Rattle.std.specs.List.{find}
@@ -103,7 +103,7 @@ pub record Below : Type 0 where
 some_same : (A : Type 0) (x y : A) → Some x ≡ Some y → x ≡ y
 some_same A x y e = cc
 
--- ---- that a request was accepted is seen of its answer
+-- ---- that a request was accepted is observed from its response
 
 status_in : (start : Start) (o : Option Five) → status_of start ≡ (head_with start o).status
 status_in (Request method uri) None = refl
@@ -181,7 +181,7 @@ module _ (below : Below) (records : List Sheet) (d e : Directory) (token : List 
   tag_alike : (i j : ℕ) (s t : Option (List ℕ)) → i ≡ j → s ≡ t → tag_for token i s ≡ tag_for token j t
   tag_alike i j s t x y = ap (λ (k : ℕ). tag_for token k s) x ∙ ap (tag_for token j) y
 
-  -- ---- repeats
+  -- ---- retransmissions
 
   abbrev offers_given : ℕ → Option (Peer × List ℕ) → List Offer
   offers_given at None = []
@@ -233,14 +233,14 @@ module _ (below : Below) (records : List Sheet) (d e : Directory) (token : List 
     knows_one : Knows d keys v.acts
     knows_one key q is = knows w.acts kw key q (sym (((below.texts (trusts d) v.acts w.acts a.alike.acts).0).peer key) ∙ is)
 
-    -- ---- what was heard
+    -- ---- what was received
 
     heard_alike : (t : Part) → Two (record v { acts = DidHear m.peer M at t ∷ v.acts }) (record w { acts = DidHear n.peer N at t ∷ w.acts })
     heard_alike t =
         acting-alike below.texts records d e keys K older knows _ _ v w
         (subst (λ (p : Peer). Alike (trusts d) (DidHear m.peer M at t ∷ v.acts) (DidHear p N at t ∷ w.acts)) peers (((below.texts (trusts d) v.acts w.acts a.alike.acts).1).hears m.peer M N at t one_head)) a
 
-    -- ---- answers
+    -- ---- responses
 
     strange_one : (q : Peer) → q ≡ n.peer → trusts d q ≡ false → m.heard.trusted ≡ false
     strange_one q is strange = told_one ∙ (ap (trusts d) (peers ∙ sym is) ∙ strange)
@@ -309,7 +309,7 @@ module _ (below : Below) (records : List Sheet) (d e : Directory) (token : List 
       asks_too = asked_too;
     }
 
-    -- an INVITE that opens a call: who takes part, and what is decided of the caller
+    -- an INVITE that opens a call: its parties, and what is decided about the caller
     openings_same : is_opening m.heard ≡ true → is_opening n.heard ≡ true → tests_of d.names.accounts (asked_in records) m.heard ≡ tests_of e.names.accounts (asked_in records) n.heard
     openings_same i j = tests_same d e (asked_in records) m n r s same tests caller_looks i j
 
@@ -377,16 +377,16 @@ module _ (below : Below) (records : List Sheet) (d e : Directory) (token : List 
       asks_too = tt;
     }
 
-    -- ---- what rooms hear
+    -- ---- what conferences receive
 
     abbrev pair : both.Pair
     pair = record { one = record { said = m; role = r }; other = record { said = n; role = s } }
 
-    -- what a mailbox is asked
+    -- what a request asks of a mailbox
     asked_alike : AskAlike m n
     asked_alike = asked_same below.heads below.responses below.kin d e sites.equal m n r s same
 
-    -- what follows of a request that was accepted
+    -- what follows from a request that was accepted
     start_is : m.heard.start ≡ n.heard.start
     start_is = start_same below.heads below.responses below.kin d e sites.equal m n r s same
 
@@ -413,12 +413,12 @@ module _ (below : Below) (records : List Sheet) (d e : Directory) (token : List 
       asked_too : IsAsked S key n
       asked_too = record { request = request_too; told = told_two; known = known }
 
-      -- ---- who comes to a room
+      -- ---- who joins a conference
 
       tag_next : (u z : World) → u.drawn ≡ z.drawn → next_tag token u ≡ next_tag token z
       tag_next u z i = ap (λ (k : ℕ). token_text token (k + 1)) i
 
-      -- an answer with this tag
+      -- a response with this tag
       tagged-alike : (tag : List ℕ) (answer : Answer) (u z : World) → ((q : Peer) → peer_of key.0 (live z.acts) ≡ Some q → q ≡ n.peer) → Two u z →
           Two (emit_one at (emit.Reply key (response_to d.sip tag m answer)) u) (emit_one at (emit.Reply key (response_to e.sip tag n answer)) z)
       tagged-alike tag answer u z its c =
@@ -450,7 +450,7 @@ module _ (below : Below) (records : List Sheet) (d e : Directory) (token : List 
       caller_same : is_opening m.heard ≡ true → is_opening n.heard ≡ true → caller_account d.names.accounts m.heard ≡ caller_account e.names.accounts n.heard
       caller_same i j = ap (λ (z : Tests). z.caller) (openings_same i j)
 
-      -- a room of its own
+      -- a conference of its own
       abbrev opened_by : (tag : List ℕ) → Option Account → World → World
       opened_by tag account u = lodging at (rooms.Opens (coming at (leg_by tag m) account key m)) (comes_of d (rooms.Opens (coming at (leg_by tag m) account key m)) u) u
 
@@ -471,7 +471,7 @@ module _ (below : Below) (records : List Sheet) (d e : Directory) (token : List 
           (room_opened-alike (next_tag token w1) (has_no_room (rooms_in e w1).live) (drawing 1 v1) (drawing 1 w1) (caller_same i j) of_peer
           (drawing-alike below.texts records d e keys K older knows 1 1 v1 w1 refl b) k))
 
-      -- a seat
+      -- a participant
       abbrev joined_by : RoomNo → (tag : List ℕ) → Option Account → Drawn → World → World
       joined_by room tag account tokens u =
           housed d at (rooms.Joins room.0 (record { at = at; tokens = tokens; leg = released.Caller (leg_by tag m); account = account; key = key; invite = m })) u
@@ -496,7 +496,7 @@ module _ (below : Below) (records : List Sheet) (d e : Directory) (token : List 
           (room_joined-alike room (next_tag token w1) (access room.0 (rooms_in e w1).live) (drawing 1 v1) (drawing 1 w1) (caller_same i j) of_peer
           (drawing-alike below.texts records d e keys K older knows 1 1 v1 w1 refl b) k))
 
-      -- a request of a seat
+      -- a request of a participant
       entering_room-alike : (room : RoomNo) (seat : ℕ) → K (entering_room e token at key n room seat w1).acts →
           Two (entering_room d token at key m room seat v1) (entering_room e token at key n room seat w1)
       entering_room-alike room seat k =
@@ -616,7 +616,7 @@ module _ (below : Below) (records : List Sheet) (d e : Directory) (token : List 
         subst (λ (o : Option Holder). Two (acknowledging_by d token at m o (record v { acts = x.acts })) (acknowledging e token at n (record w { acts = y.acts }))) (sym holders_same)
         (acknowledging_by-alike (holder_in e n.heard w) x y b p q holders_same refl k)
 
-    -- ---- a response: of the calls where one of their INVITEs has its branch, of the mailboxes where one of their NOTIFYs has it, and else of the rooms
+    -- ---- a response: it belongs to the calls where one of their INVITEs has its branch, to the subscriptions where one of their NOTIFYs has it, and else to the conferences
 
     branch_same : invite_answered m ≡ invite_answered n
     unfolding invite_answered
@@ -657,7 +657,7 @@ module _ (below : Below) (records : List Sheet) (d e : Directory) (token : List 
         subst (λ (whose : Whose). Two (responding_to d token at (tkey key) m whose (record v { acts = x.acts })) (responding e token at (tkey key) n (record w { acts = y.acts }))) (sym whose_same)
         (responding_to-alike key of_two x y b p q whose_same refl k)
 
-    -- ---- by what the transactions take it for
+    -- ---- by how the transactions classify it
 
     abbrev hearing_by : Peer → Message Start → Part → Option transaction.Heard → World → World
     hearing_by peer z t None u = u

@@ -1,5 +1,5 @@
--- What is asked of who opens a call has the same answers in two runs that are the same without private places: by the tests beside the INVITE where it hides its caller, and
--- else by what it says of it.
+-- The tests of the caller who opens a call have the same results in two runs that are the same without private places: by the tests of the INVITE where it hides its caller, and
+-- else by what it contains of the caller.
 use Rattle.std.proofs.Common.{◌≡◌, ◌⊎◌, Bool, true, false, ◌&&◌, List, refl, sym, ap, ◌∙◌, subst, Option, Some, None, inl, inr, map}
 use Rattle.std.specs.Prelude.{if◌then◌else◌}
 use Rattle.mmtel_answers.specs.Said.{Said}
@@ -23,7 +23,7 @@ use Rattle.mmtel_run_laws.specs.Alike.{CallerLooksUp}
 use Rattle.mmtel_run_laws.specs.Belonging.{is_opening}
 use Rattle.mmtel_run_laws.specs.Mask.{Tests, tests_beside, tests_of}
 
--- ---- a message that hides nobody says who its sender is
+-- ---- a message that hides nobody contains who its sender is
 
 no_places : (es : Entries) (request moves : Bool) → record (only es) { to = if request then false else false; contact = if moves then false else false } ≡ only es
 no_places es true true = refl
@@ -83,7 +83,7 @@ module _ (d e : Directory) (asked : List Who) (m n : Said) (r s : Role) (same : 
   abbrev two : Tests
   two = tests_of e.names.accounts asked n.heard
 
-  -- the tests beside an opening, by whether it hides its caller
+  -- the tests of an opening, by whether it hides its caller
   beside : (b h : Bool) (t : Tests) → b ≡ true → (if b && h then Some t else None) ≡ (if h then Some t else None)
   beside b h t is = ap (λ (c : Bool). if c && h then Some t else None) is
 

@@ -1,4 +1,4 @@
--- Each response of a run is of the peer to whom the INVITE, PRACK or UPDATE that it answers went, and each INVITE whose 2xx is acknowledged went to the peer of the other leg.
+-- Each response of a run comes from the peer to which its INVITE, PRACK or UPDATE was sent, and each INVITE whose 2xx is acknowledged was sent to the peer of the other leg.
 use Rattle.std.proofs.Common.{◌≡◌, ℕ, suc, Bool, true, false, List, [], ◌∷◌, Option, Some, None, Ok, Err, refl, sym, ap, ◌∙◌, subst, inl, inr, arith, codes}
 use Rattle.std.specs.Prelude.{position, slice_get}
 use Rattle.std.specs.Option.{option_map}
@@ -74,7 +74,7 @@ use Rattle.mmtel_run_laws.proofs.CourseKinds.{answer_response, head_request}
 use Rattle.mmtel_run_laws.proofs.Fits.{true_false}
 use Rattle.mmtel_run_laws.proofs.SentOnce.{EntryWasSent, Holds, Once, begins, coming_goes, each_at, one_goes}
 
--- ---- places in a list
+-- ---- positions in a list
 
 passes : {A : Type 0} (p : A → Bool) (xs : List A) (at : ℕ) (x : A) → position p xs ≡ Some at → slice_get xs at ≡ Some x → p x ≡ true
 passes p xs at x found got = sym (ap p (get_or_from_slice_get xs at x x got)) ∙ (position-Some p xs at x found).1
@@ -88,7 +88,7 @@ entry_in : (P : Entry → Type 0) (o : Option ℕ) (es : List Entry) (e : Entry)
 entry_in P None es e had is = let none : None ≡ Some e = is in absurd cc
 entry_in P (Some place) es e had is = each_at P es place e had is
 
--- ---- the INVITE that a call waits on
+-- ---- the INVITE whose response a call awaits
 
 some_same : (i j : Invitation) → Some i ≡ Some j → i ≡ j
 some_same i j e = cc
@@ -113,7 +113,7 @@ module _ (sent : List ℕ → Peer → Type 0) where
   with_branch : (one other : List ℕ) (peer : Peer) → bytes_eq one other ≡ true → sent one peer → sent other peer
   with_branch one other peer same is = subst (λ (b : List ℕ). sent b peer) (text_same one other same) is
 
--- what is in flight is waited for
+-- the response to what is in flight is awaited
 waits : (kind : FlightKind) → is_awaited_method (method_of kind) ≡ true
 waits Prack = refl
 waits Update = refl
@@ -124,7 +124,7 @@ side_is Caller Callee e = absurd (true_false (sym e))
 side_is Callee Caller e = absurd (true_false (sym e))
 side_is Callee Callee e = refl
 
--- ---- a world
+-- ---- a state
 
 module _ (differ : TokensDiffer) (owners : OwnersAreLive)
     (fives : (b : List ℕ) (m : Message Start) → reads b ≡ Ok m → (five : Five) × (five_at m.lines ≡ Some five))
@@ -135,7 +135,7 @@ module _ (differ : TokensDiffer) (owners : OwnersAreLive)
     abbrev Was : List ℕ → Peer → Type 0
     Was = WasSent d.sip (asks_of w.acts)
 
-    -- a request of this branch whose answer is waited for went to this peer
+    -- a request of this branch whose response is awaited was sent to this peer
     abbrev Went : List ℕ → Peer → Type 0
     Went = AwaitedWasSent d.sip token (asks_of w.acts)
 
@@ -185,7 +185,7 @@ module _ (differ : TokensDiffer) (owners : OwnersAreLive)
           tie : (key : ℕ) (q : Peer) → peer_of key (live w.acts) ≡ Some q → (branch : List ℕ) → Went branch q → (peer : Peer) → Went branch peer → IsOfOne d w (record { 0 = key }) peer
           tie key q of_q branch was peer too = ap (option_map (trusts d)) of_q ∙ ap (λ (p : Peer). Some (trusts d p)) (one_peer branch q peer was too)
 
-    -- a response of a seat
+    -- a response for a participant
     module _ (m : Said) (is : WasRead m) where
       seat_tied : SeatResponseIsTied d w m
       seat_tied key branch part_is answered =
@@ -235,7 +235,7 @@ module _ (differ : TokensDiffer) (owners : OwnersAreLive)
         let sent : CallWasSent (WasAsked d.sip (asks_of w.acts)) e.call = entry_in (EntryWasSent d.sip (asks_of w.acts)) (place_of call (calls_in d w).entries) (calls_in d w).entries e had.calls_sent found in
         ack_in e.call.phase e.call side m sent.phase_in sent.others_in.taken_in
 
-    -- what was read of a digest
+    -- what was read of an event
     digest_tied : (x : Digest) → ((m : Said) → x ≡ Events.Heard m → WasRead m) → DigestIsTied d w x
     digest_tied Events.Nothing was = tt
     digest_tied (Events.Refused peer source reply) was = tt
@@ -258,7 +258,7 @@ module _ (differ : TokensDiffer) (owners : OwnersAreLive)
     all_tied once fuel xs (one_more d token fuel x w) ((one_goes d token once fuel x w).holds had) all.1,
   )
 
--- ---- whatever is heard was read
+-- ---- whatever is received was read
 
 abbrev WasReadOf : Digest → Type 0
 WasReadOf x = (m : Said) → x ≡ Events.Heard m → WasRead m

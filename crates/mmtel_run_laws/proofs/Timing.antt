@@ -1,4 +1,4 @@
--- Each step of a run is of one moment.
+-- Each step of a run has one moment.
 use Rattle.std.proofs.Common.{◌≡◌, ℕ, zero, suc, List, [], ◌∷◌, ◌++◌, length, refl, sym, ap, ◌∙◌, Option, Some, None, append_assoc, append-nil}
 use Rattle.mmtel_b2bua.specs.Histories.{Deed, Drops}
 use Rattle.mmtel_call_laws.proofs.Heads.Sending.{each_append}
@@ -20,7 +20,7 @@ use Rattle.mmtel_run.specs.World.{World, bringing, emit_one, emitted, lending, l
 use Rattle.mmtel_run_laws.specs.Timed.{AreFired, AreTimed, IsCallDeedAt, IsOfferAt, IsRoomDeedAt, IsStepAt, IsStepIf, moment_due}
 use Rattle.mmtel_run_laws.proofs.Walking.{FiresBy, IsWalked, came_at, fires_at}
 
--- what is done at this moment, in a world
+-- what is done at this moment, in a state
 abbrev Timed : ℕ → (World → World) → Type 0
 Timed at f = (w : World) → IsStepAt at w (f w)
 
@@ -55,7 +55,7 @@ after_it {at} u v w s t = record {
   offers_at = each_append (IsOfferAt at) s.offers t.offers s.offers_at t.offers_at;
 }
 
--- these are offered
+-- these are the outputs
 offered_at : {at : ℕ} (w v : World) (offers : List Offer) → v.deeds ≡ w.deeds → v.rooms ≡ w.rooms → v.offers ≡ w.offers ++ offers → Each (IsOfferAt at) offers → IsStepAt at w v
 offered_at w v offers deeds seats offered is = record {
   calls = [];
@@ -87,7 +87,7 @@ module _ (at : ℕ) where
   emitted_at [] w = still w
   emitted_at (x ∷ xs) w = after_it w (emit_one at x w) (emitted at xs (emit_one at x w)) (emit_at x w) (emitted_at xs (emit_one at x w))
 
-  -- ---- what is done on calls and rooms
+  -- ---- operations on calls and conferences
 
   lending_at : (deed : Deed) → IsCallDeedAt at deed → Timed at (lending deed)
   lending_at deed is w = record {
@@ -134,7 +134,7 @@ module _ (at : ℕ) where
       } in
       after_it w v (emitted at desk.out v) done (emitted_at desk.out v)
 
--- ---- so it is with every word
+-- ---- this holds for every definition
 
 module _ (d : Directory) (token : List ℕ) (begins : BeginsChangeNothing) where
   timed : IsWalked d IsStepAt

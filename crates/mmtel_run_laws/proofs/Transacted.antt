@@ -1,4 +1,4 @@
--- The texts that transactions keep, and send again, are those of requests and responses that were built.
+-- The texts that transactions keep, and retransmit, are those of requests and responses that were built.
 use Rattle.std.proofs.Common.{◌≡◌, ℕ, zero, suc, ◌+◌, ◌==◌, Bool, true, false, not, ◌&&◌, ◌||◌, List, [], ◌∷◌, ◌++◌, length, Option, Some, None, inl, inr, refl, sym, ap, ◌∙◌, subst, IfSome, map, cond, arith}
 use Rattle.std.specs.Prelude.{if◌then◌else◌, nat_lt, nat_le, filter, find, is_some, IsSome, option_map, slice_get, slice_set}
 use Rattle.std.specs.Option.{option_or, unwrap_or}
@@ -33,9 +33,9 @@ use Rattle.mmtel_scan.specs.Chain.{◌>>=◌}
 use Rattle.mmtel_types.specs.declared.numbers.Peer.{Peer}
 use Rattle.mmtel_run_laws.specs.Clean.{Builds, IsSentIn}
 
--- ---- what was done on transactions
+-- ---- the operations on transactions
 
--- what is built is clean, and what is heard is taken for what the transactions make of it
+-- what is built has no injected header fields, and what is received is classified as the transactions do
 abbrev pub IsGoodAct : Done → List Done → Type 0
 IsGoodAct (DidBegin step) h = Unit {0}
 IsGoodAct (DidHear p m now taken) h = taken ≡ part_of (head_of m) (live h)
@@ -49,17 +49,17 @@ abbrev pub AreGoodActs : List Done → Type 0
 AreGoodActs [] = Unit {0}
 AreGoodActs (c ∷ h) = IsGoodAct c h × AreGoodActs h
 
--- the text of what is built by this is sent by it
+-- the text of what this operation builds is sent by it
 sent_now : (c : Done) (h : List Done) (m : Message Start) → Builds c m → IsSentIn (c ∷ h) (message_text m)
 sent_now c h m built = record { message = m; built = inl built; is = refl }
 
--- and what was sent before is sent still
+-- and what was sent before is still sent
 pub sent_still : (c : Done) (h : List Done) (text : List ℕ) → IsSentIn h text → IsSentIn (c ∷ h) text
 sent_still c h text t = record { message = t.message; built = inr t.built; is = t.is }
 
 -- ---- what a transaction keeps
 
--- a server transaction sends only a final response again, and that it has
+-- a server transaction retransmits only a final response, which it has
 abbrev Waits : Plan → Option (List ℕ) → Type 0
 Waits Idle last = Unit {0}
 Waits Invite last = ⊥
@@ -69,7 +69,7 @@ Waits Final last = IsSome last
 Waits End last = Unit {0}
 Waits plan.Acked last = Unit {0}
 
--- the texts of reliable answers are of these
+-- the texts of reliable responses are of these
 abbrev AreOf : (List ℕ → Type 0) → List ReliableAnswer → Type 0
 AreOf T answers = Each (λ (answer : ReliableAnswer). T answer.text) answers
 
@@ -89,7 +89,7 @@ still-waits Final last text w = refl
 still-waits End last text w = tt
 still-waits plan.Acked last text w = tt
 
--- ---- its reliable answers
+-- ---- its reliable responses
 
 each-set : {A : Type 0} (P : A → Type 0) (xs : List A) (place : ℕ) (y : A) → P y → Each P xs → Each P (slice_set xs place y)
 each-set P [] place y is k = tt
@@ -101,7 +101,7 @@ each-get P [] place y is k = absurd (none-some y is)
 each-get P (x ∷ xs) zero y is k = subst P (same_Some x y is) k.0
 each-get P (x ∷ xs) (suc place) y is k = each-get P xs place y is k.1
 
--- the one that is sent again first stands there
+-- the one that is retransmitted first is there
 abbrev There : ℕ → List ReliableAnswer → ℕ × Alarm → Type 0
 There k xs f = (i : ℕ) × (f.0 ≡ k + i) × (a : ReliableAnswer) × (slice_get xs i ≡ Some a)
 
@@ -222,7 +222,7 @@ module _ (K : ℕ → Bool → Type 0) (T : List ℕ → Type 0) where
   acked-2xx-keeps step m e k =
       either (is_ack_of m e) (record e { is_acked = true; plan = End; step = step }) e (record { kind = k.kind; request = k.request; last = k.last; waits = λ s. tt; reliable = k.reliable }) k
 
-  -- a client transaction, whatever it waits for
+  -- a client transaction, whatever it awaits
   client-keeps : (e x : Entry) → e.is_server ≡ false → x.key ≡ e.key → x.is_server ≡ e.is_server → x.request ≡ e.request → x.last ≡ e.last → x.reliable ≡ e.reliable → Keeps K T e → Keeps K T x
   client-keeps e x client key server request last reliable k = record {
     kind = subst (λ (b : Bool). K x.key b) (sym server) (subst (λ (n : ℕ). K n e.is_server) (sym key) k.kind);
@@ -246,7 +246,7 @@ module _ (K : ℕ → Bool → Type 0) (T : List ℕ → Type 0) where
       go true is = each (eqb-true e.key key is) k
       go false is = k
 
-  -- one kind for each key; and an answer is heard by a client transaction
+  -- one kind for each key; and a response is received by a client transaction
   module _ (one : (n : ℕ) (a b : Bool) → K n a → K n b → a ≡ b) where
     abbrev IsOfClient : Part → Type 0
     IsOfClient part.Fresh = Unit {0}
@@ -330,7 +330,7 @@ all-still c h [] k = tt
 all-still c h (e ∷ es) k =
     (record { kind = k.0.kind; request = λ s. sent_still c h e.request (k.0.request s); last = last-still c h e.last k.0.last; waits = k.0.waits; reliable = answers-still c h e.reliable k.0.reliable }, all-still c h es k.1)
 
--- ---- an answer is heard by a client transaction
+-- ---- a response is received by a client transaction
 
 find-each : (P : Entry → Type 0) (p : Entry → Bool) (es : List Entry) → Each P es → IfSome (find p es) P
 find-each P p [] k = tt
@@ -420,7 +420,7 @@ old-keep c h g (e ∷ es) f k = (
   old-keep c h g es f.1 k.1,
 )
 
--- what one more call opens
+-- what one more operation opens
 abbrev OpensKept : List Done → Done → List Entry → Type 0
 OpensKept h c new = Each (Keeps (λ n b. (x : Entry) × (slice_get (opened h ++ new) n ≡ Some x) × (x.is_server ≡ b)) (IsSentIn (c ∷ h))) new × Each (λ e. e.key ≡ length (opened h)) new
 
@@ -477,7 +477,7 @@ all_keep (c ∷ h) g =
           (new-stay c h (Keeps (Kind (c ∷ h)) (IsSentIn (c ∷ h))) new opens_kept.0 opens_kept.1));
     }
 
--- ---- what is sent again
+-- ---- what is retransmitted
 
 module _ (K : ℕ → Bool → Type 0) (T : List ℕ → Type 0) where
   abbrev pub IsOwnAgain : Option (Peer × List ℕ) → Type 0
@@ -499,7 +499,7 @@ module _ (K : ℕ → Bool → Type 0) (T : List ℕ → Type 0) where
       go true = same-last e.peer e.last k.last
       go false = tt
 
-  -- ---- deadlines
+  -- ---- timers
 
   abbrev IsOwnNext : Option Next → Type 0
   IsOwnNext o = IfSome o (λ n. Keeps K T n.entry)
@@ -529,7 +529,7 @@ module _ (K : ℕ → Bool → Type 0) (T : List ℕ → Type 0) where
   unwrapped None h s = absurd (let f : false ≡ true = s in cc)
   unwrapped (Some text) h s = h
 
-  -- a server transaction that sends again sends its last response
+  -- a server transaction that retransmits sends its last response
   server-text : (p : Plan) (start at shots : ℕ) (last : Option (List ℕ)) → Waits p last → is_some (resend_by p start at shots) ≡ true → IfSome last T → T (unwrap_or last [])
   server-text Idle start at shots last w s h = absurd (let f : false ≡ true = s in cc)
   server-text Invite start at shots last w s h = absurd w
@@ -546,7 +546,7 @@ module _ (K : ℕ → Bool → Type 0) (T : List ℕ → Type 0) where
       go true is = server-text e.plan e.start e.at e.shots e.last (k.waits is) s k.last
       go false is = k.request is
 
-  -- a reliable answer, where one is sent again first
+  -- a reliable response, where one is retransmitted first
   resent-by : (e : Entry) (first : Option (ℕ × Alarm)) → foremost_in e ≡ first → Keeps K T e → is_some (option_or (option_map (λ (f : ℕ × Alarm). f.1.at) first) (planned_at e)) ≡ true →
       T (text_by (first >>= λ (f : ℕ × Alarm). slice_get e.reliable f.0) e)
   resent-by e None is k s = planned-own e k s

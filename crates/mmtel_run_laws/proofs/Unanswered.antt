@@ -1,4 +1,4 @@
--- While a call is offered no final was offered in the server transaction of the INVITE that opened it: neither by that call nor by any other, nor by a room or the server itself.
+-- While a call is offered no final response was sent in the server transaction of the INVITE that opened it: neither by that call nor by any other, nor by a conference or the server itself.
 use Rattle.std.proofs.Common.{◌≡◌, ◌<◌, ℕ, ◌==◌, ◌&&◌, ◌||◌, not, Bool, true, false, cond, List, [], ◌∷◌, ◌++◌, Option, Some, None, refl, sym, ap, ◌∙◌, subst, IfSome, inl, inr, append_assoc, arith}
 use Rattle.std.specs.Prelude.{◌⊎◌, ◌^◌, ◌-◌, ◌+◌, if◌then◌else◌, find, min, nat_lt}
 use Rattle.std.specs.List.{list_any}
@@ -46,7 +46,7 @@ use Rattle.mmtel_run_laws.proofs.Replied.{AllAnswered, HasReply, IsAnswered, IsB
 both-ways : {A : Type 0} (b : Bool) → b ≡ true → b ≡ false → A
 both-ways b is other = absurd (let f : true ≡ false = sym is ∙ other in cc)
 
--- ---- a final among the replies is a final sign
+-- ---- a final response among the replies is one that is observed of the call
 
 abbrev IsFinalSign : Sign → Type 0
 IsFinalSign (Invited uri) = ⊥
@@ -160,7 +160,7 @@ none-invited o (target ∷ later) h =
 
 -- ---- the requests of other calls have other transactions
 
--- a request has another than this one
+-- a request has a transaction other than this one
 abbrev HasOther : ℕ → Signal → Type 0
 HasOther k (signal.Arrived key invite served registration identities) = (key.0 == k) ≡ false
 HasOther k (signal.Request call side key request) = (key.0 == k) ≡ false
@@ -195,7 +195,7 @@ deed-below k (Restores number away) h = tt
 deed-below k (Finishes number at tokens) h = tt
 deed-below k (Drops count) h = tt
 
--- where this one is below all that those before are below of
+-- where this one is less than all numbers that those before are less than
 signal-above : (k : ℕ) (s : Signal) (older : List Deed) → ((n : ℕ) → Each (IsBelow n) older → k < n) → IsAbove s older → HasOther k s
 signal-above k (signal.Arrived key invite served registration identities) older low h = ne_eqb key.0 k (λ e. omega (arith, e, low key.0 h))
 signal-above k (signal.Request call side key request) older low h = ne_eqb key.0 k (λ e. omega (arith, e, low key.0 h))
@@ -263,7 +263,7 @@ module _ (site : Site) where
   all-start-other k number [] h = tt
   all-start-other k number (deed ∷ older) h = (deed-starts-other k deed older h.0, all-start-other k number older h.1)
 
-  -- ---- each deed of the transaction by which a call was opened is of that call
+  -- ---- each operation in the transaction by which a call was opened is of that call
 
   abbrev AllApart : (number k : ℕ) → List Deed → Type 0
   AllApart number k [] = Unit {0}
@@ -469,7 +469,7 @@ module _ (site : Site) where
   has-own own k m (x ∷ xs) (inl is) each = replied-in own k m x is each.0
   has-own own k m (x ∷ xs) (inr has) each = has-own own k m xs has each.1
 
-  -- ---- of which call a reply is that the calls brought forth
+  -- ---- of which call a reply is that the calls output
 
   has-left : (k : ℕ) (m : Message StartLine) (xs ys : List Emit) → HasReply k m xs → HasReply k m (xs ++ ys)
   has-left k m [] ys has = absurd has
@@ -508,7 +508,7 @@ module _ (site : Site) where
   lived-in None z is = absurd (none-some z is)
   lived-in (Some life) z is = (life, refl)
 
-  -- numbers only rise
+  -- numbers only increase
   fewer-before : (m n : ℕ) → min (n + 1) m < m → n < m
   fewer-before m n h = omega (arith, h)
 
@@ -533,7 +533,7 @@ module _ (site : Site) where
     abbrev HasLife : ℕ → List Deed → Type 0
     HasLife n deeds = (life : Life) × (life_of site n deeds ≡ Some life)
 
-    -- the call that a deed is of has a life
+    -- the call to which an operation belongs has a trace
     lives-by : (deed : Deed) (older : List Deed) (n : ℕ) → HasNumbers site older → call_of site deed (table_after site older) ≡ Some n → HasLife n (deed ∷ older)
     unfolding life_of
     lives-by deed older n few is = go (opening_by site deed (table_after site older)) (met_by deed (table_after site older).entries) refl refl is
@@ -544,7 +544,7 @@ module _ (site : Site) where
         its : is_number n (call_of site deed (table_after site older)) ≡ true
         its = ap (is_number n) is ∙ eq-eqb n n refl
 
-        -- by what opens it, and what its life was
+        -- by what opens it, and its trace before
         so : (opens : Option Start) (was : Option Life) → opening_by site deed (table_after site older) ≡ opens → life_of site n older ≡ was → life_of site n (deed ∷ older) ≡ goes_on opens came was
         so opens was o l =
             ap (λ b. if b then goes_on (opening_by site deed (table_after site older)) came (life_of site n older) else life_of site n older) its
@@ -562,7 +562,7 @@ module _ (site : Site) where
             let (life, l) = lived-in (life_of site n older) z entry in
             (with_event came life, so None (Some life) o l)
 
-    -- and goes on to have one
+    -- and still has one
     lives-on : (deed : Deed) (older : List Deed) (n : ℕ) → HasLife n older → HasLife n (deed ∷ older)
     unfolding life_of
     lives-on deed older n (life, is) = go (is_number n (call_of site deed (table_after site older))) (opening_by site deed (table_after site older))
@@ -627,13 +627,13 @@ module _ (site : Site) where
     answered_below own_law deeds few [] older k m at a = may-below own_law (keys older) k m deeds few a.0
     answered_below own_law deeds few (act ∷ newer) older k m at a = answered_below own_law deeds few newer older k m at a.1
 
-    -- ---- no final in the transaction of a call that is offered
+    -- ---- no final response in the transaction of a call that is offered
 
     module _ (own_law : CallsReplyInTheirOwn) (deeds : List Deed) (few : HasNumbers site deeds) (rises : Rises deeds) (number : ℕ) (life : Life) (is : life_of site number deeds ≡ Some life) where
       abbrev key_in : ℕ
       key_in = life.start.arrival.key.0
 
-      -- a reply in it that the calls brought forth is of this call,
+      -- a reply in it that the calls output is of this call,
       its-own : (m : Message StartLine) → IsBrought site key_in m deeds → HasReply key_in m (emits_of site number deeds)
       its-own m brought =
           let f : IsFound key_in m deeds = found key_in m deeds few brought in
@@ -659,7 +659,7 @@ module _ (site : Site) where
           its-own m (subst (λ k. IsBrought site k m deeds) (eqb-true k key_in same) whole)
       may-own n k m same (inr away) = absurd (none-elsewhere n k same away)
 
-      -- of each call on the transactions
+      -- of each operation on the transactions
       pub answered_own : (newer older : List Done) (m : Message StartLine) (at : ℕ) → AllAnswered site deeds (newer ++ DidReply key_in m at ∷ older) → HasReply key_in m (emits_of site number deeds)
       answered_own [] older m at a = may-own (keys older) key_in m (eq-eqb key_in key_in refl) a.0
       answered_own (act ∷ newer) older m at a = answered_own newer older m at a.1

@@ -1,4 +1,4 @@
--- The words of a run, walked once for every relation of two worlds that goes from one to the next: what it asks is said of single deeds.
+-- The definitions of a run, traversed once for every relation between two states that is transitive: what it requires is stated of elementary operations.
 use Rattle.std.proofs.Common.{◌≡◌, ℕ, List, [], ◌∷◌, refl, sym, ap, ◌∙◌, subst, Bool, true, false, Option, Some, None, Result, Ok, Err}
 use Rattle.std.specs.Prelude.{if◌then◌else◌, is_some}
 use Rattle.std.proofs.lemmas.Option.{none-some}
@@ -63,7 +63,7 @@ use Rattle.mmtel_run.specs.World.{World, boxes_in, served, acknowledging_by, ado
 use Rattle.mmtel_run_laws.proofs.Growing.{Anyhow}
 use Rattle.mmtel_run_laws.specs.Timed.{IsCallDeedAt, IsOfferAt, IsRoomDeedAt, moment_due, moment_if}
 
--- a call on the transactions by which nothing is sent
+-- an operation on the transactions by which nothing is sent
 abbrev pub IsUnsent : Done → Type 0
 IsUnsent (DidBegin step) = Unit {0}
 IsUnsent (DidHear peer message now taken) = Unit {0}
@@ -73,23 +73,23 @@ IsUnsent (DidAck key message) = ⊥
 IsUnsent (DidFire key) = Unit {0}
 IsUnsent (DidSettle key own) = Unit {0}
 
--- what is asked of a relation of the world before to the world after, at a moment
+-- what is required of a relation between the states before and after, at a moment
 pub record IsWalked (d : Directory) (R : ℕ → World → World → Type 0) : Type 0 where
-  -- nothing is done on the layers, and nothing is offered
+  -- nothing is done on the layers, and nothing is output
   pub quiet : (at : ℕ) (w v : World) → v.deeds ≡ w.deeds → v.rooms ≡ w.rooms → v.acts ≡ w.acts → v.offers ≡ w.offers → R at w v
   -- one after another
   pub next : (at : ℕ) (u v w : World) → R at u v → R at v w → R at u w
-  -- a call by which nothing is sent is made of the transactions, or something is offered, and no more
+  -- an operation by which nothing is sent is done on the transactions, or something is output, and no more
   pub acting : (at : ℕ) (x : Done) (w v : World) → IsUnsent x → v.deeds ≡ w.deeds → v.rooms ≡ w.rooms → v.acts ≡ x ∷ w.acts → v.offers ≡ w.offers → R at w v
   pub offers : (at : ℕ) (x : Offer) (w : World) → IsOfferAt at x → R at w (offering (x ∷ []) w)
   pub emit : (at : ℕ) (x : Emit) (w : World) → R at w (emit_one at x w)
-  -- a deed on calls that brings nothing forth, one that does, and one on rooms
+  -- an operation on calls without output, one with output, and one on conferences
   pub lends : (at : ℕ) (deed : Deed) (w : World) → IsCallDeedAt at deed → out_by (site_of d) deed (calls_in d w) ≡ [] → R at w (lending deed w)
   pub brings : (at : ℕ) (deed : Deed) (desk : Desk) (w : World) → IsCallDeedAt at deed → desk.out ≡ out_by (site_of d) deed (calls_in d w) → R at w (bringing at deed desk w)
   pub lodges : (at : ℕ) (deed : rooms.Deed) (desk : Desk) (w : World) → IsRoomDeedAt at deed → R at w (lodging at deed desk w)
 
 module _ (d : Directory) (token : List ℕ) (R : ℕ → World → World → Type 0) (k : IsWalked d R) where
-  -- so it is with this word
+  -- this holds for this definition
   abbrev Walks : ℕ → (World → World) → Type 0
   Walks at f = (w : World) → R at w (f w)
 
@@ -127,7 +127,7 @@ module _ (d : Directory) (token : List ℕ) (R : ℕ → World → World → Typ
   noticed_at : (at : ℕ) (room : RoomNo) (seat code : ℕ) → Walks at (noticed d token at room seat code)
   noticed_at at room seat code w = housed_at at (rooms.Notifies room.0 seat code (tokens_now token w)) tt w
 
-  -- ---- answers
+  -- ---- responses
 
   -- more tokens are drawn
   drawn_at : (at count : ℕ) (xs : List Emit) → Walks at (λ w. emitted at xs (drawing count w))
@@ -171,7 +171,7 @@ module _ (d : Directory) (token : List ℕ) (R : ℕ → World → World → Typ
     others = λ w is. replying_at at key s (other_answer d s.heard) w;
   }
 
-  -- ---- deadlines
+  -- ---- timers
 
   silenced_at : (at : ℕ) (branch method : List ℕ) (whose : Whose) → Walks at (silenced d token at branch method whose)
   silenced_at at branch method OfCalls w = signalled_at at (signal.Silent branch method) w
@@ -183,7 +183,7 @@ module _ (d : Directory) (token : List ℕ) (R : ℕ → World → World → Typ
   ended_of_at at key OfBoxes w = still at w
   ended_of_at at key OfRooms w = seated_at at (of_room.Over key) w
 
-  -- what one of a message says is of its moment
+  -- what one of a transaction causes has its moment
   abbrev IsDueAt : ℕ → Due → Type 0
   IsDueAt at (due.Again peer moment text) = moment ≡ at
   IsDueAt at (due.Silent key branch method moment) = moment ≡ at
@@ -214,7 +214,7 @@ module _ (d : Directory) (token : List ℕ) (R : ℕ → World → World → Typ
   alarmed_at at (OfSeat room seat what) w = seated_at at (of_room.Due room seat what) w
   alarmed_at at (OfBox sub set) w = mailing.ends d token at (R at) (box_steps at) sub set w
 
-  -- one of a message is the one that was due before its step began
+  -- one of a transaction is the one that was due before its step began
   fired_at : (at : ℕ) (o : Option Next) (w : World) → R at w (record w { acts = fires w.acts o })
   fired_at at None w = same at w _ refl refl refl refl
   fired_at at (Some next) w = k.acting at (DidFire next.entry.key) w _ tt refl refl refl refl
@@ -232,12 +232,12 @@ module _ (d : Directory) (token : List ℕ) (R : ℕ → World → World → Typ
       let v : World = record (begun w) { armed = others } in
       k.next armed.at w v (fired d token now (OfAlarm armed others) w) (begun_at armed.at w v refl refl refl refl) (alarmed_at armed.at armed.alarm v)
 
-  -- none is of a message where none of these is due
+  -- none is of a transaction where none of these is due
   not_of_message : (chosen : Option Chosen) → first_of None chosen ≡ Some OfMessage → ⊥
   not_of_message None is = none-some OfMessage is
   not_of_message (Some call) is = let f : Some (OfAlarm call.first call.others) ≡ Some OfMessage = is in cc
 
-  -- a deadline fires at its moment; where none is due nothing is done
+  -- a timer fires at its moment; where none is due nothing is done
   abbrev pub FiresBy : Option ℕ → (before after : World) → Type 0
   FiresBy None before after = after ≡ before
   FiresBy (Some at) before after = R at before after
@@ -287,7 +287,7 @@ module _ (d : Directory) (token : List ℕ) (R : ℕ → World → World → Typ
         k.next at w v (replaced d token at peer room seat x v) (noticed_at at room seat 100 w) (replaced_by_at peer room seat (side_replaced x (calls_in d v).entries) v)
 
   module _ (at : ℕ) (s : Said) where
-    -- ---- who comes to a room
+    -- ---- who joins a conference
 
     room_opened_at : (key : TKey) (tag : List ℕ) (full : Bool) → Walks at (room_opened d at key s tag full)
     room_opened_at key tag true w = turned_away_at at key s tag 503 w

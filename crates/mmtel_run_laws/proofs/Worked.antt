@@ -1,4 +1,4 @@
--- What is left of the worked messages computes, once the role of each is read off its world.
+-- What masking leaves of the worked messages computes, once the role of each is determined from its state.
 use Rattle.std.proofs.Common.{◌≡◌, ℕ, Bool, true, false, List, [], ◌∷◌, ◌++◌, length, refl, ap, sym, ◌∙◌, ◌+◌, Option, Some, None, codes, map, arith, inl, inr}
 use Rattle.std.proofs.lemmas.Bool.{cases_Bool}
 use Rattle.std.proofs.lemmas.Slice.Eq.{bytes_eq-Decides}
@@ -79,7 +79,7 @@ use Rattle.mmtel_run_laws.specs.Mask.{Heard, MaskedDigest, Tests, tests_beside, 
 use Rattle.mmtel_run_laws.proofs.Secret.{left_of as left_in}
 use Rattle.mmtel_run_laws.specs.Worked.{Erin, Frank, IsAwaited, IsOfStanding, IsTaken, IsTargets, LooksApart, Person, PublicLookApart, RestrictedLookAlike, Saying, TheyCome, UnshownLookAlike, ack, bye, cancel, moved_to, name_of, ok_named, ok_of_target, ok_to_bye, ok_to_cancel, ok_to_invite, ok_to_notify, phone, plain_later, plain_opening, private_later, private_opening, server_bye, tells_marked, tells_unmarked, user_of}
 
--- ---- what is left, by a role
+-- ---- what masking leaves, by a role
 
 opens_left : without_private Opens (private_opening Erin) ≡ without_private Opens (private_opening Frank)
 unfolding Scanning.closes masked_line kind_of hidden hidden_value served_value is_marked_value masked_value_text Reading.name_addr_of Reading.words_of Reading.quoted_of Reading.angle_of Reading.bare_of Reading.all_params_at Reading.params_at Reading.param_at Reading.token_at Reading.value_at Reading.text_at Classes.in_class Scanning.run Scanning.after_run Scanning.trimmed Scanning.parted
@@ -133,7 +133,7 @@ history_left : without_private Plain (tells_marked Erin) ≡ without_private Pla
 unfolding EntryUri.cause_number EntryUri.cause_of EntryUri.hides EntryUri.is_marked EntryUri.marked_uri HistoryInfo.entry_of HistoryInfo.shown_uri HistoryInfo.entry_text UriPlaces.user_part UriPlaces.host_part is_dotted Numbers.number_of Numbers.within Scanning.closes masked_line kind_of hidden hidden_value served_value is_marked_value masked_value_text Reading.name_addr_of Reading.words_of Reading.quoted_of Reading.angle_of Reading.bare_of Reading.all_params_at Reading.params_at Reading.param_at Reading.token_at Reading.value_at Reading.text_at Classes.in_class Scanning.run Scanning.after_run Scanning.trimmed Scanning.parted
 history_left = refl
 
--- what differs in them where it is for everybody
+-- what differs in them where they are public
 abbrev long : (name : List ℕ) → Said → ℕ
 long name m = length (unwrap_or (first_value name m.heard.lines) [])
 
@@ -163,7 +163,7 @@ words_of_id : parts Words (codes "id") ≡ codes "id" ∷ []
 unfolding parts
 words_of_id = refl
 
--- so whoever asks for privacy is restricted
+-- so a party that sends Privacy is restricted
 asks_id : (ls : List Line) → words ls ≡ map trim (parts Words (codes "id")) ++ [] → (wants ls).id ≡ true
 unfolding Scanning.trimmed Classes.in_class Scanning.run Scanning.after_run
 asks_id ls is = ap (λ (vs : List (List ℕ)). list_any (λ v. str_eq_ignore_ascii_case v (codes "id")) vs) (is ∙ ap (λ (vs : List (List ℕ)). map trim vs ++ []) words_of_id)
@@ -215,7 +215,7 @@ stops m method uri is =
     ap (λ (s : Start). bytes_eq (head_with s (five_at m.heard.lines)).method (codes "CANCEL")) is
     ∙ ap (λ (s : List ℕ). bytes_eq s (codes "CANCEL")) (asked_method method uri (five_at m.heard.lines))
 
--- ---- the role of a message, in its world
+-- ---- the role of a message, in its state
 
 role_is : (d : Directory) (w : World) (m : Said) (t : Part) → part_of (head_of (message_in m.heard)) (live w.acts) ≡ t → role_of d w m ≡ role_as d w m t
 unfolding role_of
@@ -232,7 +232,7 @@ fresh_is d w m opens stops asks p o c s =
     ∙ (ap (λ (b : Bool). fresh_by d w m b (is_cancel (head_of (message_in m.heard))) (is_subscribing d w m.heard)) o
     ∙ (ap (λ (b : Bool). fresh_by d w m opens b (is_subscribing d w m.heard)) c ∙ ap (fresh_by d w m opens stops) s))
 
--- who opens a call
+-- it opens a call
 opens_as : (d : Directory) (w : World) (m : Said) (restricted : Bool) → part_of (head_of (message_in m.heard)) (live w.acts) ≡ part.Fresh → is_opening m.heard ≡ true →
     hides_caller d w m.heard ≡ restricted → role_of d w m ≡ opening_role restricted
 opens_as d w m restricted p o hides = fresh_is d w m true (is_cancel (head_of (message_in m.heard))) (is_subscribing d w m.heard) p o refl refl ∙ ap opening_role hides
@@ -247,7 +247,7 @@ module _ (d : Directory) (w : World) where
   abbrev entries : List Entry
   entries = (calls_in d w).entries
 
-  -- a request of a side of a call that stands
+  -- a request of a side of an established call
   stands_as : (m : Said) (side : Side) (e : Entry) (x : Pair) (stage : Stage) (call : ℕ) →
       part_of (head_of (message_in m.heard)) (live w.acts) ≡ part.Fresh → is_opening m.heard ≡ false → is_cancel (head_of (message_in m.heard)) ≡ false →
       named_by m.heard entries ≡ Some (record { 0 = call }, side) → entry_of call entries ≡ Some e → e.call.phase ≡ Stood x stage →
@@ -258,7 +258,7 @@ module _ (d : Directory) (w : World) where
       ∙ (ap (request_role_of d.reliable side m) entry
       ∙ ap (λ (phase : Phase). request_role_in d.reliable phase e.call.opening side m) stood))
 
-  -- a response to the INVITE that a call waits on
+  -- a response to the INVITE whose response a call awaits
   awaited_as : (m : Said) (e : Entry) (branch : List ℕ) (key place : ℕ) → part_of (head_of (message_in m.heard)) (live w.acts) ≡ part.Answer key → invite_answered m ≡ Some branch →
       position (sent_it (Some branch)) entries ≡ Some place → slice_get entries place ≡ Some e → is_current branch e.call ≡ true →
       role_of d w m ≡ awaited_role e.call.phase e.call.opening m
@@ -274,7 +274,7 @@ module _ (d : Directory) (w : World) where
           else other_role e.call m (loose_at (position (is_of branch) e.call.loose) e.call.loose) (taken_at (position (is_taken branch) e.call.taken) e.call.taken)
           (flight_at (position (is_in_flight branch) e.call.flights) e.call.flights)
 
--- ---- what is left of two
+-- ---- what masking leaves of two
 
 module _ (d : Directory) (asked : List Who) (w : World) where
   abbrev beside : Role → Said → Option Tests
@@ -292,7 +292,7 @@ module _ (d : Directory) (asked : List Who) (w : World) where
       ∙ (ap (λ (x : Said). Heard x (beside r (m Erin))) same
       ∙ (ap (Heard (without_private r (m Frank))) tests ∙ sym (ap (left_as (m Frank)) (roles Frank))))
 
-  -- the tests that stand beside an opening that hides its caller, and beside no other message
+  -- the tests of an opening that hides its caller, which no other message has
   tested : (m : Saying) → ((p : Person) → is_opening (m p).heard ≡ true) → tests_of d.names.accounts asked (m Erin).heard ≡ tests_of d.names.accounts asked (m Frank).heard →
       beside Opens (m Erin) ≡ beside Opens (m Frank)
   tested m opens tests = beside_it Erin ∙ (ap (λ (t : Tests). Some t) tests ∙ sym (beside_it Frank))
@@ -308,7 +308,7 @@ module _ (d : Directory) (asked : List Who) (w : World) where
           ap (λ (b : Bool). if b && hides r then Some (tests_of d.names.accounts asked (m p).heard) else None) (is p)
           ∙ ap (λ (b : Bool). if b then Some (tests_of d.names.accounts asked (m p).heard) else None) none
 
-  -- an answer to a request that is no INVITE
+  -- a response to a request that is no INVITE
   answers_other : (m : Said) (key : ℕ) → part_of (head_of (message_in m.heard)) (live w.acts) ≡ part.Answer key → invite_answered m ≡ None → role_of d w m ≡ Says Caller
   answers_other m key taken none = role_is d w m (part.Answer key) taken ∙ ap (answer_role_by d w m) none
 
@@ -343,7 +343,7 @@ module _ (d : Directory) (asked : List Who) (w : World) where
       role_of d w (m p) ≡ awaited_role e.call.phase e.call.opening (m p)
   answers_as m e branch key place of p = awaited_as d w (m p) e branch key place (of.taken p) (of.answers p) of.sent of.entry of.current
 
-  -- of the target of an attempt, who asks for privacy
+  -- from the target of an attempt, with Privacy
   target_as : (m : Saying) (e : Entry) (x : Trial) (branch : List ℕ) (key place : ℕ) → IsTargets d w m e x branch key place → (p : Person) →
       comes_from phone (m p) ≡ true → (m p).heard.wants.id ≡ true → role_of d w (m p) ≡ Says Callee
   target_as m e x branch key place of p mine private =
@@ -384,11 +384,11 @@ module _ (d : Directory) (asked : List Who) (w : World) where
         history_left (untested tells_marked Plain true refl opens_marked);
   }
     where
-      -- the record of whoever is served as the caller
+      -- the record of the account that is served as the caller
       origin_of : Said → Option Sheet
       origin_of m = origin_sheet (standing w.clock (in_force w.texts w.registrations) []) (served_accounts (parties_of d.names.accounts m.heard))
 
-  -- what is for everybody
+  -- what is public
   apart : (m : Saying) (r : Role) → ((p : Person) → role_of d w (m p) ≡ r) → (without_private r (m Erin) ≡ without_private r (m Frank) → ⊥) → LooksApart d asked w m
   apart m r roles differ same =
       differ (sym (ap (λ (x : Role). without_private x (m Erin)) (roles Erin)) ∙ (ap (left_in (m Erin)) same ∙ ap (λ (x : Role). without_private x (m Frank)) (roles Frank)))
@@ -405,7 +405,7 @@ module _ (d : Directory) (asked : List Who) (w : World) where
     history = λ taken shown. apart tells_unmarked Plain (λ p. opens_as d w (tells_unmarked p) false (taken p) (opens_unmarked p) (shown p)) entry_differs;
   }
 
--- ---- in what worlds they come so
+-- ---- states in which they have such roles
 
 is_asked : (method uri : List ℕ) (o : Option Five) → (head_with (Request method uri) o).is_request ≡ true
 is_asked method uri None = refl
@@ -460,13 +460,13 @@ again_comes p =
     ∙ ap (λ (b : Bool). part_request (is_full es) (if b then Some (heard_first 0 0 phone h 0) else None))
     (finds_itself h (acks m (codes "INVITE") (codes "sip:bob@far.example") refl))
 
--- ---- the head of what answers a BYE
+-- ---- the head of a response to a BYE
 
 no_place : (o : Option ℕ) → option_map (λ n. n + 1) o ≡ None → o ≡ None
 no_place None e = refl
 no_place (Some n) e = absurd cc
 
--- a value that nothing parts stands alone
+-- a value that nothing splits is one element
 alone : (m : Mode) (s : List ℕ) → parting m s ≡ None → parts m s ≡ s ∷ []
 unfolding parts parting
 alone m [] e = refl
@@ -488,7 +488,7 @@ via = record {
   params = record { name = codes "branch"; value = Some (codes "z9hG4bK0123456789abcdef-6") } ∷ [];
 }
 
--- the Via value stands alone
+-- the Via value is one element
 via_is : via_at (first_part via_text) ≡ Some via
 unfolding Classes.in_class Numbers.within Numbers.number_of Scanning.run Scanning.after_run Scanning.parted Scanning.closes Scanning.trimmed Reading.token_at Reading.text_at Reading.value_at Reading.param_at Reading.params_at Reading.all_params_at Reading.angle_of Reading.bare_of Reading.words_of Reading.quoted_of Reading.name_addr_of Reading.host_at Reading.port_number Reading.port_at via_at parting
 via_is = ap (λ (vs : List (List ℕ)). via_at (trim (first_in vs))) (alone Outside via_text refl)

@@ -1,4 +1,4 @@
--- In what two runs with calls and rooms are alike, each under its configuration: in all but the texts that are due to trusted peers, and what these are offered.
+-- In what two runs with calls and conferences are indistinguishable, each under its configuration: in all but the texts that go to trusted peers, and what is sent to these.
 use Rattle.std.specs.Prelude.{◌≡◌, ◌<◌, ◌^◌, ℕ, true, false, Option, Some, None, List, [], ◌∷◌, position, slice_get, option_map}
 use Rattle.mmtel_answers.specs.Said.{Said}
 use Rattle.mmtel_b2bua.specs.Entries.{sent_it}
@@ -60,13 +60,13 @@ use Rattle.mmtel_run_laws.specs.Mask.{Asked, Heard, MaskedDigest, Nothing, Refus
 
 -- ---- two configurations
 
--- they are equal but for the URIs of accounts, and accounts to which these records divert calls are looked up alike
+-- they are equal but for the URIs of accounts, and the lookup of an account to which these records divert calls has the same result in both
 pub record SiteAlike (records : List Sheet) (one other : Directory) : Type 0 where
   pub equal : EqualButForAccounts one other
   pub configured : Configured records (site_of one) (site_of other)
 
--- a message, without what is private of it, names the same accounts in both: the target of an INVITE without To tag, where a response redirects to, whom a REFER asks a room to
--- invite, for whom a trusted peer registers, and who subscribes to whose mailbox
+-- a message, without its private places, names the same accounts in both: the target of an INVITE without To tag, where a response redirects to, whom a REFER asks a conference
+-- to invite, whom a trusted peer registers, and who subscribes to whose mailbox
 pub record LooksUp (one other : Directory) (left : Said) : Type 0 where
   pub target : is_opening left.heard ≡ true →
       target_from one.names.accounts left.heard.start (believed_user left.heard).user ≡ target_from other.names.accounts left.heard.start (believed_user left.heard).user
@@ -77,7 +77,7 @@ pub record LooksUp (one other : Directory) (left : Said) : Type 0 where
   pub subscriber : may_subscribe one left.heard ≡ true → sender_of one left.heard ≡ sender_of other left.heard
   pub mailbox : may_subscribe one left.heard ≡ true → mailbox_named one left.heard ≡ mailbox_named other left.heard
 
--- and so does the caller of such an INVITE, where no tests stand beside it
+-- and so does the caller of such an INVITE, where it has no tests
 abbrev pub CallerLooksUp : (one other : Directory) → Said → Option Tests → Type 0
 CallerLooksUp one other left None = is_opening left.heard ≡ true → caller_account one.names.accounts left.heard ≡ caller_account other.names.accounts left.heard
 CallerLooksUp one other left (Some tests) = Unit {0}
@@ -92,14 +92,14 @@ abbrev pub AllLookUp : (one other : Directory) → List (ℕ × MaskedDigest) �
 AllLookUp one other [] = Unit {0}
 AllLookUp one other (event ∷ events) = DigestLooksUp one other event.1 × AllLookUp one other events
 
--- ---- worlds
+-- ---- states
 
--- each record that is in force is among these, and that of an account which never said anything
+-- each record that is in force is among these, and that of an account without a text
 pub record AreAmong (records : List Sheet) (texts : Texts) : Type 0 where
   pub each : (account : Account) (text : List ℕ) → text_at texts account ≡ Some text → IsAmong records (kept_sheet text)
   pub none : IsAmong records empty_sheet
 
--- of the rows that wait nothing is said
+-- the states are indistinguishable; the CDRs that wait are not compared
 pub record AlikeWorlds (records : List Sheet) (directory far : Directory) (one other : World) : Type 0 where
   pub clock : one.clock ≡ other.clock
   pub steps : one.steps ≡ other.steps
@@ -108,20 +108,20 @@ pub record AlikeWorlds (records : List Sheet) (directory far : Directory) (one o
   pub calls : AlikeEntries records (trusts directory) (calls_in directory one).entries (calls_in far other).entries
   pub opened : (calls_in directory one).opened ≡ (calls_in far other).opened
   pub rooms : AlikeRooms (trusts directory) (rooms_in directory one) (rooms_in far other)
-  -- the mailboxes as they stand: a request that was heard may have had something private, which no mailbox keeps
+  -- the mailboxes in their state, not the operations on them: a request that was received may have had private places, which no mailbox stores
   pub boxes : boxes_in one ≡ boxes_in other
   pub armed : one.armed ≡ other.armed
   pub texts : one.texts ≡ other.texts
   pub registrations : one.registrations ≡ other.registrations
   pub seen : (seer : Peer) → trusts directory seer ≡ false → view seer one.offers ≡ view seer other.offers
 
--- ---- what ties calls and rooms to transactions
+-- ---- the transactions of calls and conferences
 
--- this transaction is of a peer who is trusted as this one is
+-- this transaction is with a peer that is trusted exactly if this one is
 abbrev pub IsOfOne : Directory → World → TKey → Peer → Type 0
 IsOfOne directory world key peer = option_map (trusts directory) (peer_of key.0 (live world.acts)) ≡ Some (trusts directory peer)
 
--- a client transaction that hears a response is of the peer that was asked: that of the INVITE of this branch, or of the PRACK or UPDATE that is in flight with it
+-- a client transaction that receives a response is with the peer that was sent the request: the INVITE of this branch, or the PRACK or UPDATE that is in flight with it
 pub record AnswerIsTied (directory : Directory) (world : World) (key : TKey) (branch : List ℕ) (c : Call) : Type 0 where
   pub awaited : (i : Invitation) → is_current branch c ≡ true → current c.phase ≡ Some i → IsOfOne directory world key i.dialogue.peer
   pub loose : (at : ℕ) (l : Loose) → position (is_of branch) c.loose ≡ Some at → slice_get c.loose at ≡ Some l → IsOfOne directory world key l.invitation.dialogue.peer
@@ -134,7 +134,7 @@ ResponseIsTied directory world m = (key : ℕ) (branch : List ℕ) (at : ℕ) (e
     invite_answered m ≡ Some branch → position (sent_it (Some branch)) (calls_in directory world).entries ≡ Some at → slice_get (calls_in directory world).entries at ≡ Some e →
     AnswerIsTied directory world (record { 0 = key }) branch e.call
 
--- so it is of the INVITE to a seat that has this branch, and of one that a room left
+-- so is that of the INVITE of a participant that has this branch, and that of one that a conference abandoned
 abbrev pub InviteIsTied : Directory → World → TKey → Option Invite → Type 0
 InviteIsTied directory world key None = Unit {0}
 InviteIsTied directory world key (Some (Waiting number i)) = IsOfOne directory world key i.dialogue.peer
@@ -154,7 +154,7 @@ abbrev pub SeatResponseIsTied : Directory → World → Said → Type 0
 SeatResponseIsTied directory world m = (key : ℕ) (branch : List ℕ) → part_of (head_of (message_in m.heard)) (live world.acts) ≡ part.Answer key →
     invite_answered m ≡ Some branch → SeatAnswerIsTied directory world (record { 0 = key }) branch (rooms_in directory world)
 
--- the INVITE whose 2xx waits for this ACK went to a peer who is trusted as that of the other leg is
+-- the INVITE whose 2xx waits for this ACK was sent to a peer that is trusted exactly if that of the other leg is
 abbrev pub AckIsTied : Directory → World → Said → Type 0
 AckIsTied directory world m = (call : ℕ) (side : Side) (e : Entry) → named_by m.heard (calls_in directory world).entries ≡ Some (record { 0 = call }, side) →
     entry_of call (calls_in directory world).entries ≡ Some e → SentIn e.call.phase (trust_of (site_of directory) (λ key. false)) e.call side m
@@ -176,13 +176,13 @@ DigestIsTied directory world (Events.Asked request kept rows) = Unit {0}
 abbrev pub IsEarly : World → Type 0
 IsEarly world = world.drawn < 2 ^ 60
 
--- so it is whenever an event comes
+-- this holds whenever an event comes
 abbrev pub AllEarly : Directory → (token : List ℕ) → (fuel : ℕ) → List Notice → World → Type 0
 AllEarly directory token fuel [] world = Unit {0}
 AllEarly directory token fuel (notice ∷ others) world =
     IsEarly (coming directory token fuel notice world) × AllEarly directory token fuel others (one_more directory token fuel notice world)
 
--- each message of a run is tied, in the world in which it comes, where no token was drawn twice by then
+-- each message of a run is of such transactions, in the state in which it comes, where no token was drawn twice by then
 abbrev pub AllTied : Directory → (token : List ℕ) → (fuel : ℕ) → List Notice → World → Type 0
 AllTied directory token fuel [] world = Unit {0}
 AllTied directory token fuel (notice ∷ others) world =

@@ -1,7 +1,7 @@
--- Which role a message has in a run, by what was done before it. What a trusted peer says of itself may show to others only where it is said in an INVITE that opens a call, in
--- the dialog of a call that stands, in a PRACK or an UPDATE, or to such a request of the server that is waited on: there it is private where its side of the call is restricted.
--- All else goes no further, and whatever may be private of that is (RFC 3261 §9.2, §12.2.2, §17.1.3, §17.2.3; RFC 3262 §4; RFC 3311 §5; RFC 4579 §5; TS 24.607 §4.5.2, TS 24.608
--- §4.5.2).
+-- Which role a message has in a run, by what was done before it. What a trusted peer discloses of itself can become visible to others only in an INVITE that opens a call, in the
+-- dialog of an established call, in a PRACK or an UPDATE, or in a response that is awaited to such a request of the server: there it is private where its side of the call is
+-- restricted. All else is not relayed, and all of it that may be private is (RFC 3261 §9.2, §12.2.2, §17.1.3, §17.2.3; RFC 3262 §4; RFC 3311 §5; RFC 4579 §5; TS 24.607 §4.5.2,
+-- TS 24.608 §4.5.2).
 use Rattle.std.specs.Prelude.{ℕ, ◌==◌, ◌&&◌, Bool, true, if◌then◌else◌, Option, Some, None, List, [], codes, is_none, position, slice_get}
 use Rattle.std.specs.Option.{unwrap_or}
 use Rattle.mmtel_answers.specs.Said.{Said}
@@ -56,32 +56,32 @@ use Rattle.mmtel_run.specs.Records.{in_force}
 use Rattle.mmtel_run.specs.Refusals.{is_subscribe}
 use Rattle.mmtel_run.specs.World.{World, calls_in, rooms_in}
 
--- ---- what goes no further
+-- ---- what is not relayed
 
--- of a request all that may be private of one, whoever sends it and whether or not anybody is restricted: what the restricted caller's INVITE hides hides the most
+-- of a request all that may be private of one, whoever sends it and whether or not anybody is restricted: the INVITE of a restricted caller hides the most
 abbrev pub unshown_request : Role
 unshown_request = Opens
 
--- of a response too: what the restricted caller answers hides the most
+-- of a response too: a response of a restricted caller hides the most
 abbrev pub unshown_response : Role
 unshown_response = Says Caller
 
--- ---- a side says it
+-- ---- a side sends it
 
--- this peer said it
+-- it comes from this peer
 abbrev pub comes_from : Peer → Said → Bool
 comes_from own m = m.peer.0 == own.0
 
--- the side says it, where it is restricted and this is its own peer
+-- the side sends it, where it is restricted and this is its own peer
 abbrev pub said_by : (restricted : Bool) → (own : Peer) → Side → Said → Role
 said_by restricted own side m = if restricted && comes_from own m then Says side else Plain
 
--- of a call: its caller is restricted for good, its callee by the message and the record of the account that is served there
+-- of a call: its caller is restricted for the whole call, its callee by the message and the record of the served account
 abbrev pub side_role : Opening → Option Service → (own : Peer) → Side → Said → Role
 side_role o service own side m = said_by (facing o service side m).restricted own side m
 
--- ---- a request in the dialog of a side (§12.2.2): the other side is shown it where the call stands, and a PRACK or an UPDATE where it is offered, if these are switched on (RFC 3262
--- §4, RFC 3311 §5.2)
+-- ---- a request in the dialog of a side (§12.2.2): it is relayed to the other side where the call is established, and a PRACK or UPDATE where it is offered, if switched on (RFC
+-- 3262 §4, RFC 3311 §5.2)
 
 -- the peer of a side of an offered call
 abbrev pub peer_offered : Side → Trial → Peer
@@ -101,7 +101,7 @@ abbrev pub request_role_of : (reliable : Bool) → Side → Said → Option Entr
 request_role_of reliable side m None = unshown_request
 request_role_of reliable side m (Some e) = request_role_in reliable e.call.phase e.call.opening side m
 
--- of the call and the side that it names. One that names none is of a seat, whose room shows nobody to anybody (RFC 4579 §5), or is answered by the server
+-- of the call and the side that it names. A request that names none is of a participant, whose conference relays nobody's data (RFC 4579 §5), or is answered by the server
 abbrev pub named_role : (reliable : Bool) → Said → List Entry → Option (CallNo × Side) → Role
 named_role reliable m es None = unshown_request
 named_role reliable m es (Some x) = request_role_of reliable x.1 m (entry_of x.0.0 es)
@@ -111,7 +111,7 @@ dialog_role directory world m = named_role directory.reliable m (calls_in direct
 
 -- ---- a response to a request of a call (§17.1.3)
 
--- to the INVITE that the call waits on: the side that was asked says it
+-- to the INVITE whose response the call awaits: it comes from the side that was sent it
 abbrev pub awaited_role : Phase → Opening → Said → Role
 awaited_role (Offered x) o m = if comes_from x.callee.leg.dialogue.peer m then side_role o x.attempt.service x.attempt.invitation.dialogue.peer Callee m else Plain
 awaited_role (Stood x (Answered side success)) o m = unshown_response
@@ -121,7 +121,7 @@ awaited_role (Stood x (Asking side q)) o m = side_role o x.service q.invitation.
 awaited_role (Lent loan) o m = unshown_response
 awaited_role (Over cause) o m = unshown_response
 
--- an INVITE that it does not wait on, which was left or had a 2xx
+-- an INVITE whose response it does not await, which was abandoned or had a 2xx
 abbrev pub loose_at : Option ℕ → List Loose → Option Loose
 loose_at None ls = None
 loose_at (Some at) ls = slice_get ls at
@@ -138,11 +138,11 @@ abbrev pub of_taken : Said → Option Taken → Bool
 of_taken m None = true
 of_taken m (Some t) = comes_from t.invitation.dialogue.peer m
 
--- what its own peer says to such a one goes no further
+-- a response to such an INVITE from its own peer is not relayed
 abbrev pub left_role : Said → Option Loose → Option Taken → Role
 left_role m loose taken = if of_loose m loose && of_taken m taken then unshown_response else Plain
 
--- what is in flight: the other side of the one that asked says it (RFC 3262 §4, RFC 3311 §5.1)
+-- what is in flight: the response comes from the side opposite to the sender's (RFC 3262 §4, RFC 3311 §5.1)
 abbrev pub flight_at : Option ℕ → List Flight → Option Flight
 flight_at None flights = None
 flight_at (Some at) flights = slice_get flights at
@@ -166,11 +166,11 @@ abbrev pub answered_role : (branch : List ℕ) → Said → Option Entry → Opt
 answered_role branch m None = None
 answered_role branch m (Some e) = Some (response_role_of branch m e.call)
 
--- of the call that sent the request of this branch
+-- for the call that sent the request of this branch
 abbrev pub role_in_answer : (branch : List ℕ) → Said → Table → Option Role
 role_in_answer branch m table = answered_role branch m (entry_at (position (sent_it (Some branch)) table.entries) table.entries)
 
--- ---- a response to an INVITE to a seat, which waits or was agreed to, or was left: a room shows nobody to anybody, so what the seat's own peer says goes no further
+-- ---- a response to an INVITE of a participant, pending, accepted or abandoned: a conference relays nobody's data, so nothing from the participant's own peer is relayed
 
 abbrev pub asked_at : (place : Option ℕ) → List Seat → Option Seat
 asked_at None seats = None
@@ -180,7 +180,7 @@ abbrev pub asked_in : (branch : List ℕ) → Option Room → Option Seat
 asked_in branch None = None
 asked_in branch (Some room) = asked_at (position (is_asked branch) room.seats) room.seats
 
--- the seat that was asked by the INVITE of this branch
+-- the participant whose INVITE has this branch
 abbrev pub seat_asked : (branch : List ℕ) → List Room → Option Seat
 seat_asked branch live = asked_in branch (room_at (position (asks branch) live) live)
 
@@ -193,14 +193,14 @@ abbrev pub of_seat : Said → Option Seat → Bool
 of_seat m None = true
 of_seat m (Some seat) = comes_from (dialogue_of seat).peer m && of_invite m seat.invite
 
--- where nobody was asked it goes no further either
+-- where no INVITE was sent it is not relayed either
 abbrev pub seat_answer_role : Said → Option Loose → Option Seat → Role
 seat_answer_role m loose seat = if of_loose m loose && of_seat m seat then unshown_response else Plain
 
 abbrev pub role_in_seat_answer : (branch : List ℕ) → Said → table.Table → Role
 role_in_seat_answer branch m rooms = seat_answer_role m (loose_at (position (is_of branch) rooms.loose) rooms.loose) (seat_asked branch rooms.live)
 
--- ---- a response: to an INVITE, PRACK or UPDATE of a call, or else to an INVITE of a room. What answers a BYE, CANCEL or NOTIFY of the server is shown to nobody
+-- ---- a response: to an INVITE, PRACK or UPDATE of a call, or else to an INVITE of a conference. A response to a BYE, CANCEL or NOTIFY of the server is not relayed
 
 abbrev pub answer_role_by : Directory → World → Said → (branch : Option (List ℕ)) → Role
 answer_role_by directory world m None = unshown_response
@@ -211,11 +211,11 @@ answer_role directory world m = answer_role_by directory world m (invite_answere
 
 -- ---- the role
 
--- an INVITE without To tag opens a call or a room, or asks for a seat
+-- an INVITE without To tag opens a call or a conference, or asks to join one
 abbrev pub is_opening : HeardMessage → Bool
 is_opening message = is_method (codes "INVITE") message.start && is_none message.to_tag
 
--- its caller is restricted: by the words of Privacy, and by the record, as it stands, of the account that is served as the caller
+-- its caller is restricted: by the values of Privacy, and by the record in force of the account that is served as the caller
 abbrev pub hides_caller : Directory → World → HeardMessage → Bool
 hides_caller directory world message =
     is_caller_restricted message.wants
@@ -225,11 +225,11 @@ hides_caller directory world message =
 abbrev pub may_subscribe : Directory → HeardMessage → Bool
 may_subscribe directory message = is_subscribe message && directory.names.mwi
 
--- and one that names no dialog of a call: who asks for whose mailbox decides what is answered (RFC 6665 §4.2.1)
+-- and one that names no dialog of a call: its sender and the mailbox decide the response (RFC 6665 §4.2.1)
 abbrev pub is_subscribing : Directory → World → HeardMessage → Bool
 is_subscribing directory world message = may_subscribe directory message && is_none (named_by message (calls_in directory world).entries)
 
--- of a request that no transaction knows. Nothing of a CANCEL is passed on (§9.2)
+-- of a request that is new to the transactions. Nothing of a CANCEL is relayed (§9.2)
 abbrev pub fresh_role : Directory → World → Said → Role
 fresh_role directory world m =
     if is_opening m.heard then opening_role (hides_caller directory world m.heard)
@@ -237,7 +237,7 @@ fresh_role directory world m =
     else if is_subscribing directory world m.heard then Plain
     else dialog_role directory world m
 
--- by what the transactions take it for: of what they hear again, have no place for, or know nothing of, and of the ACK of a refusal, nothing is passed on (§17.1.3, §17.2.1)
+-- by how the transactions classify it: of a retransmission, a message beyond the capacity, an unmatched one, and the ACK of a refusal, nothing is relayed (§17.1.3, §17.2.1)
 abbrev pub role_as : Directory → World → Said → Part → Role
 role_as directory world m part.Fresh = fresh_role directory world m
 role_as directory world m part.Full = unshown_request

@@ -1,4 +1,4 @@
--- What a run sends out has its own lines and nobody else's (RFC 3261 §7, §25.1): each message that was built, and each text, which is that of a message that was built.
+-- What a run sends has no injected header fields (RFC 3261 §7, §25.1): each message that was built, and each text, which is that of a message that was built.
 use Rattle.std.specs.Prelude.{◌≡◌, true, ◌⊎◌, ℕ, List, [], ◌∷◌, ◌++◌, Option, Some, None, Ok, codes}
 use Rattle.mmtel_answers.specs.Requests.{bare, relaying}
 use Rattle.mmtel_answers.specs.Said.{Said}
@@ -30,7 +30,7 @@ use Rattle.mmtel_transaction.specs.Calls.{Done, DidAck, DidAsk, DidBegin, DidFir
 
 -- ---- the messages that are sent by a transaction
 
--- each that was asked, replied or acknowledged, parted at its line ends, is its start line, its lines, an empty line and its body, and nothing else; and none of these lines
+-- each that was sent, replied or acknowledged, split at its line ends, is its start line, its header fields, an empty line and its body, and nothing else; and none of these lines
 -- has a byte 0, CR or LF
 abbrev pub IsOwnAct : Done → Type 0
 IsOwnAct (DidBegin step) = Unit {0}
@@ -41,7 +41,7 @@ IsOwnAct (DidAck key message) = HasOwnLines message
 IsOwnAct (DidFire key) = Unit {0}
 IsOwnAct (DidSettle key own) = Unit {0}
 
--- a message is the one that was built for it
+-- a message is the one that was built for this operation
 abbrev pub Builds : Done → Message Start → Type 0
 Builds (DidBegin step) built = ⊥
 Builds (DidHear peer message now taken) built = ⊥
@@ -56,15 +56,15 @@ abbrev pub IsBuiltIn : List Done → Message Start → Type 0
 IsBuiltIn [] built = ⊥
 IsBuiltIn (act ∷ older) built = Builds act built ⊎ IsBuiltIn older built
 
--- the text of one of them: it is sent, or sent again
+-- the text of one of them: it is sent, or retransmitted
 pub record IsSentIn (acts : List Done) (text : List ℕ) : Type 0 where
   pub message : Message Start
   pub built : IsBuiltIn acts message
   pub is : text ≡ message_text message
 
--- ---- those that are sent by none
+-- ---- those that no transaction sends
 
--- this message was heard in an event of the run
+-- this message was received in an event of the run
 pub record IsHeardIn (directory : Directory) (happened : List Happened) (said : Said) : Type 0 where
   pub earlier : List Happened
   pub event : Happened
@@ -72,8 +72,8 @@ pub record IsHeardIn (directory : Directory) (happened : List Happened) (said : 
   pub in_order : happened ≡ earlier ++ event ∷ later
   pub is : digest directory event ≡ Heard said
 
--- an ACK was heard in a call while both its sides stood, and goes on in the dialog of the other side: of its lines those that the header table shows, and none of any other
--- message; its body, and one hop less (RFC 3261 §13.2.2.4, §16.6)
+-- an ACK was received in a call while both its sides were confirmed, and is relayed in the dialog of the other side: with those of its header fields that the header table copies,
+-- and none of any other message; with its body, and one hop less (RFC 3261 §13.2.2.4, §16.6)
 pub record IsPassedOn (directory : Directory) (happened : List Happened) (deeds : List Deed) (dialogue : Dialogue) (given : Given) : Type 0 where
   pub acked : Acked
   pub in_call : IsIn acked (acked_after (site_of directory) deeds)
@@ -82,8 +82,8 @@ pub record IsPassedOn (directory : Directory) (happened : List Happened) (deeds 
   pub dialog : dialogue ≡ acked.dialogue
   pub is : given ≡ relaying given.sip given.branch (passed acked.facing acked.to_trusted [] acked.ack.heard.lines) acked.ack.heard
 
--- the ACK of a 2xx (RFC 3261 §13.2.2.4) was made of a dialog and of what it was given, and has its own lines: the server acknowledges by itself and gives nothing, or passes an
--- ACK on
+-- the ACK of a 2xx (RFC 3261 §13.2.2.4) was made from a dialog and from what was passed for it, and has no injected header fields: the server acknowledges by itself, with nothing
+-- passed, or relays an ACK
 pub record IsOwnAck (directory : Directory) (happened : List Happened) (deeds : List Deed) (text : List ℕ) : Type 0 where
   pub dialogue : Dialogue
   pub given : Given
@@ -91,14 +91,14 @@ pub record IsOwnAck (directory : Directory) (happened : List Happened) (deeds : 
   pub lines : HasOwnLines (ack_of dialogue given)
   pub is : text ≡ message_text (ack_of dialogue given)
 
--- what is answered to an event by no transaction, with this tag: to a request that is one too many, and to bytes that are refused as they are read
+-- the response to an event that no transaction sends, with this tag: to a request beyond the capacity, and to bytes that are refused as they are read
 abbrev pub plain_reply : Directory → (tag : List ℕ) → Digest → Option (Message Start)
 plain_reply directory tag Nothing = None
 plain_reply directory tag (Refused peer source reply) = Some (completed_reply tag source reply)
 plain_reply directory tag (Heard said) = Some (response_to directory.sip tag said (plainly 503))
 plain_reply directory tag (Asked request kept rows) = None
 
--- one of these happened, and this is the text of the answer to it, which has its own lines
+-- this is the text of the response to one of these events, which has no injected header fields
 pub record IsOwnReply (directory : Directory) (happened : List Happened) (text : List ℕ) : Type 0 where
   pub earlier : List Happened
   pub event : Happened
@@ -112,12 +112,12 @@ pub record IsOwnReply (directory : Directory) (happened : List Happened) (text :
 
 -- ---- of a run
 
--- what is offered to a peer is the text of one of these messages
+-- what is sent to a peer is the text of one of these messages
 abbrev pub IsOwnOffer : Directory → List Happened → List Done → List Deed → Offer → Type 0
 IsOwnOffer directory happened acts deeds (offer.To peer at text) = IsSentIn acts text ⊎ (IsOwnAck directory happened deeds text ⊎ IsOwnReply directory happened text)
 IsOwnOffer directory happened acts deeds (offer.Web at text) = Unit {0}
 
--- so each message that was built has its own lines, and nothing is offered to a peer but the texts of messages that were built
+-- so each message that was built has no injected header fields, and nothing is sent to a peer but the texts of messages that were built
 pub record AllAreClean (directory : Directory) (happened : List Happened) (world : World) : Type 0 where
   pub built : Each IsOwnAct world.acts
   pub offered : Each (IsOwnOffer directory happened world.acts world.deeds) world.offers
@@ -126,11 +126,11 @@ abbrev pub SendsCleanMessages : Directory → (token : List ℕ) → (loaded : T
 SendsCleanMessages directory token loaded happened =
     (fuel : ℕ) → IsEnough directory token loaded fuel happened → AllAreClean directory happened (world_after directory token loaded fuel happened)
 
--- of every run that is not longer than numbers count, under a home domain and a token that are of one line each, whatever was heard, loaded and uploaded
+-- of every run within the range of the counters, under a home domain and a token that are of one line each, whatever was received, loaded and uploaded
 abbrev pub RunsSendCleanMessages : Type 0
 RunsSendCleanMessages = (directory : Directory) (token : List ℕ) (loaded : Texts) (happened : List Happened) → IsClean directory.home → IsClean token →
     IsShortRun directory token loaded happened → SendsCleanMessages directory token loaded happened
 
--- each home domain that was read of a configuration is of one line
+-- each home domain that was read of a configuration is one line
 abbrev pub HomesAreClean : Type 0
 HomesAreClean = (text : List ℕ) (directory : Directory) → directory_of text ≡ Ok directory → IsClean directory.home

@@ -1,4 +1,4 @@
--- The INVITEs of conference rooms: each was sent, once, to the peer of its seat (RFC 3261 §8.1.1.7, §13.2.1, §17.1.3; RFC 4579 §5.5, §5.6).
+-- The INVITEs of conferences: each was sent, once, to the peer of its participant (RFC 3261 §8.1.1.7, §13.2.1, §17.1.3; RFC 4579 §5.5, §5.6).
 use Rattle.std.specs.Prelude.{◌≡◌, ◌<◌, ◌^◌, ◌++◌, ℕ, List, ◌∷◌, Option, Some, None}
 use Rattle.mmtel_call_laws.specs.Branches.Sent.{AreNumbered, Each, InvitationWasSent, LooseWasSent, WasSent, asks_in}
 use Rattle.mmtel_desk.specs.declared.desks.Desk.{Desk}
@@ -17,9 +17,9 @@ use Rattle.mmtel_transaction.specs.Tokens.{Drawn}
 use Rattle.mmtel_types.specs.declared.addrs.Addr.{Addr}
 use Rattle.mmtel_types.specs.declared.numbers.Peer.{Peer}
 
--- ---- where this says which were sent, and to whom
+-- ---- for a predicate of which INVITEs were sent, and to whom
 
--- the INVITE to a seat, whose dialog is with this peer
+-- the INVITE of a participant, whose dialog is with this peer
 abbrev pub InviteWasSent : (List ℕ → Peer → Type 0) → Peer → Option Invite → Type 0
 InviteWasSent sent peer None = Unit {0}
 InviteWasSent sent peer (Some (Waiting number i)) = InvitationWasSent sent i × sent i.branch peer
@@ -31,17 +31,17 @@ SeatWasSent sent seat = InviteWasSent sent (dialogue_of seat).peer seat.invite
 abbrev pub RoomWasSent : (List ℕ → Peer → Type 0) → Room → Type 0
 RoomWasSent sent room = Each (SeatWasSent sent) room.seats
 
--- those of the seats, and those that were left
+-- those of the participants, and those that were abandoned
 pub record TableWasSent (sent : List ℕ → Peer → Type 0) (table : Table) : Type 0 where
   pub live_in : Each (RoomWasSent sent) table.live
   pub loose_in : Each (LooseWasSent sent) table.loose
 
--- ---- of a deed that found these tokens drawn, after all that was asked before
+-- ---- for an operation that began with these tokens drawn, after all requests before
 
 pub record DeedSendsOnce (sip : Addr) (before : List (Peer × Message Start)) (tokens : Drawn) (desk : Desk) (table : Table) : Type 0 where
-  -- each INVITE of the rooms was sent to its peer, before or by this deed
+  -- each INVITE of the conferences was sent to its peer, before or by this operation
   pub rooms_in : TableWasSent (WasSent sip (before ++ asks_in desk.out)) table
-  -- the INVITEs that go out have numbers that were drawn for this deed, each its own
+  -- the INVITEs that are output have numbers that were drawn for this operation, each its own
   pub out_in : desk.tokens.drawn < 2 ^ 60 → AreNumbered sip tokens.token tokens.drawn desk.tokens.drawn desk.out
   pub text_in : desk.tokens.token ≡ tokens.token
 

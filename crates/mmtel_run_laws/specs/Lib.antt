@@ -1,22 +1,22 @@
 -- What public clauses cite, which a user of the crate has to believe.
--- What each call of a run comes to, and how things stood for it:
+-- The outcome of each call of a run, and the states on which it depends:
 pub mod Outcome
 pub mod Stood
 pub mod Awaited
 pub mod Sent
 -- Which requests ask for too short a session:
 pub mod Sessions
--- Whom the server tells of a mailbox, and what:
+-- Whom the server notifies of a mailbox, and with which content:
 pub mod Mailboxes
--- The charging rows:
+-- The CDRs:
 pub mod Rows
 pub mod Timed
--- What is sent out:
+-- What is sent:
 pub mod Clean
--- What is offered is only added to, and what of it is sent to an address:
+-- Outputs are only added to, and which of them are sent to an address:
 pub mod Added
 pub mod Seen
--- What nobody may learn:
+-- Noninterference:
 pub mod Belonging
 pub mod Mask
 pub mod Worked

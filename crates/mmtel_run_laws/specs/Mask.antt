@@ -1,4 +1,4 @@
--- A run without its private places, event by event, by what was done before each: what two runs are compared by
+-- A run without its private places, event by event, by what was done before each: the value by which two runs are compared
 -- (RFC 3323 §4.1, RFC 3325 §7, RFC 7044 §10.1, TS 24.607 §4.5.2, TS 24.608 §4.5.2).
 use Rattle.std.specs.Prelude.{ℕ, Bool, ◌&&◌, if◌then◌else◌, Option, Some, None, List, [], ◌∷◌, ◌++◌, map}
 use Rattle.std.specs.List.{flat_map}
@@ -31,24 +31,24 @@ use Rattle.mmtel_run.specs.Run.{clock_at, one_more, settled}
 use Rattle.mmtel_run.specs.World.{World, beginning, begun}
 use Rattle.mmtel_run_laws.specs.Belonging.{is_opening, role_of}
 
--- ---- what is asked of callers in a run
+-- ---- the tests of callers in a run
 
--- the records of these texts, and that of an account which never said anything
+-- the records of these texts, and that of an account without a text
 abbrev pub records_of : Texts → List Sheet
 records_of texts = empty_sheet ∷ map (λ text. kept_sheet text.1) texts
 
--- all records of a run: those that were loaded, and those that were kept
+-- all records of a run: those that were loaded, and those that were stored
 abbrev pub records_in : Directory → (loaded : Texts) → List Happened → List Sheet
 records_in directory loaded happened = records_of (loaded ++ uploads_of directory.names happened)
 
--- the identity parts of the rules by which a record judges a caller
+-- the identity parts of the rules by which a record decides about a caller
 abbrev pub parts_of : Sheet → List Who
 parts_of sheet = identity_parts (diversion_rules sheet.diversion) ++ identity_parts (rules_of sheet.incoming)
 
 abbrev pub asked_by : List Sheet → List Who
 asked_by records = flat_map parts_of records
 
--- ---- the tests beside an INVITE that opens a call or a room, or asks for a seat, where it hides its caller
+-- ---- the tests of an INVITE that opens a call or a conference, or asks to join one, where it hides its caller
 
 pub record Tests : Type 0 where
   -- the account of the caller
@@ -65,7 +65,7 @@ tests_of accounts asked message = record {
   answers = map (identity_holds (caller_of message)) asked;
 }
 
--- of one that hides nobody the message tells all of it
+-- where the caller is not hidden, the message itself shows all of this
 abbrev pub tests_beside : List AccountIdentity → List Who → Role → HeardMessage → Option Tests
 tests_beside accounts asked role message = if is_opening message && hides role then Some (tests_of accounts asked message) else None
 
@@ -74,13 +74,13 @@ tests_beside accounts asked role message = if is_opening message && hides role t
 pub data MaskedDigest : Type 0 where
   Nothing : MaskedDigest
   Refused : (peer : Peer) → (source : Addr) → (reply : Message Start) → MaskedDigest
-  -- a message without what is private of it, and the tests beside it
+  -- a message without its private places, and the results of the tests
   Heard : (left : Said) → (tests : Option Tests) → MaskedDigest
-  -- what a web request put in force, and of which mailbox it said how many messages wait, where that was accepted: each NOTIFY that tells so draws a number, which strangers see in
-  -- what is drawn later. What else is asked and replied on the web shows to no peer
+  -- the record that a web request put in force, and the mailbox whose counts it set, where that was accepted: each NOTIFY of that draws a number, which untrusted peers
+  -- see in what is drawn afterwards. No other web request or reply affects what a peer sees
   Asked : (put : Option (Account × List ℕ)) → (waits : Option (Account × Counts)) → MaskedDigest
 
--- by the world in which it comes, where this is asked of callers
+-- in the state in which the event comes, with these tests of callers
 abbrev pub mask_digest : Directory → (asked : List Who) → World → Digest → MaskedDigest
 mask_digest directory asked world Events.Nothing = Nothing
 mask_digest directory asked world (Events.Refused peer source reply) = Refused peer source reply
@@ -88,7 +88,7 @@ mask_digest directory asked world (Events.Heard said) =
     Heard (without_private (role_of directory world said) said) (tests_beside directory.names.accounts asked (role_of directory world said) said.heard)
 mask_digest directory asked world (Events.Asked request kept rows) = Asked (kept_upload kept (upload_in directory.names request)) (put_in directory.names request kept)
 
--- the world in which an event comes: after the deadlines that are due by then, in a step of its own
+-- the state in which an event comes: after the timers that are due by then, in a step of its own
 abbrev pub coming : Directory → (token : List ℕ) → (fuel : ℕ) → Notice → World → World
 coming directory token fuel notice world = record (begun (settled directory token fuel (clock_at world notice.at) world)) { clock = clock_at world notice.at }
 
@@ -98,7 +98,7 @@ mask_all directory token fuel asked (notice ∷ others) world =
     (notice.at, mask_digest directory asked (coming directory token fuel notice world) notice.digest) ∷
     mask_all directory token fuel asked others (one_more directory token fuel notice world)
 
--- what two runs are compared by: what is asked of callers in the run, and its events, each with its moment
+-- the value by which two runs are compared: the tests of callers in the run, and its events, each with its moment
 pub record Mask : Type 0 where
   pub asked : List Who
   pub events : List (ℕ × MaskedDigest)

@@ -1,5 +1,5 @@
--- What each call of a run comes to: the precedence of services over how its attempts ended and over the records, registrations and live calls as they stood in the run when
--- it reached each target; the bound on diversions; the 181s; and its rows (TS 24.604 §4.5.2.6, TS 24.611 §4.5.2, TS 24.615 §4.5.5, TS 32.260 §5).
+-- The outcome of each call of a run: the precedence of services over how its attempts ended and over the records, registrations and live calls as they were in the run when
+-- it reached each target; the bound on diversions; the 181s; and its CDRs (TS 24.604 §4.5.2.6, TS 24.611 §4.5.2, TS 24.615 §4.5.5, TS 32.260 §5).
 use Rattle.std.specs.Prelude.{◌≡◌, ◌≤◌, ℕ, ◌+◌, ◌&&◌, max, Bool, true, false, List, [], ◌∷◌, ◌++◌, Some, count_by, filter, is_some, length}
 use Rattle.mmtel_call_decisions.specs.Opening.{received_list}
 use Rattle.mmtel_call.specs.declared.calls.Phase.TheVariants.{Over}
@@ -38,9 +38,9 @@ use Rattle.mmtel_run_laws.specs.Rows.{all_rows, is_call_row}
 use Rattle.mmtel_run_laws.specs.Sent.{FinalComes, GoesOut}
 use Rattle.mmtel_run_laws.specs.Stood.{ReachedIn, StoodIn, inputs_of}
 
--- ---- what is seen of a call
+-- ---- what is observed of a call
 
--- what was seen while it was offered: INVITEs to its targets, and a final to its caller
+-- what is observed while it is offered: INVITEs to its targets, and a final response to its caller
 abbrev pub seen_of : Life → List Sign
 seen_of life = signs_of life.start.arrival.key (emits_while_offered life.start life.events)
 
@@ -49,7 +49,7 @@ is_invited (Invited uri) = true
 is_invited Accepted = false
 is_invited (Refused code) = false
 
--- the server's own 181s to its caller, in what goes out as this comes to it: of a signal, or as a leg of it is taken out or put back, or as it ends without one
+-- the server's own 181s to its caller, in the output of this event of it: of a signal, or as a leg of it is taken out or put back, or as it ends without one
 abbrev pub notices_by : Start → Event → List Emit → List (Message StartLine)
 notices_by s (Hears x) out = own_notices s x out
 notices_by s (Releases side) out = notices_in s.arrival.key out
@@ -61,7 +61,7 @@ unfoldable pub notices_of : Start → List Event → List (Message StartLine)
 notices_of s [] = notices_in s.arrival.key (added s.desk.out (first_step s).desk.out)
 notices_of s (x ∷ earlier) = notices_of s earlier ++ notices_by s x (emits_by s.site x (call_after s earlier))
 
--- each leg of it that was taken out, for a conference room, was put back by the next thing that came to it, or the call ended by that; where one `is_away`, it was taken
+-- each leg of it that was taken out, for a conference, was put back by the next event of the call, or the call ended by that; where one `is_away`, it was taken
 -- out by the last of these (RFC 4579 §5.6)
 abbrev pub AreLentAtOnce : (is_away : Bool) → List Event → Type 0
 AreLentAtOnce false [] = Unit {0}
@@ -75,85 +75,85 @@ AreLentAtOnce true (Releases side ∷ earlier) = AreLentAtOnce false earlier
 AreLentAtOnce true (Restores away ∷ earlier) = ⊥
 AreLentAtOnce true (Finishes at desk ∷ earlier) = ⊥
 
--- the rows of the call of this number, of those that the keeper took and those that wait; a row of a participant has the number of a room
+-- the CDRs of the call of this number, of those that the keeper accepted and those that wait; a CDR of a participant has the number of a conference
 abbrev pub rows_of_call : World → (number : ℕ) → List Row
 rows_of_call world number = filter (λ row. is_call_row row && is_row_of number row) (all_rows world)
 
--- ---- what the call of a number comes to, where its life in the run is this
+-- ---- the outcome of the call of a number, where its trace in the run is this
 
--- in the words of the bound, that a configuration sets (RFC 7044 §7)
+-- the statement about the bound, which a configuration sets (RFC 7044 §7)
 pub record StaysWithinTheBound (directory : Directory) (life : Life) : Type 0 where
-  -- the diversions that it came with and those that were made are together at most the bound, or what it came with where that is more
+  -- the diversions that it came with and those that were made are together at most the bound, or the number that it came with where that is more
   pub diversions : received_in (opening_in life.start) + diversions_made (outcome_after life.start life.events) ≤ max directory.bound (received_in (opening_in life.start))
   -- it reaches at most one target more than the bound, and has no more INVITEs
   pub targets : length (outcome_after life.start life.events).targets ≤ directory.bound + 1
   pub attempts : count_by is_invited (seen_of life) ≤ directory.bound + 1
 
--- in the words of whoever reads the rows
+-- the statement about its CDRs
 pub record IsChargedExactly (world : World) (number : ℕ) (life : Life) : Type 0 where
-  -- while it is not over it has no row, and what began runs
+  -- while it has not ended it has no CDR, and the meters that began run
   pub runs : is_over (call_after life.start life.events).phase ≡ false →
       (running (call_after life.start life.events) ≡ parts_after life.start life.events) × (rows_of_call world number ≡ [])
-  -- once it is over nothing runs, and its rows are those of the parts that began, in that order, each once
+  -- once it has ended no meter runs, and its CDRs are those of the parts that began, in that order, each once
   pub filed : (cause : Cause) → (call_after life.start life.events).phase ≡ Over cause →
       (running (call_after life.start life.events) ≡ []) × (rows_of_call world number ≡ charges_after life.start life.events cause)
   -- and where it was answered, their cause is Ended
   pub ended : (cause : Cause) → (call_after life.start life.events).phase ≡ Over cause → is_some (answer_in (endings_after life.start life.events)) ≡ true → cause ≡ Ended
 
--- by its Outcome, which is over how its attempts ended and how things stood
+-- by its Outcome, which is a function of how its attempts ended and of the states of the run
 pub record CallComesToOutcome (directory : Directory) (token : List ℕ) (loaded : Texts) (fuel : ℕ) (happened : List Happened) (number : ℕ) (life : Life) : Type 0 where
-  -- how it stands in the table, its result, what went out for it, and what was counted of it
+  -- its state in the table, its result, what was sent for it, and what was counted of it
   pub exact : CallIsExact (site_of directory) (world_after directory token loaded fuel happened).deeds number life
-  -- the INVITEs to its targets, each by the diversion that led there, and its final are those of Outcome, in order
+  -- the INVITEs to its targets, each by the diversion that led there, and its final response are those of Outcome, in order
   pub shown : seen_of life ≡ signs_of_targets (opening_in life.start) (outcome_after life.start life.events).targets ++
       sign_of_result (outcome_after life.start life.events).result
-  -- and so in its whole life: it has no other INVITE to a target and no other final, whatever comes to it once it is answered or over
+  -- and so for its whole trace: it has no other INVITE to a target and no other final response, whatever it receives once it is answered or has ended
   pub throughout : signs_after life.start life.events ≡ signs_of_targets (opening_in life.start) (outcome_after life.start life.events).targets ++
       sign_of_result (outcome_after life.start life.events).result
-  -- and the server transaction of the INVITE that opened it is live, and of the peer who sent that, as long as no final was offered in it; so that final is offered to them
+  -- the server transaction of the INVITE that opened it is live, and of the peer that sent that, as long as no final response was sent in it; so that response is sent to that peer
   pub awaited : AwaitsItsFinal (world_after directory token loaded fuel happened) life.start
-  -- and while it is offered none was, by itself, by another call, by a room or by the server; so that transaction is live then, without condition
+  -- while it is offered no final response was sent in it, by itself, by another call, by a conference or by the server; so that transaction is live then, without condition
   pub replied : is_offered (call_after life.start life.events).phase ≡ true → IsAnswerable (world_after directory token loaded fuel happened) life.start
-  -- and whatever it brings forth goes out: each request and each ACK to its peer, and each answer to its transaction, by which it is offered to the peer of that where it is live
+  -- whatever it outputs is sent: each request and each ACK to its peer, and each response to its transaction, which sends it to its peer where it is live
   pub sent : Each (GoesOut (world_after directory token loaded fuel happened))
       (emits_of (site_of directory) number (world_after directory token loaded fuel happened).deeds)
-  -- its final to its caller, where it has one, is offered to the peer who sent that INVITE
+  -- its final response to its caller, where it has one, is sent to the peer that sent that INVITE
   pub answered : Each (FinalComes (world_after directory token loaded fuel happened) life.start)
       (emits_of (site_of directory) number (world_after directory token loaded fuel happened).deeds)
-  -- how its attempts ended is what was seen of them: what went out, and what was heard
+  -- how its attempts ended is what was observed of them: what was sent, and what was received
   pub seen : endings_after life.start life.events ≡ endings_seen life.start life.events
-  -- while it is offered its attempt is the one that is on its way, and that one's deadlines went out, each at its moment, and no other, and those of its reliable answers wait for
-  -- their PRACK which were passed on and not acknowledged (RFC 3262 §3); and else none is on its way
+  -- while it is offered its attempt is the current one, whose timers were armed, each for its moment, and no others, and the reliable responses that wait for their PRACK
+  -- are those that were relayed and not acknowledged (RFC 3262 §3); at other times it has no current attempt
   pub watched :
       IsSeen directory.bound (no_reply_after life.start life.events) (call_after life.start life.events).acks (call_after life.start life.events).phase
       (watch_after life.start life.events)
-  -- the deadline of its session that counts went out in the step of the last 2xx which it passed on, at the moment and with the interval of that, and no other since
+  -- the session timer that counts was armed in the step of the last 2xx which it relayed, for the moment and with the interval of that, and no other since
   pub session : IsSessionSeen directory.timer (call_after life.start life.events) (session_after life.start life.events)
-  -- and by that deadline it was over, where it talked or asked, and by none that went out before (RFC 4028 §10)
+  -- and when that timer fired it ended, where it was stable or in a re-INVITE, and by none that was armed before (RFC 4028 §10)
   pub expires : (later earlier : List Event) (x : Heard) (number : ℕ) → life.events ≡ later ++ Hears x ∷ earlier → x.signal ≡ signal.Due (due.Expired number) →
       ExpiresOn life.start earlier x number
-  -- it heard signals, and no leg of it is away: one that was taken out was put back at once, or the call ended
+  -- it received signals, and no leg of it is detached: one that was taken out was put back by the next operation, or the call ended
   pub lent : AreLentAtOnce false life.events
-  -- the server's own 181s to its caller are those of the diversions that its Outcome says were made, in order (TS 24.604 §4.5.2.6)
+  -- the server's own 181s to its caller are those of the diversions that its Outcome contains, in order (TS 24.604 §4.5.2.6)
   pub told : notices_of life.start life.events
       ≡ notices_due (site_of directory) (opening_in life.start) (received_list life.start.arrival.invite) (outcome_after life.start life.events).targets
   pub bounded : StaysWithinTheBound directory life
   pub charged : IsChargedExactly (world_after directory token loaded fuel happened) number life
-  -- things stood as they stood in the run in the deed by which it opened,
+  -- the state was that of the run in the operation by which it opened,
   pub opened : StoodIn (inputs_of directory token loaded) fuel happened number (record { start = life.start; events = [] }) life.start.arrival.served.origin life.start.now
   -- and in the one by which it reached the target of its next diversion after k others
   pub reached : (k : ℕ) → ReachedIn (inputs_of directory token loaded) fuel happened number life k (stood_after life.start life.events k)
 
 -- ---- of a run
 
--- so it is with each of its calls
+-- this holds for each of its calls
 abbrev pub CallsComeToOutcome : Directory → (token : List ℕ) → (loaded : Texts) → List Happened → Type 0
 CallsComeToOutcome directory token loaded happened =
     (fuel : ℕ) (number : ℕ) (life : Life) → IsEnough directory token loaded fuel happened →
     life_of (site_of directory) number (world_after directory token loaded fuel happened).deeds ≡ Some life →
     CallComesToOutcome directory token loaded fuel happened number life
 
--- of every run that is not longer than numbers count
+-- of every run within the range of the counters
 abbrev pub CallsOfRunsComeToOutcome : Type 0
 CallsOfRunsComeToOutcome = (directory : Directory) (token : List ℕ) (loaded : Texts) (happened : List Happened) → IsShortRun directory token loaded happened →
     CallsComeToOutcome directory token loaded happened

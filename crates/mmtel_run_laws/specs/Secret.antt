@@ -1,5 +1,5 @@
--- What is claimed of whole runs with calls and conference rooms: what an untrusted peer is offered is equal in any other run that differs in private places alone and
--- answers every test alike
+-- Noninterference of whole runs with calls and conferences: what an untrusted peer is sent is equal in any other run that differs in private places alone and
+-- gives the same result for every test
 -- (RFC 3323, RFC 3325 §7, RFC 7044 §10.1).
 use Rattle.std.specs.Prelude.{◌≡◌, ◌<◌, ◌&&◌, ◌||◌, ℕ, Bool, true, false, List, Ok, length, nat_le}
 use Rattle.std.specs.List.{list_all}
@@ -34,14 +34,14 @@ pub record BranchesAreRead (directory : Directory) (token : List ℕ) : Type 0 w
 abbrev pub is_hex_digit : ℕ → Bool
 is_hex_digit byte = (nat_le 48 byte && nat_le byte 57) || (nat_le 97 byte && nat_le byte 102)
 
--- so it is of each configuration that was read, and of each token of such digits
+-- this holds for each configuration that was read, and for each token of such digits
 abbrev pub ConfigurationsAreRead : Type 0
 ConfigurationsAreRead = (text : List ℕ) (directory : Directory) (token : List ℕ) → directory_of text ≡ Ok directory → 0 < length token → list_all is_hex_digit token ≡ true →
     BranchesAreRead directory token
 
--- ---- by so many firings
+-- ---- for a number of firings
 
--- of runs in which fewer than 2^60 numbers are drawn: under two configurations that are equal but for the URIs of accounts, where accounts are looked up alike in the masked run
+-- for runs in which fewer than 2^60 numbers are drawn: under two configurations that are equal but for the URIs of accounts, where lookups in the masked run have equal results
 abbrev pub KeepsTheSecretInBoth : Type 0
 KeepsTheSecretInBoth = (directory far : Directory) (token : List ℕ) (loaded : Texts) (fuel : ℕ) (happened run : List Happened) (seer : Peer) →
     BranchesAreRead directory token → SiteAlike (records_in directory loaded happened) directory far → AllLookUp directory far (mask far token loaded fuel run).events →
@@ -49,38 +49,38 @@ KeepsTheSecretInBoth = (directory far : Directory) (token : List ℕ) (loaded : 
     mask directory token loaded fuel happened ≡ mask far token loaded fuel run →
     view seer (gives directory token loaded fuel happened) ≡ view seer (gives far token loaded fuel run)
 
--- so they are where one renames accounts that nothing names by which one is looked up
+-- this is the case where one configuration renames accounts that no URI names by which an account is looked up
 abbrev pub RenamedAreLookedUpAlike : Type 0
 RenamedAreLookedUpAlike = (directory other : Directory) (renamed : List Account) (records : List Sheet) (masked : Mask) →
     Renames renamed directory other → Neutral renamed directory other records masked → SiteAlike records directory other × AllLookUp directory other masked.events
 
--- and under one configuration
+-- and for runs under one configuration
 abbrev pub KeepsTheSecret : Type 0
 KeepsTheSecret = (directory : Directory) (token : List ℕ) (loaded : Texts) (fuel : ℕ) (happened run : List Happened) (seer : Peer) →
     BranchesAreRead directory token → AllEarly directory token fuel (notices directory happened) (beginning loaded) → trusts directory seer ≡ false →
     mask directory token loaded fuel happened ≡ mask directory token loaded fuel run →
     view seer (gives directory token loaded fuel happened) ≡ view seer (gives directory token loaded fuel run)
 
--- each client transaction of a run, by which a call or a seat of a room is answered, and each INVITE of a call that is acknowledged, is tied to the peer that was asked
+-- each client transaction of a run in which a call or a participant gets a response, and each INVITE of a call that is acknowledged, is with the peer that was sent the request
 abbrev pub RunsAreTied : Type 0
 RunsAreTied = (directory : Directory) (token : List ℕ) (loaded : Texts) (fuel : ℕ) (happened : List Happened) → BranchesAreRead directory token →
     AllTied directory token fuel (notices directory happened) (beginning loaded)
 
--- ---- of what is offered exactly, however many deadlines fire
+-- ---- for the exact outputs, however many timers fire
 
--- without its private places the run in which this happened is this
+-- this is the run with these events, without its private places
 pub record Masks (directory : Directory) (token : List ℕ) (loaded : Texts) (happened : List Happened) (masked : Mask) : Type 0 where
   pub fuel : ℕ
   pub enough : IsEnough directory token loaded fuel happened
   pub exact : masked ≡ mask directory token loaded fuel happened
 
--- and nothing else: more firings than are enough change nothing of it
+-- and it is only one: more firings than are enough do not change it
 abbrev pub MasksOnce : Type 0
 MasksOnce = (directory : Directory) (token : List ℕ) (loaded : Texts) (happened : List Happened) (masked other : Mask) →
     Masks directory token loaded happened masked → Masks directory token loaded happened other → masked ≡ other
 
--- of these offers an untrusted peer sees what it would see of any other run that is the same without its private places, also under a configuration that renames accounts, where
--- nothing by which an account is looked up in these runs names one of them
+-- of these outputs an untrusted peer observes what it would observe of any other run that is the same without its private places, also under a configuration that renames accounts,
+-- where no URI by which an account is looked up in these runs names one of them
 abbrev pub SeesAlike : Directory → (token : List ℕ) → (loaded : Texts) → List Happened → List Offer → Type 0
 SeesAlike directory token loaded happened offers =
     (other : Directory) (renamed : List Account) (run : List Happened) (others : List Offer) (masked : Mask) (seer : Peer) →
@@ -89,7 +89,7 @@ SeesAlike directory token loaded happened offers =
     Masks directory token loaded happened masked → Masks other token loaded run masked →
     Gives other token loaded run others → view seer offers ≡ view seer others
 
--- so it is of whatever is offered exactly
+-- this holds for any outputs that are exactly those of the run
 abbrev pub OffersKeepTheSecret : Type 0
 OffersKeepTheSecret = (directory : Directory) (token : List ℕ) (loaded : Texts) (happened : List Happened) (offers : List Offer) →
     Gives directory token loaded happened offers → SeesAlike directory token loaded happened offers
@@ -106,7 +106,7 @@ abbrev pub OffersKeepItInOne : Type 0
 OffersKeepItInOne = (directory : Directory) (token : List ℕ) (loaded : Texts) (happened : List Happened) (offers : List Offer) →
     Gives directory token loaded happened offers → SeesAlikeInOne directory token loaded happened offers
 
--- runs of which the same is noticed and in which the same is kept are seen alike, whatever else was asked of them
+-- runs that read the same of their events and store the same are indistinguishable, whatever else they were requested to do
 abbrev pub SeenByNotices : Type 0
 SeenByNotices = (directory : Directory) (token : List ℕ) (loaded : Texts) (happened whole : List Happened) (offers : List Offer) →
     notices directory happened ≡ notices directory whole → uploads_of directory.names happened ≡ uploads_of directory.names whole →

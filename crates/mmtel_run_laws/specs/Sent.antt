@@ -1,5 +1,5 @@
--- What goes out of a call goes out of the server: what it asks and acknowledges comes to the peer, and what it answers comes to the server transaction, and by that to its peer
--- (RFC 3261 §17, §18); and so does that a reliable answer is sent no more (RFC 3262 §3).
+-- What a call outputs is sent by the server: its requests and its ACKs of 2xx to the peer, and its responses by the server transaction to the peer of that
+-- (RFC 3261 §17, §18); and the transaction stops the retransmission of a reliable response (RFC 3262 §3).
 use Rattle.std.specs.Prelude.{◌≡◌, ℕ, ◌==◌, true, false, List, ◌∷◌, ◌++◌, Some}
 use Rattle.mmtel_call_laws.specs.Story.{Start}
 use Rattle.mmtel_message.specs.Message.{Message}
@@ -15,19 +15,19 @@ use Rattle.mmtel_trust.specs.Members.{IsIn}
 use Rattle.mmtel_types.specs.declared.numbers.Peer.{Peer}
 use Rattle.mmtel_run.specs.World.{World}
 
--- a text is offered to a peer, at some moment
+-- a text is sent to a peer, at some moment
 abbrev pub IsOfferedTo : World → Peer → List ℕ → Type 0
 IsOfferedTo world peer text = (at : ℕ) × IsIn (offer.To peer at text) world.offers
 
--- a message was handed to the transaction of this number by this call on the transactions, which stands behind these; where that transaction was live then, the message is
--- offered to the peer of it
+-- a message was handed to the transaction of this number by this operation on the transactions, which comes after these; where that transaction was live then, the message is
+-- sent to its peer
 pub record IsHanded (world : World) (key : ℕ) (message : Message StartLine) (call : Done) : Type 0 where
   pub newer : List Done
   pub older : List Done
   pub done : world.acts ≡ newer ++ call ∷ older
   pub offered : (peer : Peer) → peer_of key (live older) ≡ Some peer → IsOfferedTo world peer (message_text message)
 
--- so it is with each message that goes out
+-- this holds for each message that is sent
 abbrev pub GoesOut : World → Emit → Type 0
 GoesOut world (emit.Ask peer message) = IsOfferedTo world peer (message_text message)
 GoesOut world (emit.Reply key message) = (at : ℕ) × IsHanded world key.0 message (DidReply key.0 message at)
@@ -37,7 +37,7 @@ GoesOut world (emit.Settled key own) = IsIn (DidSettle key.0 own) world.acts
 GoesOut world (emit.Arm call what at) = Unit {0}
 GoesOut world (emit.ArmSeat room seat what at) = Unit {0}
 
--- and a final in the transaction of the INVITE that opened the call is offered to the peer who sent that
+-- and a final response in the transaction of the INVITE that opened the call is sent to the peer that sent that INVITE
 abbrev pub FinalComes : World → Start → Emit → Type 0
 FinalComes world s (emit.Ask peer message) = Unit {0}
 FinalComes world s (emit.Reply key message) =

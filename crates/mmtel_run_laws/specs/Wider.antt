@@ -1,6 +1,6 @@
--- Another run may have another configuration, in which some accounts have other identities: by which name the operator serves somebody who is hidden is then as little seen as
--- what is private. All that is asked is that no URI by which an account is looked up is one of these identities, of the one configuration or of the other. Which URIs these are
--- is told by the records, and by the masked run: what is private of a message is looked up by nobody, or told by a test
+-- Another run may have another configuration, in which some accounts have other identities: then the name by which the operator serves a hidden user is as little visible as
+-- what is private. It is only required that no URI by which an account is looked up is one of these identities, of the one configuration or of the other. Which URIs these are
+-- is determined by the records, and by the masked run: what is private of a message is used for no lookup, or its effect is the result of a test
 -- (RFC 3261 §10.3, §21.3; RFC 3325 §9.1; RFC 3515 §2.1; RFC 5502 §6; RFC 6665 §4.2.1; TS 24.604 §4.5.2.6).
 use Rattle.std.specs.Prelude.{◌≡◌, ◌&&◌, ℕ, true, if◌then◌else◌, Option, Some, None, List, [], ◌∷◌, ◌++◌, map, codes, option_to_list}
 use Rattle.std.specs.List.{flat_map, list_all}
@@ -36,8 +36,8 @@ use Rattle.mmtel_run_laws.specs.Mask.{Asked, Heard, Mask, MaskedDigest, Nothing,
 
 -- ---- another configuration
 
--- in the other these accounts have other identities, more or fewer; all other accounts have the same, in the same order, and so is all else by which calls and rooms go.
--- Where the web is served, who the operator is, and the name of the store may differ too
+-- in the other configuration these accounts have other identities, more or fewer; all other accounts have the same, in the same order, and all else on which calls and conferences
+-- depend is equal. Where the web is served, who the operator is, and the name of the store may differ too
 pub record Renames (renamed : List Account) (one other : Directory) : Type 0 where
   pub sip : one.sip ≡ other.sip
   pub home : one.home ≡ other.home
@@ -61,16 +61,16 @@ abbrev pub uri_by_any : Option (List ℕ) → List Uri
 uri_by_any None = []
 uri_by_any (Some bytes) = uri_by bytes
 
--- whom an INVITE that opens a call is for: its Request-URI, or nowhere where that is no URI of sip or tel, and the user whom a trusted peer has served as the target
+-- the target of an INVITE that opens a call: its Request-URI, or nowhere where that is no URI of sip or tel, and the user whom a trusted peer names as served, as the target
 abbrev pub targets_in : HeardMessage → List Uri
 targets_in m = (unwrap_or (first_target (request_uri m.start)) nowhere).uri ∷ uri_by_any (believed_user m).user
 
--- who sends it: the user whom a trusted peer has served as the caller, or else the identities that it asserts
+-- its sender: the user whom a trusted peer names as served, as the caller, or else the identities that it asserts
 abbrev pub callers_by : Identities → Option NameAddr → List Uri
 callers_by i None = option_to_list i.sip ++ option_to_list i.tel
 callers_by i (Some n) = uri_by n.uri
 
--- where the caller is hidden the tests beside it tell of that
+-- where the caller is hidden the tests represent this
 abbrev pub callers_in : HeardMessage → Option Tests → List Uri
 callers_in m None = callers_by (asserted m.trusted m.lines) (if m.trusted then served_origin m.lines else None)
 callers_in m (Some tests) = []
@@ -78,11 +78,11 @@ callers_in m (Some tests) = []
 abbrev pub opened_by : HeardMessage → Option Tests → List Uri
 opened_by m tests = if is_opening m then targets_in m ++ callers_in m tests else []
 
--- where a response redirects to, in the form in which a call goes there
+-- where a response redirects to, in the form in which the call is sent there
 abbrev pub redirected_by : (home : List ℕ) → Said → List Uri
 redirected_by home left = map (new_target home) (option_to_list (redirect_of left))
 
--- whom a REFER has a room invite
+-- whom a REFER asks a conference to invite
 abbrev pub invited_by : Referral → List Uri
 invited_by (Invite None) = []
 invited_by (Invite (Some uri)) = uri ∷ []
@@ -93,11 +93,11 @@ invited_by Missing = []
 abbrev pub referred_by : HeardMessage → List Uri
 referred_by m = if is_method (codes "REFER") m.start then invited_by (referral_in m.refer_to) else []
 
--- for whom a trusted peer registers
+-- whom a trusted peer registers
 abbrev pub registered_by : HeardMessage → List Uri
 registered_by m = if m.trusted && is_register m then option_to_list (m.to >>= uri_in) else []
 
--- with message waiting, who subscribes to a mailbox, by the identities that a peer asserts, and to whose
+-- with message waiting, the subscriber to a mailbox, by the identities that a peer asserts, and the mailbox
 abbrev pub subscribed_by : Directory → HeardMessage → List Uri
 subscribed_by directory m = if may_subscribe directory m then callers_by (asserted m.trusted m.lines) None ++ uri_by (request_uri m.start) else []
 
@@ -109,7 +109,7 @@ looked_up_by directory (Heard left tests) =
     opened_by left.heard tests ++ (redirected_by directory.home left ++ (referred_by left.heard ++ (registered_by left.heard ++ subscribed_by directory left.heard)))
 looked_up_by directory (Asked put waits) = []
 
--- ---- and those by which a record does: where its rules divert calls to
+-- ---- and those by which a record has one looked up: the targets of its diversion rules
 
 abbrev pub forwarded_by : (home : List ℕ) → Option Forward → List Uri
 forwarded_by home None = []

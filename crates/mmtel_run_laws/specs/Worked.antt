@@ -1,5 +1,5 @@
--- Worked messages of two trusted phones that say the same but for whose they are, Erin's or Frank's, with the roles that they have in a run: what is left of them is the same
--- where they go no further or their side is restricted, and not where it is for everybody (RFC 3323 §4.1, RFC 3325 §7, RFC 7044 §10.1, TS 24.607 §4.5.2, TS 24.608 §4.5.2).
+-- Worked messages of two trusted phones that are the same but for whose they are, Erin's or Frank's, with their roles in a run: what masking leaves of them is the same
+-- where they are not relayed or their side is restricted, and differs where they are public (RFC 3323 §4.1, RFC 3325 §7, RFC 7044 §10.1, TS 24.607 §4.5.2, TS 24.608 §4.5.2).
 use Rattle.std.specs.Prelude.{◌≡◌, ℕ, true, false, Some, None, List, [], ◌∷◌, ◌++◌, codes, position, slice_get}
 use Rattle.mmtel_answers.specs.Said.{Said, said}
 use Rattle.mmtel_b2bua.specs.Entries.{sent_it}
@@ -35,7 +35,7 @@ use Rattle.mmtel_run.specs.World.{World, beginning, calls_in}
 use Rattle.mmtel_run_laws.specs.Belonging.{hides_caller}
 use Rattle.mmtel_run_laws.specs.Mask.{mask_digest, tests_of}
 
--- ---- who says it
+-- ---- the senders
 
 pub data Person : Type 0 where
   Erin : Person
@@ -49,7 +49,7 @@ abbrev pub user_of : Person → List ℕ
 user_of Erin = codes "erin"
 user_of Frank = codes "frank"
 
--- what either of them says
+-- a message of either of them
 abbrev pub Saying : Type 0
 Saying = Person → Said
 
@@ -59,7 +59,7 @@ phone = record { 0 = 1 }
 abbrev pub from_phone : Message Start → Said
 from_phone m = said phone (record { ip = 127 ∷ 0 ∷ 0 ∷ 1 ∷ []; port = 5071 }) true m
 
--- ---- what they say
+-- ---- the messages
 
 abbrev pub party : Person → List ℕ
 party p = codes "\"" ++ name_of p ++ codes "\" <sip:" ++ user_of p ++ codes "@other.example>;tag=a"
@@ -67,14 +67,14 @@ party p = codes "\"" ++ name_of p ++ codes "\" <sip:" ++ user_of p ++ codes "@ot
 abbrev pub contact : Person → List ℕ
 contact p = codes "<sip:" ++ user_of p ++ codes "@127.0.0.1:5071>"
 
--- who it is, by the network and by itself
+-- its identity, as the network asserts it and as the phone gives it
 abbrev pub own_lines : Person → List Line
 own_lines p = (codes "P-Asserted-Identity", codes "<sip:" ++ user_of p ++ codes "@other.example>") ∷ (codes "User-Agent", name_of p) ∷ []
 
 abbrev pub asks_privacy : List Line
 asks_privacy = (codes "Privacy", codes "id") ∷ []
 
--- a request of the phone, to somebody, with further lines, in the name of a person
+-- a request of the phone, with this To, with further header fields, in the name of a person
 abbrev pub request : (method to number : List ℕ) → List Line → Saying
 request method to number further p = from_phone (record {
   start = Request method (codes "sip:bob@far.example");
@@ -88,7 +88,7 @@ request method to number further p = from_phone (record {
   body = [];
 })
 
--- a response to a request of the server, which says so of who was asked
+-- a response to a request of the server, which names in To who was asked
 abbrev pub response : (status : ℕ) → (phrase to contact number : List ℕ) → List Line → Saying
 response status phrase to contact number further p = from_phone (record {
   start = Status status phrase;
@@ -105,14 +105,14 @@ response status phrase to contact number further p = from_phone (record {
 abbrev pub bob : List ℕ
 bob = codes "<sip:bob@far.example>"
 
--- as the server names him in the dialog
+-- as the server names him in the dialog, with its tag
 abbrev pub bob_here : List ℕ
 bob_here = codes "<sip:bob@far.example>;tag=0123456789abcdef-1"
 
 abbrev pub opening_invite : List Line → Saying
 opening_invite further = request (codes "INVITE") bob (codes "7 INVITE") further
 
--- by who asks for privacy, and who does not
+-- with Privacy, and without
 abbrev pub private_opening : Saying
 private_opening = opening_invite asks_privacy
 
@@ -153,19 +153,19 @@ ok_to_cancel = ok_to (codes "1 CANCEL")
 abbrev pub ok_to_notify : Saying
 ok_to_notify = ok_to (codes "1 NOTIFY")
 
--- of the target of a call, who asks for privacy: To names whom the server called
+-- from the target of a call, with Privacy: To names the party that the server called
 abbrev pub ok_of_target : Saying
 ok_of_target p = response 200 (codes "OK") (codes "<sip:bob@home.example>;tag=a") (contact p) (codes "1 INVITE") asks_privacy p
 
--- who is called so by its own To
+-- from a party that its own To names
 abbrev pub ok_named : Saying
 ok_named p = response 200 (codes "OK") (party p) (contact Erin) (codes "1 INVITE") asks_privacy Erin
 
--- who sends the call on to somebody
+-- from a party that redirects the call to somebody
 abbrev pub moved_to : Saying
 moved_to p = response 302 (codes "Moved Temporarily") (codes "<sip:bob@home.example>;tag=a") (contact p) (codes "1 INVITE") asks_privacy Erin
 
--- an INVITE of Erin's that tells of a person in its history, where that entry is marked (`?Privacy=history`) or not
+-- an INVITE of Erin's whose History-Info names a person, where that entry is marked (`?Privacy=history`) or not
 abbrev pub told_of : (mark : List ℕ) → Saying
 told_of mark p = opening_invite ((codes "History-Info", codes "<sip:" ++ user_of p ++ codes "@home.example" ++ mark ++ codes ">;index=1") ∷ []) Erin
 
@@ -177,20 +177,20 @@ tells_unmarked = told_of []
 
 -- ---- what is compared
 
--- what Erin's phone says and what Frank's says, in a world
+-- Erin's message and Frank's, in a state, are equal without their private places
 abbrev pub LooksAlike : Directory → List Who → World → Saying → Type 0
 LooksAlike directory asked world m = mask_digest directory asked world (Events.Heard (m Erin)) ≡ mask_digest directory asked world (Events.Heard (m Frank))
 
 abbrev pub LooksApart : Directory → List Who → World → Saying → Type 0
 LooksApart directory asked world m = LooksAlike directory asked world m → ⊥
 
--- ---- as what it comes
+-- ---- the roles of the messages
 
--- the transactions take it for this, whoever says it
+-- the transactions classify it as this, whoever sends it
 abbrev pub IsTaken : World → Saying → Part → Type 0
 IsTaken world m taken = (p : Person) → part_of (head_of (message_in (m p).heard)) (live world.acts) ≡ taken
 
--- it is a request of the side of a call that stands, and of its own peer
+-- it is a request of a side of an established call, and from that side's own peer
 pub record IsOfStanding (directory : Directory) (world : World) (m : Saying) (side : Side) (e : Entry) (x : Pair) (stage : Stage) (call : ℕ) : Type 0 where
   pub fresh : IsTaken world m part.Fresh
   pub named : (p : Person) → named_by (m p).heard (calls_in directory world).entries ≡ Some (record { 0 = call }, side)
@@ -198,7 +198,7 @@ pub record IsOfStanding (directory : Directory) (world : World) (m : Saying) (si
   pub stands : e.call.phase ≡ Stood x stage
   pub own : (leg_of side x).dialogue.peer ≡ phone
 
--- it is a response to the INVITE that a call waits on
+-- it is a response to the INVITE whose response the call awaits
 pub record IsAwaited (directory : Directory) (world : World) (m : Saying) (e : Entry) (branch : List ℕ) (key place : ℕ) : Type 0 where
   pub taken : IsTaken world m (part.Answer key)
   pub answers : (p : Person) → invite_answered (m p) ≡ Some branch
@@ -206,18 +206,18 @@ pub record IsAwaited (directory : Directory) (world : World) (m : Saying) (e : E
   pub entry : slice_get (calls_in directory world).entries place ≡ Some e
   pub current : is_current branch e.call ≡ true
 
--- of the target of an attempt
+-- from the target of an attempt
 pub record IsTargets (directory : Directory) (world : World) (m : Saying) (e : Entry) (x : Trial) (branch : List ℕ) (key place : ℕ) : Type 0 where
   pub awaited : IsAwaited directory world m e branch key place
   pub offered : e.call.phase ≡ Offered x
   pub leg : x.callee.leg.dialogue.peer ≡ phone
   pub asked : x.attempt.invitation.dialogue.peer ≡ phone
 
--- ---- what is left of them
+-- ---- what masking leaves of them
 
--- their side of a call is restricted: for the whole call, or by what they say
+-- their side of a call is restricted: for the whole call, or by the message
 pub record RestrictedLookAlike (directory : Directory) (asked : List Who) (world : World) : Type 0 where
-  -- who opens a call, and answers the tests alike
+  -- from a caller who opens a call, where the tests have the same results
   pub opens : IsTaken world private_opening part.Fresh →
       tests_of directory.names.accounts asked (private_opening Erin).heard ≡ tests_of directory.names.accounts asked (private_opening Frank).heard →
       LooksAlike directory asked world private_opening
@@ -226,50 +226,50 @@ pub record RestrictedLookAlike (directory : Directory) (asked : List Who) (world
       e.call.opening.restricted ≡ true → LooksAlike directory asked world plain_later
   pub caller_answers : (e : Entry) (x : Pair) (q : Reinvite) (branch : List ℕ) (key place : ℕ) → IsAwaited directory world ok_to_invite e branch key place →
       e.call.phase ≡ Stood x (Asking Callee q) → q.invitation.dialogue.peer ≡ phone → e.call.opening.restricted ≡ true → LooksAlike directory asked world ok_to_invite
-  -- of the callee
+  -- from the callee
   pub callee_asks : (e : Entry) (x : Pair) (stage : Stage) (call : ℕ) → IsOfStanding directory world private_later Callee e x stage call →
       LooksAlike directory asked world private_later
   pub callee_answers : (e : Entry) (x : Trial) (branch : List ℕ) (key place : ℕ) → IsTargets directory world ok_of_target e x branch key place →
       LooksAlike directory asked world ok_of_target
-  -- whoever is marked in the history of an INVITE
+  -- a person who is marked in the History-Info of an INVITE
   pub history : IsTaken world tells_marked part.Fresh → ((p : Person) → hides_caller directory world (tells_marked p).heard ≡ false) →
       LooksAlike directory asked world tells_marked
 
--- it goes no further, and nobody need be restricted
+-- it is not relayed, and nobody need be restricted
 pub record UnshownLookAlike (directory : Directory) (asked : List Who) (world : World) : Type 0 where
-  -- what answers a BYE, a CANCEL and a NOTIFY of the server, and what answers nothing
+  -- a response to a BYE, a CANCEL and a NOTIFY of the server, and one without a request
   pub answers_bye : (key : ℕ) → IsTaken world ok_to_bye (part.Answer key) → LooksAlike directory asked world ok_to_bye
   pub answers_cancel : (key : ℕ) → IsTaken world ok_to_cancel (part.Answer key) → LooksAlike directory asked world ok_to_cancel
   pub answers_notify : (key : ℕ) → IsTaken world ok_to_notify (part.Answer key) → LooksAlike directory asked world ok_to_notify
   pub stray : IsTaken world ok_to_invite part.Stray → LooksAlike directory asked world ok_to_invite
-  -- what is heard again: a response, and the INVITE of a call, where the tests are answered alike
+  -- a retransmission: of a response, and of the INVITE of a call, where the tests have the same results
   pub heard_again : (key : ℕ) → IsTaken world ok_to_invite (part.Same key) → LooksAlike directory asked world ok_to_invite
   pub repeated : (key : ℕ) → IsTaken world plain_opening (part.Repeat key) →
       tests_of directory.names.accounts asked (plain_opening Erin).heard ≡ tests_of directory.names.accounts asked (plain_opening Frank).heard →
       LooksAlike directory asked world plain_opening
-  -- a CANCEL, the ACK of a refusal, an ACK and a request that name no call, and a request for which there is no place
+  -- a CANCEL, the ACK of a refusal, an ACK and a request that name no call, and a request beyond the capacity
   pub cancels : IsTaken world cancel part.Fresh → LooksAlike directory asked world cancel
   pub acknowledges : (key : ℕ) → IsTaken world ack (part.Acked key) → LooksAlike directory asked world ack
   pub late : IsTaken world ack part.AckOf2xx → ((p : Person) → named_by (ack p).heard (calls_in directory world).entries ≡ None) → LooksAlike directory asked world ack
   pub unnamed : IsTaken world bye part.Fresh → ((p : Person) → named_by (bye p).heard (calls_in directory world).entries ≡ None) → LooksAlike directory asked world bye
   pub no_place : IsTaken world bye part.Full → LooksAlike directory asked world bye
 
--- it is for everybody
+-- it is public
 pub record PublicLookApart (directory : Directory) (asked : List Who) (world : World) : Type 0 where
-  -- who opens a call and is not restricted
+  -- from a caller who opens a call and is not restricted
   pub opens : IsTaken world plain_opening part.Fresh → ((p : Person) → hides_caller directory world (plain_opening p).heard ≡ false) →
       LooksApart directory asked world plain_opening
-  -- and asks again in it
+  -- and sends a re-INVITE in it
   pub asks : (e : Entry) (x : Pair) (stage : Stage) (call : ℕ) → IsOfStanding directory world plain_later Caller e x stage call → e.call.opening.restricted ≡ false →
       LooksApart directory asked world plain_later
-  -- how a restricted callee names who was called, and where it sends the call on to
+  -- how a restricted callee names the called party in To, and where it redirects the call to
   pub named : (e : Entry) (x : Trial) (branch : List ℕ) (key place : ℕ) → IsTargets directory world ok_named e x branch key place → LooksApart directory asked world ok_named
   pub moves : (e : Entry) (x : Trial) (branch : List ℕ) (key place : ℕ) → IsTargets directory world moved_to e x branch key place → LooksApart directory asked world moved_to
-  -- who is not marked in the history
+  -- a person who is not marked in the History-Info
   pub history : IsTaken world tells_unmarked part.Fresh → ((p : Person) → hides_caller directory world (tells_unmarked p).heard ≡ false) →
       LooksApart directory asked world tells_unmarked
 
--- ---- in each world, whatever is asked of callers
+-- ---- in each state, for any tests of callers
 
 abbrev pub RestrictedAreHidden : Type 0
 RestrictedAreHidden = (directory : Directory) (asked : List Who) (world : World) → RestrictedLookAlike directory asked world
@@ -280,7 +280,7 @@ UnshownAreHidden = (directory : Directory) (asked : List Who) (world : World) �
 abbrev pub PublicAreShown : Type 0
 PublicAreShown = (directory : Directory) (asked : List Who) (world : World) → PublicLookApart directory asked world
 
--- ---- in what worlds they come so: as the first of a run; where the same INVITE was heard; where the server asked that; and where it asked nothing
+-- ---- states in which they have such roles: as the first of a run; where the same INVITE was received; where the server sent that request; and where it sent none
 
 -- the BYE of the server to Erin
 abbrev pub server_bye : Message Start

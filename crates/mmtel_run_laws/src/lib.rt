@@ -1,5 +1,5 @@
-//! Laws of a run: what each of its calls comes to, whom it charges, and what it sends out; that what it offers is only added to, and what of it reaches an address; and what
-//! nobody may learn from it: what an untrusted peer is offered is equal in any other run that differs in private places alone. The crate has definitions and laws, and no code.
+//! Theorems about a run: the outcome of each of its calls, whom it charges, and what it sends; that its outputs are only added to, and which of them are sent to an address; and
+//! noninterference: what an untrusted peer is sent is equal in any other run that differs in private places alone. The crate has definitions and theorems, and no code.
 #![tactic(auto)]
 
 mod laws;

@@ -1,4 +1,4 @@
-//! What nobody may learn from a run with calls and conference rooms. These are laws, and no code.
+//! Noninterference of a run with calls and conferences. These are theorems, without code.
 ghost use Rattle.mmtel_run_laws.specs.Invited.{RoomsSendOnce};
 ghost use Rattle.mmtel_run_laws.specs.Secret.{ConfigurationsAreRead, KeepsTheSecret, KeepsTheSecretInBoth, MasksOnce, OffersKeepItInOne, OffersKeepTheSecret};
 ghost use Rattle.mmtel_run_laws.specs.Secret.{RenamedAreLookedUpAlike, RunsAreTied, SeenByNotices};
@@ -17,29 +17,29 @@ use mmtel_transaction::laws::{
     transactions_are_of_one_peer,
 };
 
-/// Under a configuration that renames accounts each account is looked up alike in two runs that are the same without their private places, where nothing by which one is
-/// looked up names one of these (RFC 3325 §9.1, RFC 5502 §6, TS 24.604 §4.5.2.6).
+/// Under a configuration that renames accounts, the lookup of each account has the same result in two runs that are the same without their private places, where no URI by
+/// which an account is looked up names one of the renamed ones (RFC 3325 §9.1, RFC 5502 §6, TS 24.604 §4.5.2.6).
 pub fn renamed_are_looked_up_alike()
     ensures looks { RenamedAreLookedUpAlike }
-    // One configuration renames nobody, and then nothing is asked.
+    // One configuration renames nobody, and then nothing is required.
     ensures nobody { NobodyIsRenamed }
 {
     look_ups_pass_over();
 }
 
-/// Of each configuration that was read, with a token of hexadecimal digits, branches are read as they are written.
+/// For each configuration that was read, with a token of hexadecimal digits, branches are read as they are written.
 pub fn configurations_are_read()
     ensures read { ConfigurationsAreRead }
 {}
 
-/// Whatever is done on conference rooms, each INVITE to a seat was sent to its peer, and so was each that a room left: before, or by the same deed. Each that goes out has
-/// a branch of its own, of a number that is drawn for it alone (RFC 3261 §8.1.1.7, §13.2.1), as long as fewer than 2^60 numbers are drawn.
+/// Whatever is done on conferences, each INVITE of a participant was sent to its peer, and so was each that a conference abandoned: before, or by the same operation. Each that
+/// is sent has a branch of its own, of a number that is drawn for it alone (RFC 3261 §8.1.1.7, §13.2.1), as long as fewer than 2^60 numbers are drawn.
 pub fn rooms_send_once()
     ensures once { RoomsSendOnce }
 {}
 
-/// A response is of the peer to whom the INVITE that it answers went, to a call or to a seat of a room, and an INVITE whose 2xx is acknowledged went to the peer of the
-/// other leg (RFC 3261 §8.1.1.7, §13.2.2.4, §17.1.3): each branch is drawn once.
+/// A response comes from the peer to which its INVITE was sent, for a call or for a participant of a conference, and an INVITE whose 2xx is acknowledged was sent to the peer of
+/// the other leg (RFC 3261 §8.1.1.7, §13.2.2.4, §17.1.3): each branch is drawn once.
 pub fn runs_are_tied()
     ensures tied { RunsAreTied }
 {
@@ -51,17 +51,17 @@ pub fn runs_are_tied()
     tokens_differ();
 }
 
-/// What an untrusted peer is offered, moments included, is equal in two runs that are the same without their private places and answer every test of their callers alike
-/// (RFC 3323, RFC 3325 §7, RFC 7044 §10.1): of the definitions, with as many firings in both, and of whatever is offered exactly by them. The other run may have a
-/// configuration that renames accounts which nothing names by which one is looked up.
+/// What an untrusted peer is sent, moments included, is equal in two runs that are the same without their private places and give the same results for every test of their
+/// callers (RFC 3323, RFC 3325 §7, RFC 7044 §10.1): for the definitions, with as many firings in both, and for any outputs that are exactly theirs. The other run may have a
+/// configuration that renames accounts which are named by no URI by which an account is looked up.
 pub fn runs_keep_the_secret()
     ensures both { KeepsTheSecretInBoth }
     ensures one { KeepsTheSecret }
-    // However many deadlines fire, a run without its private places is one.
+    // However many timers fire, a run without its private places is one value.
     ensures masked { MasksOnce }
     ensures offers { OffersKeepTheSecret }
     ensures offers_in_one { OffersKeepItInOne }
-    // It rests on what is noticed of a run and kept in it alone.
+    // It depends only on what a run reads of its events and stores.
     ensures seen { SeenByNotices }
 {
     alike_rooms_answer_alike();
@@ -82,8 +82,8 @@ pub fn runs_keep_the_secret()
     transactions_are_of_one_peer();
 }
 
-/// What two phones say that differ in whose they are computes, with the roles that it has in a run (RFC 3323 §4.1, RFC 3325 §7, RFC 7044 §10.1): without its private places
-/// it is the same where their side of a call is restricted, and where it goes no further, and is not where it is for everybody; and there are worlds in which it comes so.
+/// Two phones send messages that differ in whose they are. What masking leaves of them computes, with the roles that they have in a run (RFC 3323 §4.1, RFC 3325 §7, RFC 7044
+/// §10.1): it is the same where their side of a call is restricted, and where it is not relayed, and differs where it is public; and states with such roles exist.
 pub fn masks_compute()
     ensures restricted { RestrictedAreHidden }
     ensures unshown { UnshownAreHidden }

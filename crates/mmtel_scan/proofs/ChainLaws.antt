@@ -1,4 +1,4 @@
--- What follows where a chain of readings, or a test before one, gave something.
+-- What follows where a chain of readers, or a test before one, returned a value.
 use Rattle.std.proofs.Common.{◌≡◌, ◌==◌, Bool, true, false, cond, ℕ, suc, ◌<◌, List, [], ◌∷◌, length, Option, Some, None, refl, ap, arith}
 use Rattle.std.proofs.lemmas.Bool.Decides.{nat_tests}
 use Rattle.mmtel_scan.specs.Chain.{◌>>=◌}

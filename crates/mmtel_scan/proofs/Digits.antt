@@ -21,7 +21,7 @@ after_append : (n : ℕ) (xs ys : List ℕ) → digits_value_after 10 n (xs ++ y
 after_append n [] ys = refl
 after_append n (x ∷ xs) ys = after_append (n * 10 + digit_value x) xs ys
 
--- the digits write no less than some of them
+-- the value of the digits is not less than that of a prefix
 pub front_le : (i : ℕ) (ds : List ℕ) → digits_value 10 (take i ds) ≤ digits_value 10 ds
 front_le i ds =
     let parts : digits_value 10 ds ≡ digits_value_after 10 (digits_value 10 (take i ds)) (drop i ds) = ap (λ (t : List ℕ). digits_value 10 t) (sym (take-append-drop i ds)) ∙ after_append 0 (take i ds) (drop i ds) in

@@ -1,4 +1,4 @@
--- A number that is read is written so, and one that is written so is read.
+-- A number that is read is written by those digits, and the digits of a number are read as that number.
 use Rattle.std.proofs.Common.{◌≡◌, ◌==◌, nat_lt, false, cond, ℕ, ◌≤◌, List, length, Some, None, refl, arith}
 use Rattle.std.specs.List.{list_all}
 use Rattle.std.specs.Str.Parse.{digits_value}

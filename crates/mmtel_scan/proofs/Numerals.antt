@@ -79,7 +79,7 @@ reads_decimal limit n small le =
 pub reads : (limit : ℕ) (s : List ℕ) → limit < 2 ^ 64 → (n : ℕ) → n ≤ limit → s ≡ decimal n → plain_number limit s ≡ Some n
 reads limit s small n le e = rw e (reads_decimal limit n small le)
 
--- ---- of an answer
+-- ---- of the result of a function
 
 pub if_spelled : (limit : ℕ) (s : List ℕ) (answer : Option ℕ) → limit < 2 ^ 64 → plain_number limit s ≡ answer → IfSome answer (λ n. s ≡ decimal n)
 if_spelled limit s None small e = tt

@@ -1,4 +1,4 @@
--- Where the first element stands that passes a test.
+-- The position of the first element that passes a test.
 use Rattle.std.proofs.Common.{◌≡◌, Bool, true, false, ℕ, suc, ◌+◌, List, ◌∷◌, length, Some, refl, ap, nat_lt, arith, inl, inr}
 use Rattle.std.specs.Prelude.{position}
 use Rattle.std.specs.List.{position_or_len}

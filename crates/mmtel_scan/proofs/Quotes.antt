@@ -82,7 +82,7 @@ closes_again false (b ∷ a) r e =
     let other : (b == 34) ≡ false = grind (arith, nat_tests, both.0) in
     rw (other, closes_again (b == 92) a r both.1) (ap (λ (m : ℕ). Some m) (omega arith))
 
--- ---- what the clauses of the scanner say
+-- ---- what the clauses of the scanner claim
 
 pub closed_by : (s : List ℕ) (r : Option ℕ) → r ≡ closes false s → IfSome r (λ at. IsClosedAt s at)
 closed_by s None e = tt

@@ -1,4 +1,4 @@
--- The front of a list that is of a class.
+-- The longest prefix of a list whose bytes are of a class.
 use Rattle.std.proofs.Common.{◌≡◌, ◌==◌, Bool, true, false, not, ◌&&◌, ℕ, suc, ◌+◌, ◌≤◌, ◌<◌, List, [], ◌∷◌, ◌++◌, length, take, drop, Option, Some, None, refl, sym, subst, inl, inr, arith, nat_lt, append_assoc, get_or}
 use Rattle.std.proofs.lemmas.List.{length-append, take-append-drop, take_at, drop_at}
 use Rattle.std.proofs.lemmas.Bool.{cases_Bool, ltb-true, ltb-false}
@@ -61,7 +61,7 @@ run_cons k b s e =
     let one : 1 + prefix_len (in_class k) s ≡ suc (prefix_len (in_class k) s) = omega arith in
     rw (e, one) refl
 
--- ---- parted at the first such byte
+-- ---- split at the first such byte
 
 StopsBy-free : (b : ℕ) (f r : List ℕ) → IsFree b f → prefix_len (λ x. not (x == b)) (f ++ b ∷ r) ≡ length f
 StopsBy-free b [] r free =
@@ -163,7 +163,7 @@ all_front k (c ∷ a) b each =
     let both = and_true (in_class k c) (list_all (in_class k) (a ++ b)) each in
     rw (both.0, all_front k a b both.1) refl
 
--- a front passes that ends before the first that does not
+-- a prefix passes that ends before the first byte that does not
 pub prefix_each : {A : Type 0} (p : A → Bool) (r : List A) → list_all p (take (prefix_len p r) r) ≡ true
 prefix_each p [] = refl
 prefix_each p (c ∷ r) =
@@ -173,7 +173,7 @@ prefix_each p (c ∷ r) =
       | inr n ↦ rw n refl
     ]
 
--- what stands before the first such byte has none
+-- what comes before the first such byte has none
 pub parted_front : (b : ℕ) (s : List ℕ) (x : List ℕ × List ℕ) → parted b s ≡ Some x → IsFree b x.0
 unfolding parted
 parted_front b s x e =

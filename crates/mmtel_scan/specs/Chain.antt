@@ -1,4 +1,4 @@
--- One reading after another: each may fail, and the next is of what the one before gave.
+-- One reader after another: each may fail, and the next reads what the one before returned.
 use Rattle.std.specs.Prelude.{Option, Some, None}
 
 infixl 10 ◌>>=◌

@@ -1,10 +1,10 @@
--- Where the bytes of a text lie. No public clause cites this module.
+-- Where the bytes of a text are stored. No public clause cites this module.
 use Rattle.std.specs.Prelude.{ℕ, List, take}
 use Rattle.mmtel_scan.specs.declared.texts.Short.{Short}
 use Rattle.mmtel_scan.specs.declared.texts.Kept.{Kept}
 use Rattle.mmtel_scan.specs.declared.texts.Kept.TheVariants.{Here, There}
 
--- those of an array
+-- the bytes of a text that is stored in an array
 abbrev pub short_bytes : Short → List ℕ
 short_bytes s = take s.len s.room
 

@@ -5,11 +5,11 @@ use Rattle.std.specs.Str.Parse.{digits_value}
 use Rattle.mmtel_scan.specs.Classes.{in_class, IsOneOrMore}
 use Rattle.mmtel_scan.specs.declared.classes.Class.TheVariants.{Digit}
 
--- what the digits write, where it is at most the limit
+-- the number that the digits write, where it is at most the limit
 unfoldable pub within : ℕ → List ℕ → Option ℕ
 within limit digits = if nat_lt limit (digits_value 10 digits) then None else Some (digits_value 10 digits)
 
--- the number, where there is one digit or more, digits alone, and they write one of at most the limit
+-- the number, where the bytes are one digit or more and nothing else, and it is at most the limit
 unfoldable pub number_of : ℕ → List ℕ → Option ℕ
 number_of limit s = if length s == 0 then None else if list_all (in_class Digit) s then within limit s else None
 
@@ -24,7 +24,7 @@ leads_zero [] = false
 leads_zero (b ∷ []) = false
 leads_zero (b ∷ c ∷ s) = b == 48
 
--- the number, of at most the limit, that these decimal digits without leading zeros write
+-- the number, at most the limit, that these decimal digits without leading zeros write
 abbrev pub plain_number : ℕ → List ℕ → Option ℕ
 plain_number limit s = if leads_zero s then None else number_of limit s
 
@@ -32,6 +32,6 @@ plain_number limit s = if leads_zero s then None else number_of limit s
 abbrev pub token_text : List ℕ → ℕ → List ℕ
 token_text token n = token ++ 45 ∷ decimal n
 
--- the number after this one, in 64 bits: it stays at the greatest
+-- the number after this one, in 64 bits: after the greatest it stays the greatest
 abbrev pub next_number : ℕ → ℕ
 next_number n = min (n + 1) (2 ^ 64 - 1)

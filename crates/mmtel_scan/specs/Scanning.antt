@@ -1,4 +1,4 @@
--- A list of bytes parted: at the end of a run of a class, at the first of a byte, at the quote that closes, at its blank ends.
+-- Splitting a list of bytes: at the end of a run of a class, at the first occurrence of a byte, at a closing quote; and trimming it.
 use Rattle.std.specs.Prelude.{suc, ◌++◌, nat_lt, length, reverse, position, ◌&&◌, ◌+◌, Option, Some, None, ◌==◌, if◌then◌else◌, ℕ, Bool, not, List, [], ◌∷◌, ◌≡◌, true}
 use Rattle.std.specs.Prelude.{false, take, drop}
 use Rattle.std.specs.List.{prefix_len, list_all}
@@ -7,11 +7,11 @@ use Rattle.std.specs.Option.{option_map}
 use Rattle.mmtel_scan.specs.Classes.{in_class}
 use Rattle.mmtel_scan.specs.declared.classes.Class.{Class}
 
--- the longest front of bytes of the class
+-- the longest prefix of bytes of the class
 unfoldable pub run : Class → List ℕ → List ℕ
 run k s = take (prefix_len (in_class k) s) s
 
--- what follows it
+-- what follows that prefix
 unfoldable pub after_run : Class → List ℕ → List ℕ
 after_run k s = drop (prefix_len (in_class k) s) s
 
@@ -20,28 +20,28 @@ abbrev pub after_byte : ℕ → List ℕ → Option (List ℕ)
 after_byte b [] = None
 after_byte b (x ∷ s) = if x == b then Some s else None
 
--- what stands before the first such byte, and what stands after it
+-- what comes before the first such byte, and what comes after it
 unfoldable pub parted : ℕ → List ℕ → Option (List ℕ × List ℕ)
 parted b s = option_map (λ n. (take n s, drop (n + 1) s)) (position (λ x. x == b) s)
 
--- no such byte
+-- no such byte occurs
 abbrev pub IsFree : ℕ → List ℕ → Type 0
 IsFree b s = list_all (λ x. not (x == b)) s ≡ true
 
--- the bytes between the quotes of a quoted string (RFC 3261 §25.1: qdtext and quoted-pair): no quote but behind a backslash, and no backslash alone at the end; the flag
+-- the bytes between the quotes of a quoted string (RFC 3261 §25.1: qdtext and quoted-pair): no quote except after a backslash, and no backslash alone at the end; the flag
 -- says that a backslash came just before
 abbrev pub inside : Bool → List ℕ → Bool
 inside escaped [] = not escaped
 inside true (b ∷ s) = inside false s
 inside false (b ∷ s) = not (b == 34) && inside (b == 92) s
 
--- where the first quote is that no backslash escapes; the flag as above
+-- the place of the first quote that no backslash escapes; the flag as above
 unfoldable pub closes : Bool → List ℕ → Option ℕ
 closes escaped [] = None
 closes true (b ∷ s) = option_map (λ n. n + 1) (closes false s)
 closes false (b ∷ s) = if b == 34 then Some 0 else option_map (λ n. n + 1) (closes (b == 92) s)
 
--- the bytes parted by the quote at this place: what stands before it is the inside of a quoted string
+-- the bytes split by the quote at this place: what comes before it is the inside of a quoted string
 pub record IsClosedAt (s : List ℕ) (at : ℕ) : Type 0 where
   pub whole : s ≡ take at s ++ 34 ∷ drop (suc at) s
   pub inner : inside false (take at s) ≡ true

@@ -18,11 +18,11 @@ pub enum Class {
     User,
     /// A digit or a visual separator of a telephone number (RFC 3966 §3).
     Phone,
-    /// A byte of a scheme's name behind its first letter (RFC 3261 §25.1).
+    /// A byte of the name of a scheme after its first letter (RFC 3261 §25.1).
     SchemeRest,
     /// Space or tab.
     Blank,
-    /// A byte of a display of words: a token's byte or a blank.
+    /// A byte of a display name of words: a byte of a token, or a blank.
     Display,
     /// A byte of a URI in angle brackets: visible, and none of `"`, `<` and `>`.
     UriByte,
@@ -30,7 +30,7 @@ pub enum Class {
     BareByte,
 }
 
-/// Each byte of a token stands at its own place, and a comma at every other place.
+/// At the place of each byte of a token this byte, and at every other place a comma.
 static TOKENS: [u8; 256] = *b"\
     ,,,,,,,,,,,,,,,,,,,,,,,,,,,,,,,,\
     ,!,,,%,',,*+,-.,0123456789,,,,,,\

@@ -1,4 +1,4 @@
-//! The ground of all crates: want of memory, texts, lists that may hold what must be spent, classes of bytes, and the scanners that every grammar of the server stands on.
+//! The base of all crates: the out-of-memory error, texts, lists that may hold linear values, classes of bytes, and the scanners on which every grammar of the server is built.
 #![tactic(auto)]
 
 mod classes;

@@ -1,4 +1,4 @@
-//! Lists whose items may be values that must be spent.
+//! Lists whose items may be linear values.
 ghost use Rattle.std.specs.Prelude.{◌≡◌, List, [], ◌++◌, ◌∷◌, ◌↔◌, IfOk, IfErr, OnOk, OnErr, IsNone, option_to_list, take, drop, slice_set, slice_get, Some, length, ◌≤◌, ◌<◌, ◌+◌};
 
 use crate::memory::NoMemory;
@@ -7,7 +7,7 @@ use std::marker::Model;
 
 /// A list of items that need not be droppable.
 ///
-/// A list of such items is spent by `pop` until it is empty, and then by `destroy_empty`.
+/// A list of linear items is consumed by `pop` until it is empty, and then by `destroy_empty`.
 pub struct List<T> {
     kept: Option<Vec<T>>,
 }
@@ -28,18 +28,18 @@ impl<T: Drop> Drop for List<T> {
 }
 
 impl<T> List<T> {
-    /// The list of no items. It takes no memory.
+    /// An empty list. It allocates nothing.
     pub fn new() -> List<T>
         ensures { result ≡ [] }
     {
         List { kept: None }
     }
 
-    /// The list of no items, with room for so many.
+    /// An empty list, with capacity for this many items.
     ///
     /// # Errors
     ///
-    /// Want of memory alone.
+    /// Out of memory only.
     pub fn with_room(alloc: Global, len: usize) -> Result<List<T>, NoMemory>
         ensures empty { IfOk result (λ list. list ≡ []) }
     {
@@ -51,7 +51,7 @@ impl<T> List<T> {
     ///
     /// # Errors
     ///
-    /// Want of memory alone; the item is handed back, and the list is as before.
+    /// Out of memory only; the item is returned, and the list is as before.
     pub fn push(&mut self, alloc: Global, item: T) -> Result<(), (T, NoMemory)>
         ensures ok { OnOk result (self.new ≡ self.old ++ item ∷ []) }
         ensures err { OnErr result (self.new ≡ self.old) }
@@ -82,7 +82,7 @@ impl<T> List<T> {
         }
     }
 
-    /// Puts an item in the place of another, which is handed out.
+    /// Replaces the item at a place, and returns the one that was there.
     pub fn replace(&mut self, at: usize, item: T) -> T
         requires { at < length self.old }
         ensures items { self.new ≡ slice_set self.old at item }
@@ -94,11 +94,11 @@ impl<T> List<T> {
         }
     }
 
-    /// Adds an item before the one at a place, or at the end.
+    /// Inserts an item before the one at a place, or at the end.
     ///
     /// # Errors
     ///
-    /// Want of memory alone; the item is handed back, and the list is as before.
+    /// Out of memory only; the item is returned, and the list is as before.
     pub fn insert(&mut self, alloc: Global, at: usize, item: T) -> Result<(), (T, NoMemory)>
         requires { at ≤ length self.old }
         ensures ok { OnOk result (self.new ≡ take at self.old ++ item ∷ drop at self.old) }
@@ -120,7 +120,7 @@ impl<T> List<T> {
         pushed
     }
 
-    /// Takes the item at a place out.
+    /// Removes and returns the item at a place.
     pub fn remove(&mut self, at: usize) -> T
         requires { at < length self.old }
         ensures rest { self.new ≡ take at self.old ++ drop (at + 1) self.old }
@@ -132,7 +132,7 @@ impl<T> List<T> {
         }
     }
 
-    /// Takes the last item off; None exactly where there is none.
+    /// Removes and returns the last item; None exactly where there is none.
     pub fn pop(&mut self) -> Option<T>
         ensures items { self.old ≡ self.new ++ option_to_list result }
         ensures empty { IsNone result ↔ (self.old ≡ []) }
@@ -143,7 +143,7 @@ impl<T> List<T> {
         }
     }
 
-    /// Takes the first item off; None exactly where there is none.
+    /// Removes and returns the first item; None exactly where there is none.
     pub fn pop_first(&mut self) -> Option<T>
         ensures items { self.old ≡ option_to_list result ++ self.new }
         ensures empty { IsNone result ↔ (self.old ≡ []) }
@@ -154,11 +154,11 @@ impl<T> List<T> {
         Some(self.remove(0))
     }
 
-    /// Moves the items of another list to the end, in order.
+    /// Moves the items of another list to the end of this one, in order.
     ///
     /// # Errors
     ///
-    /// Want of memory alone; the other list is handed back, and this one is as before.
+    /// Out of memory only; the other list is returned, and this one is as before.
     pub fn extend(&mut self, alloc: Global, other: List<T>) -> Result<(), (List<T>, NoMemory)>
         ensures ok { OnOk result (self.new ≡ self.old ++ other) }
         ensures err { OnErr result (self.new ≡ self.old) }
@@ -187,7 +187,7 @@ impl<T> List<T> {
         moved
     }
 
-    /// Gives up a list that is empty, whatever its items are.
+    /// Destroys a list that is empty, whatever the type of its items.
     pub fn destroy_empty(self)
         requires { self ≡ [] }
     {

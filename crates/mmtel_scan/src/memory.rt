@@ -1,8 +1,8 @@
-//! Want of memory.
+//! The out-of-memory error.
 
 use std::alloc::{AllocError, AllocFailed};
 
-/// Memory ran out: the one answer that any call which allocates may give.
+/// Memory ran out: the one error that any call which allocates may return.
 ///
 /// It is merged with no other fault, and a value behind a `&mut` is then as before.
 #[derive(Clone, Copy, Debug, PartialEq, Eq)]
@@ -20,7 +20,7 @@ impl<T: Drop> From<AllocFailed<T>> for NoMemory {
     }
 }
 
-/// What a refused `List::push` hands back is let go, so that `?` works on it.
+/// The item that a refused `List::push` returns is dropped, so that `?` works on the result.
 impl<T: Drop> From<(T, NoMemory)> for NoMemory {
     fn from(_refused: (T, NoMemory)) -> NoMemory {
         NoMemory

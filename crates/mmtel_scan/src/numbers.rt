@@ -10,7 +10,7 @@ use crate::texts::Text;
 use itoa::Buffer;
 use std::alloc::Global;
 
-/// What the digits write, where it is at most the limit.
+/// The number that the digits write, where it is at most the limit.
 #[tactic(auto, unfolding(crate::specs::Numbers::within))]
 fn worth_up_to(limit: u64, digits: &[u8]) -> Option<u64>
     requires { IsAll Digit digits.now }
@@ -27,9 +27,9 @@ fn worth_up_to(limit: u64, digits: &[u8]) -> Option<u64>
     Some(number as u64)
 }
 
-/// The number that the bytes write; None where they are not one digit or more, or write one over the limit.
+/// The number that the bytes write; None where they are not one digit or more, or write a number over the limit.
 ///
-/// Leading zeros are let through: SIP has them (RFC 3261 §25.1, `1*DIGIT`).
+/// Leading zeros are accepted: SIP has them (RFC 3261 §25.1, `1*DIGIT`).
 #[tactic(auto, unfolding(crate::specs::Numbers::number_of))]
 pub fn number_up_to(limit: u64, bytes: &[u8]) -> Option<u64>
     ensures value { result ≡ number_of limit bytes.now }
@@ -54,11 +54,11 @@ pub fn leads_zero(digits: &[u8]) -> bool
     }
 }
 
-/// The number, of at most the limit, that the decimal digits write; None where they lead with a zero or are no such digits.
+/// The number, at most the limit, that the decimal digits write; None where they begin with a superfluous zero or are no such digits.
 pub fn plain_number(limit: u64, digits: &[u8]) -> Option<u64>
     ensures value { result ≡ plain_number limit digits.now }
     ensures at_most { IfSome result (λ n. n ≤ limit) }
-    // The digits of each such number, as it is printed, are read, and no others.
+    // The digits with which such a number is printed are read, and no others.
     ensures spelled { IfSome result (λ n. digits.now ≡ decimal n) }
     ensures reads { (n : ℕ) → n ≤ limit → digits.now ≡ decimal n → result ≡ Some n }
 {
@@ -68,11 +68,11 @@ pub fn plain_number(limit: u64, digits: &[u8]) -> Option<u64>
     number_up_to(limit, digits)
 }
 
-/// Adds the decimal digits of a number, without leading zeros.
+/// Appends the decimal digits of a number, without leading zeros.
 ///
 /// # Errors
 ///
-/// Want of memory alone; the text is then as before.
+/// Out of memory only; the text is then as before.
 pub fn add_number(alloc: Global, out: &mut Text, number: u64) -> Result<(), NoMemory>
     ensures added { OnOk result (out.new ≡ out.old ++ decimal number) }
     ensures refused { OnErr result (out.new ≡ out.old) }
@@ -81,11 +81,11 @@ pub fn add_number(alloc: Global, out: &mut Text, number: u64) -> Result<(), NoMe
     out.push(alloc, buffer.format(number).as_bytes())
 }
 
-/// The value of a tag, branch or Call-ID that a token and a number make: `TOKEN-n` (RFC 3261 §19.3, §8.1.1.7, §8.1.1.4).
+/// The value of a tag, branch or Call-ID that is made of a token and a number: `TOKEN-n` (RFC 3261 §19.3, §8.1.1.7, §8.1.1.4).
 ///
 /// # Errors
 ///
-/// Want of memory alone.
+/// Out of memory only.
 pub fn token_text(alloc: Global, token: &[u8], number: u64) -> Result<Text, NoMemory>
     ensures text { IfOk result (λ t. t ≡ token_text token.now number) }
 {

@@ -1,4 +1,4 @@
-//! Scanners: the front of a list of bytes, and what follows it.
+//! Scanners: a prefix of a list of bytes, and what follows it.
 ghost use Rattle.std.specs.Prelude.{position, ◌==◌, true, false, List, ℕ, ◌++◌, ◌∷◌, IsNone, ◌≡◌, ◌≤◌, ◌<◌, length, IfSome, take, drop};
 ghost use Rattle.std.specs.List.{prefix_len};
 ghost use Rattle.std.specs.Option.{option_copied, option_map};
@@ -7,7 +7,7 @@ ghost use Rattle.mmtel_scan.specs.Scanning.{run, after_run, after_byte, after_te
 
 use crate::classes::Class;
 
-/// How many bytes from the front on are of the class.
+/// How many bytes from the start are of the class.
 fn run_len(class: Class, bytes: &[u8]) -> usize
     ensures place { result ≡ prefix_len (in_class class) bytes.now }
     ensures within { result ≤ length bytes.now }
@@ -20,7 +20,7 @@ fn run_len(class: Class, bytes: &[u8]) -> usize
     bytes.len()
 }
 
-/// The longest front of bytes of the class, and what follows it.
+/// The longest prefix of bytes of the class, and what follows it.
 #[tactic(auto, unfolding(crate::specs::Scanning::run, crate::specs::Scanning::after_run))]
 pub fn split_run(class: Class, bytes: &[u8]) -> (&[u8], &[u8])
     ensures front { result.0.now ≡ run class bytes.now }
@@ -42,14 +42,14 @@ pub fn skip_byte(byte: u8, bytes: &[u8]) -> Option<&[u8]>
     }
 }
 
-/// Where the byte comes first.
+/// The place of the first such byte.
 fn place(byte: u8, bytes: &[u8]) -> Option<usize>
     ensures { result ≡ position (λ x. x == byte) bytes.now }
 {
     bytes.iter().position(|b| *b == byte)
 }
 
-/// What stands before the first such byte, and what stands after it.
+/// What comes before the first such byte, and what comes after it.
 #[tactic(auto, unfolding(crate::specs::Scanning::parted))]
 pub fn part(byte: u8, bytes: &[u8]) -> Option<(&[u8], &[u8])>
     ensures { option_map (λ x. (x.0.now, x.1.now)) result ≡ parted byte bytes.now }
@@ -60,7 +60,7 @@ pub fn part(byte: u8, bytes: &[u8]) -> Option<(&[u8], &[u8])>
     }
 }
 
-/// Where the first quote is that no backslash escapes.
+/// The place of the first quote that no backslash escapes.
 fn quote_place(bytes: &[u8]) -> Option<usize>
     ensures place { result ≡ closes false bytes.now }
     ensures within { IfSome result (λ at. at < length bytes.now) }
@@ -78,13 +78,13 @@ fn quote_place(bytes: &[u8]) -> Option<usize>
     None
 }
 
-/// Where the quote is that closes a quoted string, whose opening quote came before (RFC 3261 §25.1).
+/// The place of the quote that closes a quoted string, whose opening quote came before (RFC 3261 §25.1).
 pub fn closing(bytes: &[u8]) -> Option<usize>
     ensures place { result ≡ closes false bytes.now }
     ensures within { IfSome result (λ at. at < length bytes.now) }
-    // What stands before it is the inside of a quoted string.
+    // What comes before it is the inside of a quoted string.
     ensures quoted { IfSome result (λ at. IsClosedAt bytes.now at) }
-    // There is none only where no front of the bytes is such an inside and its quote.
+    // There is none only where no prefix of the bytes is such an inside followed by its quote.
     ensures unclosed { IsNone result → (inner rest : List ℕ) → bytes.now ≡ inner ++ 34 ∷ rest → inside false inner ≡ true → ⊥ }
 {
     quote_place(bytes)

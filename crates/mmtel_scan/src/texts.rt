@@ -8,7 +8,7 @@ use crate::memory::NoMemory;
 use std::alloc::Global;
 use std::marker::Model;
 
-/// How many bytes a text holds in itself; more lie in an allocation.
+/// How many bytes a text stores in itself; more are stored in an allocation.
 const ROOM: usize = 30;
 
 /// The first `len` bytes of an array.
@@ -19,7 +19,7 @@ struct Short {
 }
 
 impl Short {
-    /// How many there are; never more than the array has.
+    /// How many bytes are stored; never more than the array has.
     fn len(&self) -> usize
         ensures len { result ≡ length (short_bytes self.now) }
         ensures within { result ≤ 30 }
@@ -34,14 +34,14 @@ impl Short {
         &self.room[..self.len()]
     }
 
-    /// How many bytes find room behind them.
+    /// How many more bytes the array has space for.
     fn left(&self) -> usize
         ensures { result + length (short_bytes self.now) ≡ 30 }
     {
         ROOM - self.len()
     }
 
-    /// Adds bytes at the end; whether they found room there.
+    /// Appends bytes; whether there was space for them.
     fn push(&mut self, bytes: &[u8]) -> bool
         ensures added { OnTrue result (short_bytes self.new ≡ short_bytes self.old ++ bytes.now) }
         ensures full { OnFalse result (self.new ≡ self.old) }
@@ -57,7 +57,7 @@ impl Short {
     }
 }
 
-/// Where the bytes of a text lie: in the text, or in an allocation.
+/// Where the bytes of a text are stored: in the text, or in an allocation.
 #[derive(Debug, Drop)]
 enum Kept {
     Here(Short),
@@ -86,7 +86,7 @@ impl Model for Bytes {
     ghost view = { λ b. kept_bytes b.kept };
 }
 
-/// These bytes, in the text.
+/// These bytes, stored in the text.
 fn here(bytes: &[u8]) -> Kept
     requires { length bytes.now ≤ 30 }
     ensures { kept_bytes result ≡ bytes.now }
@@ -100,7 +100,7 @@ fn here(bytes: &[u8]) -> Kept
     })
 }
 
-/// These bytes, in an allocation that has room for so many more.
+/// These bytes, in an allocation with capacity for that many more.
 fn there(alloc: Global, bytes: &[u8], more: usize) -> Result<Vec<u8>, NoMemory>
     ensures { IfOk result (λ kept. kept.items ≡ bytes.now) }
 {
@@ -198,7 +198,7 @@ impl Bytes {
 
 /// A list of bytes, which contracts see as a list of numbers below 256.
 ///
-/// A short text takes no memory.
+/// A short text allocates nothing.
 #[derive(Debug, Drop)]
 pub struct Text {
     kept: Bytes,
@@ -213,7 +213,7 @@ impl Model for Text {
 }
 
 impl Text {
-    /// The text of no bytes. It takes no memory.
+    /// An empty text. It allocates nothing.
     pub fn new() -> Text
         ensures { result ≡ [] }
     {
@@ -222,11 +222,11 @@ impl Text {
         }
     }
 
-    /// The text of no bytes, with room for so many.
+    /// An empty text, with capacity for this many bytes.
     ///
     /// # Errors
     ///
-    /// Want of memory alone.
+    /// Out of memory only.
     pub fn with_room(alloc: Global, len: usize) -> Result<Text, NoMemory>
         ensures empty { IfOk result (λ text. text ≡ []) }
     {
@@ -234,11 +234,11 @@ impl Text {
         Ok(Text { kept })
     }
 
-    /// The text of these bytes.
+    /// A text of these bytes.
     ///
     /// # Errors
     ///
-    /// Want of memory alone.
+    /// Out of memory only.
     pub fn of(alloc: Global, bytes: &[u8]) -> Result<Text, NoMemory>
         ensures { IfOk result (λ text. text ≡ bytes.now) }
     {
@@ -246,11 +246,11 @@ impl Text {
         Ok(Text { kept })
     }
 
-    /// Adds the bytes at the end.
+    /// Appends the bytes.
     ///
     /// # Errors
     ///
-    /// Want of memory alone; the text is then as before.
+    /// Out of memory only; the text is then as before.
     pub fn push(&mut self, alloc: Global, bytes: &[u8]) -> Result<(), NoMemory>
         ensures ok { OnOk result (self.new ≡ self.old ++ bytes.now) }
         ensures err { OnErr result (self.new ≡ self.old) }
@@ -258,11 +258,11 @@ impl Text {
         self.kept.push(alloc, bytes)
     }
 
-    /// Makes room for so many bytes more, so that adding them does not move those that are there.
+    /// Reserves capacity for that many more bytes, so that appending them does not move those that are there.
     ///
     /// # Errors
     ///
-    /// Want of memory alone.
+    /// Out of memory only.
     pub fn make_room(&mut self, alloc: Global, more: usize) -> Result<(), NoMemory>
         ensures same { self.new ≡ self.old }
     {
@@ -276,11 +276,11 @@ impl Text {
         self.kept.bytes()
     }
 
-    /// The same text.
+    /// A copy of the text.
     ///
     /// # Errors
     ///
-    /// Want of memory alone.
+    /// Out of memory only.
     pub fn copied(&self, alloc: Global) -> Result<Text, NoMemory>
         ensures copy { IfOk result (λ text. text ≡ self.now) }
     {
@@ -288,11 +288,11 @@ impl Text {
     }
 }
 
-/// The same texts, in order.
+/// A copy of the texts, in order.
 ///
 /// # Errors
 ///
-/// Want of memory alone.
+/// Out of memory only.
 pub fn texts_copied(alloc: Global, texts: &[Text]) -> Result<List<Text>, NoMemory>
     ensures copy { IfOk result (λ list. list ≡ texts.now) }
 {

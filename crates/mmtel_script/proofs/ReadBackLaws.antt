@@ -1,4 +1,4 @@
--- What a listing writes of bytes gives the bytes back.
+-- The listing of bytes reads back as the bytes.
 use Rattle.std.proofs.Common.{◌≡◌, ◌==◌, ◌&&◌, Bool, true, false, not, nat_lt, map, ℕ, ◌+◌, ◌-◌, ◌*◌, ◌/◌, ◌%◌, ◌≤◌, ◌<◌, List, [], ◌∷◌, ◌++◌, length, take, drop, Option, Some, None, refl, ap, sym, ◌∙◌, arith, append_assoc, inl, inr}
 use Rattle.std.specs.Prelude.{codes, nat_le}
 use Rattle.std.specs.Str.{bytes_eq}
@@ -195,7 +195,7 @@ reads_back known bytes all = record {
   same = joined false bytes;
 }
 
--- ---- and so tells bytes apart
+-- ---- and so different bytes have different listings
 
 same_pieces : (ps qs : List (List ℕ)) → map (λ p. Some (Data p)) ps ≡ map (λ p. Some (Data p)) qs → ps ≡ qs
 same_pieces [] [] e = refl

@@ -1,4 +1,4 @@
--- What is told line by line is the events that the lines say.
+-- The events that are built line by line are the events of the lines.
 use Rattle.std.proofs.Common.{◌≡◌, Bool, false, cond, ℕ, ◌+◌, List, [], ◌∷◌, ◌++◌, Option, Some, None, Result, Ok, Err, refl, ap, sym, subst, ◌∙◌, append_assoc}
 use Rattle.std.proofs.lemmas.List.{append-nil}
 use Rattle.mmtel_scan.specs.Chain.{◌>>=◌}
@@ -14,13 +14,13 @@ use Rattle.mmtel_directory.specs.Lines.{lines_of, and_then, said_by}
 use Rattle.mmtel_script.specs.Script.{line_of, holds_bytes, takes_bytes, stands, next_said, data_of, with_bytes, events_in, events_from, events_of}
 use Rattle.mmtel_script.specs.Tellings.{Gathers, Reads, nothing_told, closed, all_told, with_line, telling}
 
--- ---- what is told, and lines that follow
+-- ---- the events so far, and lines that follow
 
 abbrev with_last : Option Event → List ScriptLine → List Event
 with_last None more = events_in more
 with_last (Some event) more = with_bytes event (data_of more) ∷ events_in more
 
--- the events that are told, when these lines follow
+-- the events so far, when these lines follow
 abbrev with_more : Telling → List ScriptLine → List Event
 with_more told more = told.events ++ with_last told.last more
 
@@ -28,7 +28,7 @@ abbrev is_open : Option Event → Bool
 is_open None = false
 is_open (Some event) = holds_bytes event
 
--- what is told is what these lines say
+-- the events so far are those of these lines
 record Tells (told : Telling) (said : List ScriptLine) : Type 0 where
   open_event : is_open told.last ≡ takes_bytes false said
   same : (more : List ScriptLine) → with_more told more ≡ events_in (said ++ more)
@@ -100,7 +100,7 @@ data_added events event said bytes is = record {
 abbrev Goes : List KnownPeer → ℕ → List (List ℕ) → Type 0
 Goes known number texts = (told : Telling) (said : List ScriptLine) → Tells told said → telling known number told texts ≡ events_from (said_by (next_said known) number said texts)
 
--- what a line that was read leads to, on both sides
+-- the result of a line that was read, on both sides
 abbrev Same : List KnownPeer → ℕ → List (List ℕ) → Telling → List ScriptLine → ScriptLine → Type 0
 Same known number texts told said l =
     and_then number (with_line told l) (λ next. telling known (number + 1) next texts) ≡
@@ -135,12 +135,12 @@ goes known number (text ∷ texts) told said is = over_form known number texts t
 tells_nothing : Tells nothing_told []
 tells_nothing = record { open_event = refl; same = λ more. refl }
 
--- what is told from no line on
+-- what is built from no line on
 pub telling_is : (known : List KnownPeer) (text : List ℕ) → telling known 1 nothing_told (lines_of text) ≡ events_of known text
 unfolding events_of
 telling_is known text = goes known 1 (lines_of text) nothing_told [] tells_nothing
 
--- what comes of a text whose lines were read
+-- the result for a text whose lines were read
 pub answers_fault : (known : List KnownPeer) (text : List ℕ) (e : ScriptFault) (after : Telling) → Reads known (Err e) nothing_told (lines_of text) after → Gathers (Err e) (events_of known text)
 answers_fault known text (fault.BadLine n) after is = sym (telling_is known text) ∙ is
 answers_fault known text fault.NoMemory after is = tt

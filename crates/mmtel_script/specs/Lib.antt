@@ -1,7 +1,7 @@
--- What public clauses cite, which a user of the crate has to believe.
--- Of the calls:
+-- Definitions that public contracts cite: a user of the crate has to trust them.
+-- Of the functions:
 pub mod Script
--- Of the laws alone:
+-- Of the theorems only:
 pub mod ReadBack
--- What private functions alone cite.
+-- Definitions that only private functions cite.
 pub mod Tellings

@@ -1,4 +1,4 @@
--- What a listing writes of bytes, read again as the lines of a script.
+-- The listing of bytes, read again as the lines of a script.
 use Rattle.std.specs.Prelude.{ℕ, true, nat_lt, List, map, Some, ◌≡◌}
 use Rattle.std.specs.List.{list_all, flat_map}
 use Rattle.mmtel_trust.specs.declared.parties.KnownPeer.{KnownPeer}

@@ -1,5 +1,5 @@
--- Scripts: a format of this project's own. A text of lines: each event begins with a line that says when it comes and what it is, and the bytes of a datagram or of a web
--- request follow in data lines.
+-- Scripts: a format of this project's own. A text of lines: each event begins with a line with its moment and its kind, and the bytes of a datagram or of a web request follow in
+-- data lines.
 use Rattle.std.specs.Prelude.{ℕ, Bool, true, false, nat_le, ◌&&◌, ◌==◌, ◌+◌, ◌-◌, ◌*◌, if◌then◌else◌, List, [], ◌∷◌, ◌++◌, codes, Option, Some, None, Result, Ok, Err, ◌≡◌}
 use Rattle.std.specs.Str.{bytes_eq}
 use Rattle.mmtel_scan.specs.Chain.{◌>>=◌}
@@ -55,7 +55,7 @@ hex_bytes (high ∷ low ∷ s) = do
 
 -- ---- lines
 
--- `peer N`, a peer of the configuration, whose number stands for its address
+-- `peer N`, a peer of the configuration, whose number represents its address
 abbrev pub datagram_from : List KnownPeer → ℕ → List ℕ → Option Event
 datagram_from known at s = do
   p ← parted 32 s
@@ -63,7 +63,7 @@ datagram_from known at s = do
   from ← peers.addr_of peer known
   if bytes_eq p.0 (codes "peer") then Some (Datagram from at []) else None
 
--- `web`, `quiet` or `peer N`, behind the moment; the event has no bytes yet
+-- `web`, `quiet` or `peer N`, after the moment; the event has no bytes yet
 abbrev pub event_at : List KnownPeer → ℕ → List ℕ → Option Event
 event_at known at s = if bytes_eq s (codes "web") then Some (Web at []) else if bytes_eq s (codes "quiet") then Some (Quiet at) else datagram_from known at s
 
@@ -86,8 +86,8 @@ beginning known s = do
   event ← event_line known s
   Some (Begins event)
 
--- what a line says, where it is of a form of the grammar: nothing; bytes: `|` and bytes, which stand for these bytes and CRLF, `+` and bytes, or `x` and digits; or the
--- beginning of an event
+-- the content of a line, where it is of a form of the grammar: none; bytes: `|` and bytes, which represent these bytes and CRLF, `+` and bytes, or `x` and digits; or the beginning
+-- of an event
 unfoldable pub line_of : List KnownPeer → List ℕ → Option ScriptLine
 line_of known [] = Some Remark
 line_of known (b ∷ s) =
@@ -112,13 +112,13 @@ takes_bytes above (Remark ∷ lines) = takes_bytes above lines
 takes_bytes above (Begins event ∷ lines) = takes_bytes (holds_bytes event) lines
 takes_bytes above (Data bytes ∷ lines) = takes_bytes above lines
 
--- whether a line may stand right behind these: data stands behind an event that has bytes
+-- whether a line may follow directly after these: data follows an event that has bytes
 abbrev pub stands : List ScriptLine → ScriptLine → Bool
 stands said Remark = true
 stands said (Begins event) = true
 stands said (Data bytes) = takes_bytes false said
 
--- what the next line says, where it breaks nothing
+-- the content of the next line, where it breaks no rule
 abbrev pub next_said : List KnownPeer → List ScriptLine → List ℕ → Option ScriptLine
 next_said known said text = do
   line ← line_of known text
@@ -154,7 +154,7 @@ events_of known text = events_from (said_by (next_said known) 1 [] (lines_of tex
 
 -- ---- words of contracts
 
--- what a link hears that gives these events and has given none yet
+-- the inputs of a link that returns these events and has returned none yet
 abbrev pub unheard : List Event → Ear
 unheard events = record { events = events; reads = []; over = false }
 

@@ -1,4 +1,4 @@
--- How the events of a script are gathered line by line. What others call speaks of Script.
+-- How the events of a script are built line by line. The contracts of public functions use Script instead.
 use Rattle.std.specs.Prelude.{ℕ, ◌+◌, List, [], ◌∷◌, ◌++◌, Option, Some, None, Result, Ok, Err, ◌≡◌}
 use Rattle.mmtel_scan.specs.Chain.{◌>>=◌}
 use Rattle.mmtel_trust.specs.declared.parties.KnownPeer.{KnownPeer}
@@ -30,7 +30,7 @@ with_data events (Some (Datagram from at before)) bytes = Some (record { events 
 with_data events (Some (Web at before)) bytes = Some (record { events = events; last = Some (Web at (before ++ bytes)) })
 with_data events (Some (Quiet at)) bytes = None
 
--- what is told with the line, where it is taken
+-- the events so far with the line, where it is accepted
 abbrev pub with_line : Telling → ScriptLine → Option Telling
 with_line told Remark = Some told
 with_line told (Begins event) = Some (record { events = all_told told; last = Some event })
@@ -41,7 +41,7 @@ step known told text = do
   line ← line_of known text
   with_line told line
 
--- the events of what is told and of the lines to come
+-- the events so far and those of the remaining lines
 abbrev pub telling : List KnownPeer → ℕ → Telling → List (List ℕ) → Result (List Event) ℕ
 telling known number told [] = Ok (all_told told)
 telling known number told (text ∷ texts) = and_then number (step known told text) (λ next. telling known (number + 1) next texts)
@@ -52,13 +52,13 @@ Gathers (Ok events) due = due ≡ Ok events
 Gathers (Err (BadLine number)) due = due ≡ Err number
 Gathers (Err NoMemory) due = Unit {0}
 
--- what came of a line: this telling, or the line's number where there is none
+-- the result of a line: these events so far, or the line's number where there is none
 abbrev pub Steps : Result (Unit {0}) ScriptFault → ℕ → Option Telling → Telling → Type 0
 Steps (Ok done) number due after = due ≡ Some after
 Steps (Err (BadLine n)) number due after = (due ≡ None) × (n ≡ number)
 Steps (Err NoMemory) number due after = Unit {0}
 
--- what came of lines: what they and the telling before tell; or the number of the first line that is not taken
+-- the result of lines: the events of what was before and of them; or the number of the first line that is not accepted
 abbrev pub Reads : List KnownPeer → Result (Unit {0}) ScriptFault → Telling → List (List ℕ) → Telling → Type 0
 Reads known (Ok done) before texts after = telling known 1 before texts ≡ Ok (all_told after)
 Reads known (Err (BadLine n)) before texts after = telling known 1 before texts ≡ Err n

@@ -1,4 +1,4 @@
-//! Scripts, which write down the events of a run; and the listing of what a run offered, by which bytes are read back.
+//! Scripts, which are texts of the events of a run; and the listing of its outputs, from which bytes are read back.
 #![tactic(auto)]
 
 mod laws;

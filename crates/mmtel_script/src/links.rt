@@ -12,7 +12,7 @@ use mmtel_types::{Addr, Failed};
 use std::alloc::Global;
 use std::marker::Model;
 
-/// A link whose events are those of a script. It tells what it has heard and not what it is given, which it does not keep. No call of it fails.
+/// A link whose events are those of a script. The received events are known in contracts, the outputs are not, which it does not record. No call of it fails.
 #[derive(Drop)]
 pub struct ScriptLink {
     /// The events, on a link none of whose calls fails by its number.
@@ -33,15 +33,15 @@ impl Model for ScriptLink {
 impl ScriptLink {
     /// Reads a script of events from these peers.
     ///
-    /// Each line ends with LF, which the last may lack; one that is empty or begins with `#` says nothing. An event begins with a line `at M peer N`, a
-    /// datagram, `at M web`, a web request, or `at M quiet`, the passing of time until then: `M` is its moment in milliseconds since 1970-01-01T00:00:00Z and
-    /// `N` the number of a peer, which stands for the peer's address, both in decimal without leading zeros. The bytes of a datagram or of a web request follow
-    /// in lines of `|` and bytes, each of which gives the bytes and CRLF, of `+` and bytes, which gives the bytes alone, or of `x` and pairs of hexadecimal
+    /// Each line ends with LF, which the last may lack; one that is empty or begins with `#` is ignored. An event begins with a line `at M peer N`, a
+    /// datagram, `at M web`, a web request, or `at M quiet`, a tick: nothing is received until then. `M` is its moment in milliseconds since 1970-01-01T00:00:00Z and
+    /// `N` the number of a peer, which represents the peer's address, both in decimal without leading zeros. The bytes of a datagram or of a web request follow
+    /// in lines of `|` and bytes, each of which means the bytes and CRLF, of `+` and bytes, which means the bytes alone, or of `x` and pairs of hexadecimal
     /// digits in lower case. An event without such lines has no bytes.
     ///
     /// # Errors
     ///
-    /// `BadLine` exactly with the first line that breaks this; else want of memory alone.
+    /// `BadLine` exactly with the first line that breaks this; else out of memory only.
     pub fn read(alloc: Global, bytes: &[u8], peers: &PeerTable) -> Result<ScriptLink, ScriptFault>
         ensures exact { Answers result (events_of peers.now.known bytes.now) }
         ensures unheard { IfOk result (λ script. script ≡ unheard script.events) }

@@ -11,12 +11,12 @@ use mmtel_types::Moment;
 use mmtel_types::limits::LAST_MOMENT;
 use std::alloc::Global;
 
-/// What a line says.
+/// The content of a line.
 #[derive(Drop)]
 pub enum ScriptLine {
     /// Nothing: it is empty, or begins with `#`.
     Remark,
-    /// An event comes, of whose bytes none are there yet.
+    /// An event begins, without bytes yet.
     Begins(Event),
     /// Bytes of the event above.
     Data(Text),
@@ -50,7 +50,7 @@ fn leading_byte(digits: &[u8]) -> Option<(u8, &[u8])>
     }
 }
 
-/// The first byte that pairs of digits write, and the pairs behind it; None where the first two bytes are no digits.
+/// The first byte that pairs of digits write, and the pairs after it; None where the first two bytes are no digits.
 fn next_byte(digits: &[u8]) -> Option<(u8, &[u8])>
     requires { 0 < length digits.now }
     ensures bytes { MatchOption result (hex_bytes digits.now ≡ None) (λ x. hex_bytes digits.now ≡ with_first x.0 (hex_bytes x.1.now)) }
@@ -105,7 +105,7 @@ fn datagram_from(at: Moment, rest: &[u8], peers: &PeerTable) -> Option<Event>
     }
 }
 
-/// The event at this moment that the words behind it name.
+/// The event at this moment that the words after it name.
 fn event_at(at: Moment, rest: &[u8], peers: &PeerTable) -> Option<Event>
     ensures { result ≡ event_at peers.now.known at rest.now }
 {
@@ -140,7 +140,7 @@ fn beginning(line: &[u8], peers: &PeerTable) -> Option<ScriptLine>
     Some(ScriptLine::Begins(event_line(line, peers)?))
 }
 
-/// What a line says; None where it is of no form of the grammar.
+/// The content of a line; None where it is of no form of the grammar.
 #[tactic(auto, unfolding(crate::specs::Script::line_of))]
 pub fn read_script_line(
     alloc: Global,

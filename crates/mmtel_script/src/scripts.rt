@@ -1,4 +1,4 @@
-//! Scripts: the events of a run, written down.
+//! Scripts: the events of a run, as a text.
 ghost use Rattle.std.specs.Prelude.{◌≡◌};
 ghost use Rattle.mmtel_directory.specs.Lines.{lines_of};
 ghost use Rattle.mmtel_script.specs.Script.{events_of};
@@ -32,7 +32,7 @@ impl From<NoMemory> for ScriptFault {
     }
 }
 
-/// Adds what each line of a text says to what is told.
+/// Adds the content of each line of a text to the events so far.
 fn read_lines(
     alloc: Global,
     told: &mut Telling,

@@ -10,7 +10,7 @@ use mmtel_scan::{List, NoMemory, Text};
 use mmtel_trust::PeerTable;
 use std::alloc::Global;
 
-/// What the lines so far tell.
+/// The events of the lines so far.
 #[derive(Drop)]
 pub struct Telling {
     events: List<Event>,
@@ -19,7 +19,7 @@ pub struct Telling {
 }
 
 impl Telling {
-    /// The telling of no lines.
+    /// The events of no lines.
     pub fn new() -> Telling
         ensures { result ≡ nothing_told }
     {
@@ -29,7 +29,7 @@ impl Telling {
         }
     }
 
-    /// Puts the last event, if there is one, behind the others.
+    /// Puts the last event, if there is one, after the others.
     fn close(&mut self, alloc: Global) -> Result<(), NoMemory>
         ensures { OnOk result (self.new ≡ record { events = all_told self.old; last = None }) }
     {
@@ -72,7 +72,7 @@ impl Telling {
         }
     }
 
-    /// Reads the line of this number, and adds what it says.
+    /// Reads the line of this number, and adds its content.
     pub fn read(
         &mut self,
         alloc: Global,
@@ -88,7 +88,7 @@ impl Telling {
         }
     }
 
-    /// The events, where no further line comes.
+    /// The events, where no further line follows.
     pub fn finish(self, alloc: Global) -> Result<List<Event>, ScriptFault>
         ensures { Gathers result (Ok (all_told self)) }
     {

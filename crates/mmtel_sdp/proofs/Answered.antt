@@ -88,7 +88,7 @@ head_said : (port : ℕ) (medium : Medium) → IsSound medium → media_line (he
 head_said port medium sound =
     value_said medium.kind (decimal port) medium.proto medium.format medium.format [] (medium_words medium port sound) (words_one medium.format sound.format) (one_filled medium.format sound.format)
 
--- ---- the lines under it
+-- ---- the lines after it
 
 direction_plain : (direction : Direction) → IsPlain (direction_text direction)
 unfolding direction_text
@@ -228,7 +228,7 @@ ports_are port direction (medium ∷ media) sound =
       | inr n ↦ rw (n, head_said 0 medium sound.0, ports_are port direction media sound.1) refl
     ]
 
--- ---- the lines are plain
+-- ---- the lines have no CR and no LF
 
 head_plain : (port : ℕ) (medium : Medium) → IsSound medium → IsPlain (head_of port medium)
 head_plain port medium sound = value_plain medium.kind (decimal port) medium.proto medium.format (medium_words medium port sound) (word_plain medium.format sound.format)

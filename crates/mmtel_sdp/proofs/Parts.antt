@@ -1,4 +1,4 @@
--- The parts of a list between the bytes at which it is cut.
+-- The parts of a list between the bytes at which it is split.
 use Rattle.std.proofs.Common.{◌≡◌, ◌==◌, true, false, not, nat_lt, ℕ, ◌<◌, List, [], ◌∷◌, length, Option, Some, None, MatchOption, Bor, refl, sym, subst, inl, inr, arith}
 use Rattle.std.specs.Prelude.{IfSome}
 use Rattle.std.specs.List.{slice_split, list_all, prefix_len}
@@ -50,7 +50,7 @@ pub shorter_by : (b : ℕ) (r : Front) (s : List ℕ) → option_map (λ x. (x.0
 shorter_by b None s e = tt
 shorter_by b (Some x) s e = part_shorter b s (x.0.now, x.1.now) (sym e)
 
--- there is a part or more
+-- there is at least one part
 pub has_first : (b : ℕ) (s : List ℕ) → (x : List ℕ × List (List ℕ)) × (cut b s ≡ x.0 ∷ x.1)
 has_first b [] = (([], []), refl)
 has_first b (c ∷ s) =

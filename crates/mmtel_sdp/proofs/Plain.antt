@@ -1,4 +1,4 @@
--- Lines without CR and LF in them: those of a text that was read, and those that read back.
+-- Lines without CR and LF in them: those of a text that was read, and those that are read back.
 use Rattle.std.proofs.Common.{◌≡◌, ◌==◌, Bool, true, false, not, ◌&&◌, ◌||◌, ℕ, zero, suc, List, [], ◌∷◌, ◌++◌, length, drop, Option, Some, None, refl, sym, ap, ◌∙◌, subst, inl, inr, arith, append_assoc}
 use Rattle.std.specs.List.{list_all}
 use Rattle.std.specs.Str.{byte}
@@ -47,7 +47,7 @@ all_behind p zero s all = all
 all_behind p (suc n) [] all = refl
 all_behind p (suc n) (b ∷ s) all = all_behind p n s (and_true (p b) (list_all p s) all).1
 
--- where each byte is the one at which the list is cut, or passes, each part passes
+-- where each byte is the one at which the list is split, or passes a test, each byte of each part passes
 pub parts_pass : (b : ℕ) (p : ℕ → Bool) (s : List ℕ) → list_all (λ c. c == b || p c) s ≡ true → list_all (λ part. list_all p part) (cut b s) ≡ true
 parts_pass b p [] all = refl
 parts_pass b p (c ∷ s) all =
@@ -61,7 +61,7 @@ parts_pass b p (c ∷ s) all =
           rw (n, first.1, here) (rw first.1 at more)
     ]
 
--- ---- what was read is plain
+-- ---- what was read has no CR and no LF
 
 cr_or_plain : (c : ℕ) → not (c == 10) ≡ true → (c == 13 || plain_byte c) ≡ true
 cr_or_plain c e = grind (arith, nat_tests)
@@ -115,7 +115,7 @@ pub lines_plain : (s : List ℕ) (lines : List Line) → lines_of s ≡ Some lin
 unfolding lines_of
 lines_plain s lines is = in_plain (cut 10 s) lines (parts_pass 10 (λ c. not (c == 10)) s (lf_or_not s)) is
 
--- ---- plain lines read back
+-- ---- such lines are read back
 
 plain_no_lf : (b : ℕ) → plain_byte b ≡ true → not (b == 10) ≡ true
 plain_no_lf b e = (and_true (not (b == 10)) (not (b == 13)) e).0

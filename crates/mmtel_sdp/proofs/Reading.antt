@@ -7,7 +7,7 @@ use Rattle.mmtel_sdp.specs.Lines.{line_at, lines_in, lines_of}
 use Rattle.mmtel_sdp.specs.declared.lines.Line.{Line}
 use Rattle.mmtel_sdp.proofs.Parts.{cut, cut_more, cut_one, has_first}
 
--- what was read before, and what is still read
+-- what was read before, and what remains to be read
 abbrev pub with_front : {A : Type 0} → List A → Option (List A) → Option (List A)
 with_front front read = read >>= λ more. Some (front ++ more)
 

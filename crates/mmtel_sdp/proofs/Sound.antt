@@ -1,4 +1,4 @@
--- What holds of each medium of a description that was read.
+-- What holds for each medium of a description that was read.
 use Rattle.std.proofs.Common.{◌≡◌, ◌==◌, ◌⊎◌, Bool, true, not, nat_lt, ◌&&◌, ◌||◌, ℕ, List, [], ◌∷◌, length, take, drop, Option, Some, None, refl, sym, ap, ◌∙◌, subst, inl, inr}
 use Rattle.std.specs.Prelude.{codes}
 use Rattle.std.specs.List.{list_all}
@@ -83,7 +83,7 @@ said_sound head said plain is =
     let both = where_some (all_filled (words head)) (media_line_in (words head)) said is in
     said_in (words head) said both.0 (words_in head plain) both.1
 
--- ---- the map
+-- ---- the rtpmap
 
 behind_plain : (front s rest : List ℕ) → IsPlain s → after_text front s ≡ Some rest → IsPlain rest
 behind_plain front s rest plain is =

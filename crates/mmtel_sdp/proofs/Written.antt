@@ -31,7 +31,7 @@ unfolding offer_text
 offer_is mixer out more whole one two three =
     three ∙ rw (two, one) (two_lines (text_of (opening mixer)) (offered_medium mixer) offered_direction ∙ sym (text_of_both (opening mixer) (offered_medium mixer ∷ offered_direction ∷ [])))
 
--- the lines of the media that are left; the flag says whether an audio medium was taken
+-- the lines of the media that remain; the flag says whether an audio medium was accepted
 abbrev pub rest_lines : ℕ → Direction → Bool → List Medium → List Line
 rest_lines port direction true media = flat_map refused media
 rest_lines port direction false media = answered_lines port direction media

@@ -1,4 +1,4 @@
--- What the public clauses cite. Clauses of private functions cite parts of the same definitions, and nothing else.
+-- What the clauses of public functions cite. Clauses of private functions cite parts of the same definitions, and nothing else.
 pub mod Lines
 pub mod Mixing
 pub mod Offers

@@ -6,7 +6,7 @@ use Rattle.mmtel_scan.specs.Chain.{◌>>=◌}
 use Rattle.mmtel_scan.specs.Scanning.{parted}
 use Rattle.mmtel_sdp.specs.declared.lines.Line.{Line}
 
--- a line without the CR at its end; no CR stands elsewhere in it
+-- a line without the CR at its end; no CR occurs elsewhere in it
 abbrev pub text_from : Option (List ℕ × List ℕ) → List ℕ → Option (List ℕ)
 text_from None raw = Some raw
 text_from (Some p) raw = if length p.1 == 0 then Some p.0 else None
@@ -17,7 +17,7 @@ line_of [] = None
 line_of (letter ∷ []) = None
 line_of (letter ∷ equals ∷ value) = if equals == byte "=" then Some (record { letter = letter; value = value }) else None
 
--- what stands between two LFs, as a line
+-- what is between two LFs, as a line
 unfoldable pub line_at : List ℕ → Option Line
 line_at raw = text_from (parted 13 raw) raw >>= λ text. line_of text
 

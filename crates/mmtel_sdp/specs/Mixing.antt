@@ -1,4 +1,4 @@
--- The offer and the answer of a room's mixer (RFC 3264 §5 and §6), and what they say when they are read.
+-- The offer and the answer of a conference's mixer (RFC 3264 §5 and §6), and what they say when they are read.
 use Rattle.std.specs.Prelude.{ℕ, List, [], ◌∷◌, ◌++◌, map, Option, Some, Bool, codes, decimal, slice_index, if◌then◌else◌}
 use Rattle.std.specs.List.{flat_map, list_any}
 use Rattle.std.specs.Str.{byte}
@@ -20,7 +20,7 @@ line letter value = record { letter = letter; value = value }
 unfoldable pub ip_text : List ℕ → List ℕ
 ip_text ip = decimal (slice_index ip 0) ++ codes "." ++ decimal (slice_index ip 1) ++ codes "." ++ decimal (slice_index ip 2) ++ codes "." ++ decimal (slice_index ip 3)
 
--- what both texts begin with: v, o, s, c and t (RFC 4566 §5.1 to §5.9)
+-- the lines with which both texts begin: v, o, s, c and t (RFC 4566 §5.1 to §5.9)
 abbrev pub opening : Mixer → List Line
 opening mixer =
     line (byte "v") (codes "0")
@@ -62,16 +62,16 @@ abbrev pub map_lines : List ℕ → List Line
 map_lines [] = []
 map_lines (b ∷ more) = line (byte "a") (codes "rtpmap:" ++ b ∷ more) ∷ []
 
--- a medium that the mixer takes
+-- a medium that the mixer accepts
 abbrev pub accepted : ℕ → Direction → Medium → List Line
 accepted port direction medium =
     line (byte "m") (media_value medium.kind (decimal port) medium.proto medium.format) ∷ (map_lines medium.map ++ line (byte "a") (direction_text direction) ∷ [])
 
--- a medium that it does not: port 0 (RFC 3264 §6)
+-- a medium that it rejects: port 0 (RFC 3264 §6)
 abbrev pub refused : Medium → List Line
 refused medium = line (byte "m") (media_value medium.kind (decimal 0) medium.proto medium.format) ∷ []
 
--- the first audio medium is taken, and no other
+-- the first audio medium is accepted, and no other
 abbrev pub answered_lines : ℕ → Direction → List Medium → List Line
 answered_lines port direction [] = []
 answered_lines port direction (medium ∷ media) =
@@ -91,7 +91,7 @@ has_audio media = list_any (λ medium. is_audio medium.kind) media
 abbrev pub without_map : Medium → Medium
 without_map medium = record medium { map = [] }
 
--- the media of the answer: those of the offer, of which the first audio medium alone keeps its map
+-- the media of the answer: those of the offer, of which the first audio medium alone keeps its rtpmap
 abbrev pub answered_media : List Medium → List Medium
 answered_media [] = []
 answered_media (medium ∷ media) = if is_audio medium.kind then medium ∷ map without_map media else without_map medium ∷ answered_media media
@@ -99,7 +99,7 @@ answered_media (medium ∷ media) = if is_audio medium.kind then medium ∷ map 
 abbrev pub answered : SdpView → SdpView
 answered view = record { media = answered_media view.media; direction = answered_direction view.direction }
 
--- one audio medium, format 0 first, both ways
+-- one audio medium, format 0 first, in both directions
 abbrev pub offered : SdpView
 offered = record { media = record { kind = codes "audio"; proto = codes "RTP/AVP"; format = codes "0"; map = [] } ∷ []; direction = SendRecv }
 

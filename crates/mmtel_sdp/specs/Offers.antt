@@ -1,5 +1,5 @@
 -- What a body offers: the kinds of its media (RFC 4566 §5.14), whether audio is among them, and the direction of its first audio medium (RFC 3264 §5.1). A body that is no
--- session description offers no media and no audio, and tells no direction.
+-- session description offers no media and no audio, and has no direction.
 use Rattle.std.specs.Prelude.{ℕ, List, [], map, Option, Some, None, Bool, false}
 use Rattle.mmtel_sdp.specs.Mixing.{has_audio}
 use Rattle.mmtel_sdp.specs.Sdp.{sdp_of}
@@ -11,7 +11,7 @@ use Rattle.mmtel_sdp.specs.declared.values.SdpView.{SdpView}
 abbrev pub kinds : List Medium → List (List ℕ)
 kinds media = map (λ medium. medium.kind) media
 
--- ---- of what is seen of a body, if it is a session description
+-- ---- for what was read of a body, if it is a session description
 
 abbrev pub kinds_seen : Option SdpView → List (List ℕ)
 kinds_seen None = []
@@ -25,7 +25,7 @@ abbrev pub direction_seen : Option SdpView → Option Direction
 direction_seen None = None
 direction_seen (Some view) = Some view.direction
 
--- ---- of any body
+-- ---- for any body
 
 abbrev pub kinds_of : List ℕ → List (List ℕ)
 kinds_of body = kinds_seen (sdp_of body)

@@ -1,4 +1,4 @@
--- What a session description says: its media (RFC 4566 §5.14), the map of a format (RFC 4566 §6) and the direction of the first audio medium (RFC 3264 §5.1 and §6.1).
+-- What a session description says: its media (RFC 4566 §5.14), the rtpmap of a format (RFC 4566 §6) and the direction of the first audio medium (RFC 3264 §5.1 and §6.1).
 use Rattle.std.specs.Prelude.{ℕ, List, [], ◌∷◌, length, Option, Some, None, Bool, false, ◌&&◌, ◌==◌, nat_lt, codes, if◌then◌else◌}
 use Rattle.std.specs.List.{slice_split, list_all}
 use Rattle.std.specs.Option.{option_or, unwrap_or}
@@ -22,7 +22,7 @@ abbrev pub before_media : List Line → List Line
 before_media [] = []
 before_media (line ∷ lines) = if is_medium line then [] else line ∷ before_media lines
 
--- a medium's part: the value of its m line, and the lines under it, up to the next m line
+-- a medium's part: the value of its m line, and the lines after it, up to the next m line
 pub record Section : Type 0 where
   pub head : List ℕ
   pub under : List Line
@@ -34,7 +34,7 @@ sections (line ∷ lines) = if is_medium line then record { head = line.value; u
 
 -- ---- the m line
 
--- the words that single blanks part
+-- the words, separated by single blanks
 unfoldable pub words : List ℕ → List (List ℕ)
 words s = slice_split (λ b. b == 32) s
 
@@ -61,7 +61,7 @@ media_line head = if list_all is_filled (words head) then media_line_in (words h
 
 -- ---- attributes
 
--- what f gives of the first line of which it gives something
+-- what f gives for the first line for which it gives something
 abbrev pub first_of : {A : Type 0} → (Line → Option A) → List Line → Option A
 first_of f [] = None
 first_of f (line ∷ lines) = option_or (f line) (first_of f lines)
@@ -70,14 +70,14 @@ first_of f (line ∷ lines) = option_or (f line) (first_of f lines)
 abbrev pub attribute : Line → Option (List ℕ)
 attribute line = if line.letter == byte "a" then Some line.value else None
 
--- a map of the format: the format, a blank, and more
+-- an rtpmap of the format: the format, a blank, and more
 unfoldable pub map_of : List ℕ → List ℕ → Option (List ℕ)
 map_of format map = after_text format map >>= λ rest. after_byte 32 rest >>= λ more. Some map
 
 unfoldable pub map_in : List ℕ → Line → Option (List ℕ)
 map_in format line = attribute line >>= λ value. after_text (codes "rtpmap:") value >>= λ map. map_of format map
 
--- the first map of the format, or nothing
+-- the first rtpmap of the format, or nothing
 abbrev pub map_under : List ℕ → List Line → List ℕ
 map_under format lines = unwrap_or (first_of (λ line. map_in format line) lines) []
 
@@ -97,7 +97,7 @@ medium_from under (Some line) = Some (record { kind = line.kind; proto = line.pr
 abbrev pub medium_of : Section → Option Medium
 medium_of part = medium_from part.under (media_line part.head)
 
--- each medium, if each m line is of the form
+-- each medium, if each m line has that form
 abbrev pub media_of : List Section → Option (List Medium)
 media_of [] = Some []
 media_of (part ∷ parts) = medium_of part >>= λ medium. media_of parts >>= λ media. Some (medium ∷ media)
@@ -109,12 +109,12 @@ first_word (word ∷ more) = word
 abbrev pub is_audio : List ℕ → Bool
 is_audio kind = bytes_eq kind (codes "audio")
 
--- the lines under the first audio medium
+-- the lines after the m line of the first audio medium
 abbrev pub under_audio : List Section → List Line
 under_audio [] = []
 under_audio (part ∷ parts) = if is_audio (first_word (words part.head)) then part.under else under_audio parts
 
--- the first direction under the first audio medium, else before the media, else sendrecv
+-- the first direction in the part of the first audio medium, else before the media, else sendrecv
 abbrev pub direction_of : List Line → Direction
 direction_of lines = unwrap_or (option_or (first_of direction_in (under_audio (sections lines))) (first_of direction_in (before_media lines))) SendRecv
 

@@ -1,4 +1,4 @@
-//! Session descriptions (RFC 4566) as far as calls and rooms look into them, and the offer and the answer of the mixer (RFC 3264).
+//! Session descriptions (RFC 4566) as far as calls and conferences read them, and the offer and the answer of the mixer (RFC 3264).
 #![tactic(auto)]
 
 mod faults;

@@ -16,7 +16,7 @@ pub struct Line {
     pub value: Text,
 }
 
-/// A line without the CR at its end; None where a CR stands elsewhere in it.
+/// A line without the CR at its end; None where a CR occurs elsewhere in it.
 fn line_text(raw: &[u8]) -> Option<&[u8]>
     ensures { option_copied result ≡ text_from (parted 13 raw.now) raw.now }
 {
@@ -38,7 +38,7 @@ fn split_letter(alloc: Global, text: &[u8]) -> Result<Option<Line>, NoMemory>
     }
 }
 
-/// What stands between two LFs, as a line.
+/// What is between two LFs, as a line.
 #[tactic(auto, unfolding(crate::specs::Lines::line_at))]
 fn read_line(alloc: Global, raw: &[u8]) -> Result<Option<Line>, NoMemory>
     ensures { IfOk result (λ line. line ≡ line_at raw.now) }
@@ -49,7 +49,7 @@ fn read_line(alloc: Global, raw: &[u8]) -> Result<Option<Line>, NoMemory>
     }
 }
 
-/// The lines of a body, each of which LF or CRLF ends.
+/// The lines of a body, each of which is ended by LF or CRLF.
 pub fn read_lines(alloc: Global, bytes: &[u8]) -> Result<List<Line>, SdpFault>
     ensures { Gives result (lines_of bytes.now) }
 {

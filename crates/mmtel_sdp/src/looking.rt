@@ -1,4 +1,4 @@
-//! Looking into a body.
+//! Reading a body.
 ghost use Rattle.std.specs.Prelude.{◌≡◌, IfOk};
 ghost use Rattle.mmtel_sdp.specs.Outcome.{Gives};
 ghost use Rattle.mmtel_sdp.specs.Sdp.{begins, session_of, sdp_of};
@@ -46,11 +46,11 @@ fn session(alloc: Global, lines: &[Line]) -> Result<Option<SdpView>, NoMemory>
     }
 }
 
-/// What calls and rooms look at in a body, if it is a session description (RFC 4566 §5).
+/// What calls and conferences read of a body, if it is a session description (RFC 4566 §5).
 ///
 /// # Errors
 ///
-/// `NotSdp` exactly where the body is not of the grammar. Want of memory.
+/// `NotSdp` exactly where the body is not of the grammar; and out of memory.
 #[tactic(auto, unfolding(crate::specs::Sdp::sdp_of))]
 pub fn look(alloc: Global, body: &[u8]) -> Result<SdpView, SdpFault>
     ensures exact { Gives result (sdp_of body.now) }

@@ -22,7 +22,7 @@ pub fn before_media(lines: &[Line]) -> &[Line]
     lines
 }
 
-/// The first word, and what follows the blank behind it; None where there is one word.
+/// The first word, and what follows the blank after it; None where there is one word.
 fn next_word(text: &[u8]) -> Option<(&[u8], &[u8])>
     ensures words { MatchOption result (words text.now ≡ text.now ∷ []) (λ x. words text.now ≡ x.0.now ∷ words x.1.now) }
     ensures shorter { IfSome result (λ x. length x.1.now < length text.now) }
@@ -82,7 +82,7 @@ fn media_line(head: &[u8]) -> Option<MediaLine<'_>>
     })
 }
 
-/// The map, where it is of the format.
+/// The rtpmap, where it is of the format.
 #[tactic(auto, unfolding(crate::specs::Sdp::map_of))]
 fn map_of<'a>(format: &[u8], map: &'a [u8]) -> Option<&'a [u8]>
     ensures { option_copied result ≡ map_of format.now map.now }
@@ -96,7 +96,7 @@ fn map_of<'a>(format: &[u8], map: &'a [u8]) -> Option<&'a [u8]>
     }
 }
 
-/// The map of the format that a line writes.
+/// The rtpmap of the format that a line gives.
 #[tactic(auto, unfolding(crate::specs::Sdp::map_in))]
 fn map_in<'a>(format: &[u8], line: &'a Line) -> Option<&'a [u8]>
     ensures { option_copied result ≡ map_in format.now line.now }
@@ -110,7 +110,7 @@ fn map_in<'a>(format: &[u8], line: &'a Line) -> Option<&'a [u8]>
     }
 }
 
-/// The first map of the format; nothing where there is none.
+/// The first rtpmap of the format; nothing where there is none.
 fn map_under<'a>(format: &[u8], lines: &'a [Line]) -> &'a [u8]
     ensures { result.now ≡ map_under format.now lines.now }
 {
@@ -166,7 +166,7 @@ fn is_audio(head: &[u8]) -> bool
     first_word(head) == b"audio".as_slice()
 }
 
-/// The lines under the first audio medium.
+/// The lines after the `m=` line of the first audio medium.
 fn under_audio(lines: &[Line]) -> &[Line]
     ensures { result.now ≡ under_audio (sections lines.now) }
 {
@@ -191,7 +191,7 @@ pub fn direction(lines: &[Line]) -> Direction
     }
 }
 
-/// A medium, of the value of its `m=` line and the lines under it.
+/// A medium, from the value of its `m=` line and the lines after it.
 fn medium(alloc: Global, head: &[u8], under: &[Line]) -> Result<Option<Medium>, NoMemory>
     ensures { IfOk result (λ medium. medium ≡ medium_of (record { head = head.now; under = under.now })) }
 {
@@ -206,7 +206,7 @@ fn medium(alloc: Global, head: &[u8], under: &[Line]) -> Result<Option<Medium>, 
     }
 }
 
-/// The media; None where an `m=` line is not of the form.
+/// The media; None where an `m=` line does not have that form.
 pub fn media(alloc: Global, lines: &[Line]) -> Result<Option<List<Medium>>, NoMemory>
     ensures { IfOk result (λ media. media ≡ media_of (sections lines.now)) }
 {

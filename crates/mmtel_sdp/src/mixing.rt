@@ -1,4 +1,4 @@
-//! The offer and the answer of a room's mixer (RFC 3264).
+//! The offer and the answer of a conference's mixer (RFC 3264).
 ghost use Rattle.std.specs.Prelude.{◌≡◌, ◌++◌, ◌↔◌, IfOk, OnOk, OnErr, false, Err, decimal, codes, List, ℕ, Some, ◌∷◌, []};
 ghost use Rattle.mmtel_sdp.specs.Lines.{text_of};
 ghost use Rattle.mmtel_sdp.specs.Sdp.{is_audio, sdp_of};
@@ -35,7 +35,7 @@ pub fn has_audio(media: &[Medium]) -> bool
     media.iter().any(|medium| is_audio(medium))
 }
 
-/// Adds the lines of the media: the first audio medium is taken, and no other.
+/// Adds the lines of the media: the first audio medium is accepted, and no other.
 fn add_answered(
     alloc: Global,
     out: &mut Text,
@@ -57,16 +57,16 @@ fn add_answered(
     Ok(())
 }
 
-/// The mixer's answer to an offer: it takes the first audio medium, and answers its direction.
+/// The mixer's answer to an offer: it accepts the first audio medium, and answers its direction.
 ///
 /// # Errors
 ///
-/// `NoAudio` exactly where no medium of the offer is audio. Want of memory.
+/// `NoAudio` exactly where no medium of the offer is audio; and out of memory.
 #[tactic(auto, unfolding(crate::specs::Mixing::answer_text))]
 pub fn mixer_answer(alloc: Global, view: &SdpView, mixer: Mixer) -> Result<Text, AnswerFault>
     ensures text { IfOk result (λ text. text ≡ answer_text view.now mixer) }
     ensures no_audio { (result ≡ Err AnswerFault.NoAudio) ↔ (has_audio view.now.media ≡ false) }
-    // Where a body gave the view, the answer reads as the same media, and as the direction that answers.
+    // Where the view was read of a body, the answer is read as the same media, and as the direction that answers.
     ensures reads_back { (body : List ℕ) → sdp_of body ≡ Some view.now → IfOk result (λ text. sdp_of text ≡ Some (answered view.now)) }
     // Its ports are the mixer's at the first audio medium, and 0 at each other.
     ensures ports { (body : List ℕ) → sdp_of body ≡ Some view.now → IfOk result (λ text. ports_of text ≡ Some (answered_ports mixer.port view.now.media)) }
@@ -86,11 +86,11 @@ pub fn mixer_answer(alloc: Global, view: &SdpView, mixer: Mixer) -> Result<Text,
     Ok(out)
 }
 
-/// The mixer's offer: one audio medium, both ways.
+/// The mixer's offer: one audio medium, in both directions.
 ///
 /// # Errors
 ///
-/// Want of memory alone.
+/// Out of memory only.
 #[tactic(auto, unfolding(crate::specs::Mixing::offer_text))]
 pub fn mixer_offer(alloc: Global, mixer: Mixer) -> Result<Text, NoMemory>
     ensures text { IfOk result (λ text. text ≡ offer_text mixer) }

@@ -1,4 +1,4 @@
-//! What a body offers: the kinds of its media, whether audio is among them, and a direction. Every body has an answer.
+//! What a body offers: the kinds of its media, whether audio is among them, and a direction. This is defined for every body.
 ghost use Rattle.std.specs.Prelude.{◌≡◌, IfOk};
 ghost use Rattle.std.specs.List.{list_any};
 ghost use Rattle.mmtel_sdp.specs.Sdp.{is_audio, sdp_of};
@@ -26,7 +26,7 @@ impl SdpView {
     ///
     /// # Errors
     ///
-    /// Want of memory alone.
+    /// Out of memory only.
     pub fn kinds(&self, alloc: Global) -> Result<List<Text>, NoMemory>
         ensures exact { IfOk result (λ listed. listed ≡ kinds self.now.media) }
     {
@@ -39,11 +39,11 @@ impl SdpView {
     }
 }
 
-/// What is seen of a body; None exactly where it is no session description (RFC 4566 §5).
+/// What is read of a body; None exactly where it is no session description (RFC 4566 §5).
 ///
 /// # Errors
 ///
-/// Want of memory alone.
+/// Out of memory only.
 pub fn view_of(alloc: Global, body: &[u8]) -> Result<Option<SdpView>, NoMemory>
     ensures exact { IfOk result (λ view. view ≡ sdp_of body.now) }
 {
@@ -58,7 +58,7 @@ pub fn view_of(alloc: Global, body: &[u8]) -> Result<Option<SdpView>, NoMemory>
 ///
 /// # Errors
 ///
-/// Want of memory alone.
+/// Out of memory only.
 pub fn offers_audio(alloc: Global, body: &[u8]) -> Result<bool, NoMemory>
     ensures exact { IfOk result (λ offers. offers ≡ offers_audio body.now) }
 {
@@ -72,7 +72,7 @@ pub fn offers_audio(alloc: Global, body: &[u8]) -> Result<bool, NoMemory>
 ///
 /// # Errors
 ///
-/// Want of memory alone.
+/// Out of memory only.
 pub fn kinds_of(alloc: Global, body: &[u8]) -> Result<List<Text>, NoMemory>
     ensures exact { IfOk result (λ listed. listed ≡ kinds_of body.now) }
 {
@@ -86,7 +86,7 @@ pub fn kinds_of(alloc: Global, body: &[u8]) -> Result<List<Text>, NoMemory>
 ///
 /// # Errors
 ///
-/// Want of memory alone.
+/// Out of memory only.
 pub fn direction_told(alloc: Global, body: &[u8]) -> Result<Option<Direction>, NoMemory>
     ensures exact { IfOk result (λ direction. direction ≡ direction_told body.now) }
 {

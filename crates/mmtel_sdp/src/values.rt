@@ -1,8 +1,8 @@
-//! What is seen of a session description.
+//! What is read of a session description.
 
 use mmtel_scan::{List, Text};
 
-/// Which way media flow, as the side that wrote the description sees it (RFC 3264 §5.1).
+/// In which direction media flow, from the point of view of the side that wrote the description (RFC 3264 §5.1).
 #[derive(Clone, Copy, Debug, PartialEq, Eq)]
 pub enum Direction {
     SendRecv,
@@ -11,7 +11,7 @@ pub enum Direction {
     Inactive,
 }
 
-/// A medium: what its `m=` line says, and the map of its first format (RFC 4566 §5.14 and §6).
+/// A medium: what its `m=` line says, and the rtpmap of its first format (RFC 4566 §5.14 and §6).
 #[derive(Drop)]
 pub struct Medium {
     /// The kind, as `audio`.
@@ -24,7 +24,7 @@ pub struct Medium {
     pub map: Text,
 }
 
-/// What calls and rooms look at in a session description.
+/// What calls and conferences read of a session description.
 #[derive(Drop)]
 pub struct SdpView {
     /// The media, in order.
@@ -33,7 +33,7 @@ pub struct SdpView {
     pub direction: Direction,
 }
 
-/// Where the mixer of a room takes media.
+/// The address at which the mixer of a conference receives media.
 #[derive(Clone, Copy)]
 pub struct Mixer {
     /// The four parts of the IPv4 address.

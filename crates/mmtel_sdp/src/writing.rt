@@ -107,7 +107,7 @@ pub fn add_direction(alloc: Global, out: &mut Text, direction: Direction) -> Res
     add_line(alloc, out, b'a', direction_text(direction))
 }
 
-/// Adds the line of a map, if there is one.
+/// Adds the line of an rtpmap, if there is one.
 fn add_map(alloc: Global, out: &mut Text, map: &[u8]) -> Result<(), NoMemory>
     ensures { OnOk result (out.new ≡ out.old ++ text_of (map_lines map.now)) }
 {
@@ -121,7 +121,7 @@ fn add_map(alloc: Global, out: &mut Text, map: &[u8]) -> Result<(), NoMemory>
     }
 }
 
-/// Adds the lines of the medium that the mixer takes.
+/// Adds the lines of the medium that the mixer accepts.
 pub fn add_accepted(
     alloc: Global,
     out: &mut Text,
@@ -143,7 +143,7 @@ pub fn add_accepted(
     add_direction(alloc, out, direction)
 }
 
-/// Adds the line of a medium that the mixer does not take: its port is 0 (RFC 3264 §6).
+/// Adds the line of a medium that the mixer rejects: its port is 0 (RFC 3264 §6).
 pub fn add_refused(alloc: Global, out: &mut Text, medium: &Medium) -> Result<(), NoMemory>
     ensures { OnOk result (out.new ≡ out.old ++ text_of (refused medium.now)) }
 {

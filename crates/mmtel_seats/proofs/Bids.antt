@@ -1,4 +1,4 @@
--- What becomes of a REFER, by the way that leads to whoever is asked for.
+-- The result of a REFER, by the route that leads to the referred party.
 use Rattle.std.proofs.Common.{◌≡◌, ℕ, List, Option, Some, ap}
 use Rattle.std.specs.Prelude.{Result, Ok, Err}
 use Rattle.mmtel_desk.specs.Desks.{drew}

@@ -1,4 +1,4 @@
--- Lists that get nothing.
+-- Appending nothing to a list leaves it unchanged.
 use Rattle.std.proofs.Common.{◌≡◌, ◌++◌, append-nil, List, []}
 
 pub and_nothing : {A : Type 0} → (l : List A) → l ++ [] ≡ l

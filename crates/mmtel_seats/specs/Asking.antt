@@ -1,4 +1,4 @@
--- What a seat asks in its dialog: whether a request is heard (RFC 3261 §12.2.2, §14.2), and what is kept of it.
+-- A request of a participant in its dialog: whether it is accepted (RFC 3261 §12.2.2, §14.2), and what is recorded of it.
 use Rattle.std.specs.Prelude.{ℕ, Bool, true, false, Option, Some, None, codes, Result}
 pub use Rattle.mmtel_answers.specs.Said.{number_of}
 use Rattle.mmtel_answers.specs.Said.{Said}
@@ -13,7 +13,7 @@ use Rattle.mmtel_seats.specs.Seats.{leg_of, with_leg}
 use Rattle.mmtel_seats.specs.declared.seats.Awaited.{Awaited}
 use Rattle.mmtel_seats.specs.declared.seats.Seat.{Seat}
 
--- an INVITE of the server's own without a final, or a 2xx without its ACK
+-- an INVITE of the server's own without a final response, or a 2xx without its ACK
 abbrev pub busy_by : Option Awaited → (waiting : Bool) → InFlight
 busy_by None false = in_flight.None
 busy_by None true = in_flight.Own
@@ -31,6 +31,6 @@ having_heard m leg = with_dialogue leg (record leg.dialogue { last = last_after 
 abbrev pub heard_seat : Said → Seat → Seat
 heard_seat m seat = record seat { party = with_leg (having_heard m (leg_of seat.party)) seat.party }
 
--- the ACK is due of the 2xx that answers the request which was heard last
+-- the ACK is due of the 2xx that answers the request which was received last
 abbrev pub awaiting : (number : ℕ) → Seat → Seat
 awaiting number seat = record seat { awaited = Some (record { number = number; cseq = (leg_of seat.party).dialogue.last }) }

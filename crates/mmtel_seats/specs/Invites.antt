@@ -1,4 +1,4 @@
--- The server's INVITE to a seat: what is noted of it and how it is answered (RFC 3261 §9.1, §13.2.2, §17.1.1.3), and which of its deadlines still waits.
+-- The server's INVITE to a participant: what is recorded of it and how its responses are acknowledged (RFC 3261 §9.1, §13.2.2, §17.1.1.3), and which of its timers is pending.
 use Rattle.std.specs.Prelude.{ℕ, ◌==◌, Bool, true, false, Option, Some, None, List}
 use Rattle.std.specs.Str.{bytes_eq}
 use Rattle.mmtel_answers.specs.Said.{Said}
@@ -20,7 +20,7 @@ use Rattle.mmtel_seats.specs.declared.seats.Party.{Party}
 use Rattle.mmtel_seats.specs.declared.seats.Party.TheVariants.{Brought, Came, Invited}
 use Rattle.mmtel_seats.specs.declared.seats.Seat.{Seat}
 
--- it has no final
+-- it has no final response
 abbrev pub is_waiting : Option Invite → Bool
 is_waiting None = false
 is_waiting (Some (Waiting number i)) = true
@@ -32,7 +32,7 @@ is_sent branch None = false
 is_sent branch (Some (Waiting number i)) = bytes_eq i.branch branch
 is_sent branch (Some (Agreed other tag ack)) = bytes_eq other branch
 
--- the server's INVITE to the seat has this branch
+-- the server's INVITE to the participant has this branch
 abbrev pub is_asked : (branch : List ℕ) → Seat → Bool
 is_asked branch seat = is_sent branch seat.invite
 
@@ -45,7 +45,7 @@ noted key (Some (Agreed branch tag ack)) = Some (Agreed branch tag ack)
 
 -- ---- a 2xx
 
--- somebody who is invited is seated, and has a meter from now on
+-- an invited party is connected, and has a meter from now on
 abbrev pub stood : RoomNo → (now : ℕ) → Option Account → Remote → Party → Party
 stood room now account remote (Invited leg) = Brought (metered (meter_of room now account) (with_dialogue leg (met leg.dialogue remote)))
 stood room now account remote (Came leg) = Came leg
@@ -54,21 +54,21 @@ stood room now account remote (Brought leg) = Brought leg
 abbrev pub seated : RoomNo → (now : ℕ) → Remote → Seat → Seat
 seated room now remote seat = record seat { party = stood room now seat.account remote seat.party }
 
--- the ACK is kept, since it goes out again for each repeat of the 2xx
+-- the ACK is kept, since it is sent again for each retransmission of the 2xx
 abbrev pub agreed_by : (tag ack : List ℕ) → Option Invite → Option Invite
 agreed_by tag ack None = None
 agreed_by tag ack (Some (Waiting number i)) = Some (Agreed i.branch tag ack)
 agreed_by tag ack (Some (Agreed branch before sent)) = Some (Agreed branch before sent)
 
--- ---- it ends without one
+-- ---- it ends without a 2xx
 
--- a final from 300 has its ACK (RFC 3261 §17.1.1.3)
+-- a final response from 300 has its ACK (RFC 3261 §17.1.1.3)
 abbrev pub failure_acked : Addr → TKey → Said → Option Invite → Desk → Desk
 failure_acked sip key m None desk = desk
 failure_acked sip key m (Some (Waiting number i)) desk = final_acked sip key i m.heard desk
 failure_acked sip key m (Some (Agreed branch tag ack)) desk = desk
 
--- CANCEL, where a provisional response came (RFC 3261 §9.1)
+-- CANCEL, where a provisional response was received (RFC 3261 §9.1)
 abbrev pub cancelled_in : Addr → Option Invite → Desk → Desk
 cancelled_in sip None desk = desk
 cancelled_in sip (Some (Waiting number i)) desk = cancelled sip i desk
@@ -79,9 +79,9 @@ once_cancelled_in None = None
 once_cancelled_in (Some (Waiting number i)) = Some (Waiting number (once_cancelled i))
 once_cancelled_in (Some (Agreed branch tag ack)) = Some (Agreed branch tag ack)
 
--- ---- deadlines
+-- ---- timers
 
--- the invitation of this number waits
+-- the invitation of this number has no final response
 abbrev pub waits : (due : ℕ) → Option Invite → Bool
 waits due None = false
 waits due (Some (Waiting number i)) = number == due

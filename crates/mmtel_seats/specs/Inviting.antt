@@ -1,4 +1,5 @@
--- Somebody is invited into a room by the REFER of a seat (RFC 4579 §5.5): the dialog that the INVITE begins, the seat, and what becomes of the REFER where nobody is invited.
+-- A party is invited into a conference by the REFER of a participant (RFC 4579 §5.5): the dialog that the INVITE creates, the participant, and the result of the REFER where
+-- nobody is invited.
 use Rattle.std.specs.Prelude.{ℕ, ◌+◌, if◌then◌else◌, Bool, Option, Some, None, Result, Ok, Err, List, [], codes}
 use Rattle.mmtel_answers.specs.Attempts.{bracketed, called, calling}
 use Rattle.mmtel_desk.specs.Desks.{drew, emitted, token}
@@ -27,22 +28,22 @@ use Rattle.mmtel_seats.specs.declared.seats.Invite.TheVariants.{Waiting}
 use Rattle.mmtel_seats.specs.declared.seats.Party.TheVariants.{Invited}
 use Rattle.mmtel_seats.specs.declared.seats.Seat.{Seat}
 
--- for so long an invitation may ring, in milliseconds
+-- how long an invited party may ring, in milliseconds
 abbrev pub longest_ringing : ℕ
 longest_ringing = 180000
 
--- the dialog of the INVITE to this URI, whose Call-ID and tag are drawn: it is of the room, and of nobody who has a seat
+-- the dialog of the INVITE to this URI, with a new Call-ID and tag: its local side is the conference, and it names no participant
 abbrev pub invitation_dialog : Site → RoomNo → Peer → (uri : List ℕ) → Desk → Dialogue
 invitation_dialog site room peer uri desk =
     calling (record { peer = peer; uri = uri; to = bracketed uri; routes = [] }) (token desk) (token (drew desk)) (room_from site.sip room (token (drew desk)))
 
--- the INVITE in this dialog, and the deadline of its ringing
+-- the INVITE in this dialog, and the timer of its ringing
 abbrev pub invite_sent : Site → (now : ℕ) → RoomNo → (seat number : ℕ) → Dialogue → Desk → Desk
 invite_sent site now room seat number d desk =
     emitted (emit.ArmSeat room seat (due.Cap number) (now + longest_ringing))
     (asked_with site.sip (codes "INVITE") d (described site.sip room) (offer_text site.mixer) desk)
 
--- the seat of whoever is invited by the INVITE of this branch
+-- the participant that is invited by the INVITE of this branch
 abbrev pub seat_of : Next → (by : ℕ) → Option Account → Dialogue → (branch : List ℕ) → Seat
 seat_of next by account d branch = record {
   number = next.seat;
@@ -53,13 +54,13 @@ seat_of next by account d branch = record {
   party = Invited (record { dialogue = called d; meter = None });
 }
 
--- ---- what becomes of the REFER, and what goes out
+-- ---- the result of the REFER, and the output
 
 pub record Bidding : Type 0 where
   pub bid : Bid
   pub desk : Desk
 
--- the INVITE goes out in this dialog
+-- the INVITE is sent in this dialog
 abbrev pub begun_in : Site → (now : ℕ) → Next → (by : ℕ) → Option Account → Dialogue → Desk → Bidding
 begun_in site now next by account d desk = record {
   bid = Begun (seat_of next by account d (token desk));
@@ -69,7 +70,7 @@ begun_in site now next by account d desk = record {
 abbrev pub refused_by : (code : ℕ) → Desk → Bidding
 refused_by code desk = record { bid = Refused code; desk = desk }
 
--- nobody is invited where no peer leads there, and else where no seat is free
+-- nobody is invited where no route leads there, and else where the conference is full
 abbrev pub way_to : Option Peer → (full : Bool) → Result Peer ℕ
 way_to None full = Err 404
 way_to (Some peer) full = if full then Err 503 else Ok peer

@@ -1,5 +1,5 @@
--- What public clauses cite: the server as rooms need it, the seats of a room and what a step of one brings forth, how a room names itself, what is left of a target, how
--- somebody is invited, what a seat asks, and the server's INVITE to it.
+-- What public clauses cite: the configuration as conferences need it, the participants of a conference and the effects of a step, how a conference names itself, what remains of
+-- a target, how a party is invited, the requests of a participant, and the server's INVITE to it.
 pub mod Site
 pub mod Texts
 pub mod Targets

@@ -1,5 +1,5 @@
--- The seats of a conference room: who has one, which number is next and whether one is free (RFC 4579 §5.4), how one is told (RFC 3515 §2.4.4), what is charged for it (TS
--- 32.260 §5), and how it is left (RFC 4579 §5.11).
+-- The participants of a conference: who they are, which number is next and whether the conference is full (RFC 4579 §5.4), how one is notified (RFC 3515 §2.4.4), what is charged
+-- for it (TS 32.260 §5), and how it leaves (RFC 4579 §5.11).
 use Rattle.std.specs.Prelude.{ℕ, ◌==◌, nat_le, Bool, true, false, if◌then◌else◌, Option, Some, None, List, [], ◌∷◌, ◌++◌, codes, length, position}
 use Rattle.std.specs.Option.{option_map}
 use Rattle.mmtel_charging.specs.Meters.{Noted, row_of}
@@ -28,11 +28,11 @@ use Rattle.mmtel_seats.specs.declared.seats.Party.{Party}
 use Rattle.mmtel_seats.specs.declared.seats.Party.TheVariants.{Brought, Came, Invited}
 use Rattle.mmtel_seats.specs.declared.seats.Seat.{Seat}
 
--- before anything has come of a step, where these tokens were drawn
+-- no effects yet, of a step before which these tokens were drawn
 abbrev pub nothing : Drawn → Effects
 nothing tokens = record { closes = false; loose = []; desk = fresh tokens }
 
--- ---- who has a seat
+-- ---- the party of a participant
 
 abbrev pub leg_of : Party → Leg
 leg_of (Invited leg) = leg
@@ -44,7 +44,7 @@ with_leg leg (Invited before) = Invited leg
 with_leg leg (Came before) = Came leg
 with_leg leg (Brought before) = Brought leg
 
--- somebody who is invited and has not answered has no dialog yet
+-- a party that is invited and has not answered has no dialog yet
 abbrev pub is_seated_by : Party → Bool
 is_seated_by (Invited leg) = false
 is_seated_by (Came leg) = true
@@ -60,32 +60,32 @@ dialogue_of seat = (leg_of seat.party).dialogue
 abbrev pub tag_of : Seat → List ℕ
 tag_of seat = (dialogue_of seat).local_tag
 
--- ---- the seats of a room
+-- ---- the participants of a conference
 
--- the numbers of the next one: seats are numbered in the order in which they are taken, invitations and 2xx in that in which they go out
+-- the numbers of the next one: participants are numbered in the order in which they come, invitations and 2xx in the order in which they are sent
 abbrev pub next_of : RoomNo → (taken counted : ℕ) → Next
 next_of room taken counted = record { room = room; seat = next_number taken; number = next_number counted }
 
--- so many seats may be taken at once
+-- the maximum number of participants at a time
 abbrev pub most_seats : ℕ
 most_seats = 32
 
--- no seat is free
+-- the conference is full
 abbrev pub has_no_seat : List Seat → Bool
 has_no_seat seats = nat_le most_seats (length seats)
 
 abbrev pub is_seat : (number : ℕ) → Seat → Bool
 is_seat number seat = seat.number == number
 
--- the creator of a room has its first seat
+-- the creator of a conference is its first participant
 abbrev pub is_creator : (number : ℕ) → Bool
 is_creator number = number == 1
 
--- where the seat of this number stands
+-- the place of the participant of this number
 abbrev pub place_of : (number : ℕ) → List Seat → Option ℕ
 place_of number seats = position (is_seat number) seats
 
--- ---- NOTIFY, to the seat that sent the REFER
+-- ---- NOTIFY, to the participant that sent the REFER
 
 abbrev pub told_leg : Leg → Leg
 told_leg leg = with_dialogue leg (after_request leg.dialogue (codes "NOTIFY"))
@@ -106,7 +106,7 @@ notified_by site room goes_on line (Invited leg) desk = desk
 notified_by site room goes_on line (Came leg) desk = notified site room goes_on line leg desk
 notified_by site room goes_on line (Brought leg) desk = notified site room goes_on line leg desk
 
--- ---- charging: a participant's row begins, and is answered, when it is seated
+-- ---- charging: a participant's CDR begins, and is answered, when it is connected
 
 abbrev pub meter_for : RoomNo → (now : ℕ) → Account → Noted
 meter_for room now account = record { kind = Participant; account = account; call = record { 0 = room.0 }; began = now; answered = Some now }
@@ -114,7 +114,7 @@ meter_for room now account = record { kind = Participant; account = account; cal
 abbrev pub meter_of : RoomNo → (now : ℕ) → Option Account → Option Noted
 meter_of room now account = option_map (meter_for room now) account
 
--- it runs in the leg of whoever has the seat
+-- it is put into the leg of the party
 abbrev pub metered : Option Noted → Leg → Leg
 metered meter leg = record leg { meter = meter }
 
@@ -122,16 +122,16 @@ abbrev pub filed_by : (now : ℕ) → Option Noted → Desk → Desk
 filed_by now None desk = desk
 filed_by now (Some meter) desk = filed (row_of meter now 0 cause.Ended) desk
 
--- ---- a seat is left
+-- ---- a participant leaves
 
--- the dialog has had its BYE, or not
+-- the dialog, where the server sent BYE in it, or none
 abbrev pub ended_dialogs : (had_bye : Bool) → Dialogue → List Dialogue
 ended_dialogs had_bye d = if had_bye then d ∷ [] else []
 
 abbrev pub loose_within : (had_bye : Bool) → Leg → Invitation → Loose
 loose_within had_bye leg i = record { invitation = record i { dialogue = leg.dialogue; forks = ended_dialogs had_bye leg.dialogue }; within = true }
 
--- the server's INVITE that has no final is loose; one in a dialog that stands ends with that dialog
+-- the server's INVITE that has no final response is abandoned; one in a confirmed dialog ends with that dialog
 abbrev pub loosened : (had_bye : Bool) → Party → Invitation → Loose
 loosened had_bye (Invited leg) i = record { invitation = i; within = false }
 loosened had_bye (Came leg) i = loose_within had_bye leg i
@@ -142,14 +142,14 @@ loosened_in had_bye party None = []
 loosened_in had_bye party (Some (Waiting number i)) = loosened had_bye party i ∷ []
 loosened_in had_bye party (Some (Agreed branch tag ack)) = []
 
--- its row is filed
+-- its CDR is filed
 abbrev pub left_with : (now : ℕ) → (had_bye : Bool) → Seat → Effects → Effects
 left_with now had_bye seat e = record e {
   loose = e.loose ++ loosened_in had_bye seat.party seat.invite;
   desk = filed_by now (leg_of seat.party).meter e.desk;
 }
 
--- where somebody is seated, BYE goes out first (RFC 3261 §15.1.1)
+-- where it is connected, BYE is sent first (RFC 3261 §15.1.1)
 abbrev pub having_had_bye : Seat → Seat
 having_had_bye seat = record seat { party = with_leg (with_dialogue (leg_of seat.party) (after_request (dialogue_of seat) (codes "BYE"))) seat.party }
 
@@ -159,6 +159,6 @@ dismissed_with site now seat e =
     then left_with now true (having_had_bye seat) (record e { desk = bye site.sip (dialogue_of seat) e.desk })
     else left_with now false seat e
 
--- what is left of a seat that is given up
+-- what remains of a participant that is ended without a signal
 abbrev pub ended : Seat → Ended
 ended seat = record { meter = (leg_of seat.party).meter }

@@ -1,4 +1,4 @@
--- What each step of a room is given: the server's configuration.
+-- The server's configuration, as each step of a conference needs it.
 use Rattle.std.specs.Prelude.{List}
 use Rattle.mmtel_answers.specs.declared.answers.FurtherMethods.{FurtherMethods}
 use Rattle.mmtel_sdp.specs.declared.values.Mixer.{Mixer}
@@ -7,11 +7,11 @@ use Rattle.mmtel_trust.specs.declared.accounts.AccountIdentity.{AccountIdentity}
 use Rattle.mmtel_types.specs.declared.addrs.Addr.{Addr}
 
 pub record Site : Type 0 where
-  -- the server's address, and where the mixer of its rooms takes media
+  -- the server's address, and where the mixer of its conferences receives media
   pub sip : Addr
   pub mixer : Mixer
-  -- the methods that it knows beside those that it always knows
+  -- the methods that it supports beside those that it always supports
   pub methods : FurtherMethods
-  -- whom it speaks with, and whom it serves
+  -- its peers, and the accounts that it serves
   pub peers : Peers
   pub accounts : List AccountIdentity

@@ -1,17 +1,17 @@
--- How a conference room names itself (RFC 4579 §4.4, §5.1), and the texts of what it asks: its Contact, the lines of a description, and the NOTIFY that tells what became
--- of a REFER (RFC 3515 §2.4.4, RFC 3420).
+-- How a conference names itself (RFC 4579 §4.4, §5.1), and the texts of its requests: its Contact, the header fields of a session description, and the NOTIFY that reports the
+-- progress of a REFER (RFC 3515 §2.4.4, RFC 3420).
 use Rattle.std.specs.Prelude.{ℕ, Bool, true, false, List, [], ◌∷◌, ◌++◌, codes, decimal}
 use Rattle.mmtel_message.specs.Addresses.{addr_text}
 use Rattle.mmtel_message.specs.Message.{Line}
 use Rattle.mmtel_types.specs.declared.addrs.Addr.{Addr}
 use Rattle.mmtel_types.specs.declared.numbers.RoomNo.{RoomNo}
 
--- ---- the room's URI
+-- ---- the conference's URI
 
 unfoldable pub room_uri : Addr → RoomNo → List ℕ
 room_uri sip room = codes "sip:room-" ++ (decimal room.0 ++ 64 ∷ addr_text sip)
 
--- as From of the INVITE to somebody who is invited, with this tag
+-- as From of the INVITE to an invited party, with this tag
 unfoldable pub room_from : Addr → RoomNo → (tag : List ℕ) → List ℕ
 room_from sip room tag = 60 ∷ (room_uri sip room ++ (codes ">;tag=" ++ tag))
 
@@ -22,19 +22,19 @@ contact_value sip room = 60 ∷ (room_uri sip room ++ codes ">;isfocus")
 abbrev pub contact_line : Addr → RoomNo → Line
 contact_line sip room = (codes "Contact", contact_value sip room)
 
--- ---- descriptions
+-- ---- session descriptions
 
--- the line that names a description
+-- the header field that gives the media type of a session description
 abbrev pub sdp_lines : List Line
 sdp_lines = (codes "Content-Type", codes "application/sdp") ∷ []
 
--- the lines of a request of a room with a description
+-- the header fields of a request of a conference with a session description
 abbrev pub described : Addr → RoomNo → List Line
 described sip room = contact_line sip room ∷ sdp_lines
 
--- ---- what a NOTIFY says
+-- ---- the content of a NOTIFY
 
--- the subscription that a REFER makes goes on while the request that it asks for is tried, and ends with its final (RFC 3515 §2.4.7)
+-- the subscription that a REFER creates is active while the request that it asks for has no final response, and ends with it (RFC 3515 §2.4.7)
 abbrev pub subscription : (goes_on : Bool) → List ℕ
 subscription true = codes "active;expires=180"
 subscription false = codes "terminated;reason=noresource"
@@ -47,6 +47,6 @@ notify_lines sip room goes_on =
     ∷ (codes "Content-Type", codes "message/sipfrag;version=2.0")
     ∷ []
 
--- a status line as a fragment of a message (RFC 3420 §2)
+-- a status line as a message fragment (RFC 3420 §2)
 abbrev pub fragment : (line : List ℕ) → List ℕ
 fragment line = line ++ codes "\r\n"

@@ -1,4 +1,4 @@
-//! What a step of a room brings forth.
+//! The effects of a step of a conference.
 ghost use Rattle.std.specs.Prelude.{◌≡◌};
 ghost use Rattle.mmtel_seats.specs.Seats.{nothing};
 
@@ -6,19 +6,19 @@ use mmtel_desk::{Desk, Loose};
 use mmtel_scan::List;
 use mmtel_transaction::{Emits, Tokens};
 
-/// What a step of a room brings forth beyond the room.
+/// The effects of a step of a conference beyond the conference itself.
 #[derive(Drop)]
 pub struct Effects {
-    /// The room closes.
+    /// The conference closes.
     pub closes: bool,
-    /// INVITEs of its seats that were left before they had a final.
+    /// The INVITEs of its participants that were abandoned before their final response.
     pub loose: List<Loose>,
-    /// The tokens that were drawn, what goes out, and the rows that were closed.
+    /// The tokens that were drawn, the output, and the CDRs that were closed.
     pub desk: Desk,
 }
 
 impl Effects {
-    /// Nothing has come of a step before which these tokens were drawn.
+    /// No effects yet, of a step before which these tokens were drawn.
     pub fn new(tokens: Tokens) -> Effects
         ensures nothing { result ≡ nothing tokens }
     {
@@ -29,7 +29,7 @@ impl Effects {
         }
     }
 
-    /// What goes out.
+    /// The output.
     pub fn into_emits(self) -> Emits
         ensures emits { result ≡ self.desk.out }
     {

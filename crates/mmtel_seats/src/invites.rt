@@ -1,4 +1,4 @@
-//! The server's INVITE to a seat: what is noted of it, and its deadlines.
+//! The server's INVITE to a participant: what is recorded of it, and its timers.
 ghost use Rattle.std.specs.Prelude.{◌≡◌, OnOk, Some};
 ghost use Rattle.mmtel_seats.specs.Invites.{agreed_by, cancelled_in, failure_acked, is_awaited, is_waiting, noted, once_cancelled_in, seated, stood, waits};
 
@@ -14,7 +14,7 @@ use mmtel_types::{Account, Addr, Moment, RoomNo};
 use std::alloc::Global;
 use std::mem;
 
-/// An INVITE that had a 2xx with this tag, and this ACK.
+/// The INVITE after a 2xx with this tag, and this ACK.
 fn agreed_by(tag: Text, ack: Text, invite: Option<Invite>) -> Option<Invite>
     ensures { result ≡ agreed_by tag ack invite }
 {
@@ -39,7 +39,7 @@ fn agreed_by(tag: Text, ack: Text, invite: Option<Invite>) -> Option<Invite>
 }
 
 impl Invite {
-    /// Acknowledges a final from 300, where there was none.
+    /// Acknowledges a final response from 300, where there was none.
     fn acknowledge_failure(
         &self,
         alloc: Global,
@@ -60,7 +60,7 @@ impl Invite {
 }
 
 impl Party {
-    /// Whoever is invited is seated, and has a participant's meter from now on.
+    /// An invited party is connected, and has a participant's meter from now on.
     fn stand(self, room: RoomNo, now: Moment, account: Option<Account>, remote: Remote) -> Party
         ensures { result ≡ stood room now account remote self }
     {
@@ -76,7 +76,7 @@ impl Party {
 }
 
 impl Seat {
-    /// Whether the server's INVITE to it has no final.
+    /// Whether the server's INVITE to the participant has no final response.
     pub fn is_waiting(&self) -> bool
         ensures waiting { result ≡ is_waiting self.now.invite }
     {
@@ -86,7 +86,7 @@ impl Seat {
         }
     }
 
-    /// Whether that INVITE has this number in its room.
+    /// Whether that INVITE has no final response, and this number in its conference.
     pub fn waits(&self, due: u64) -> bool
         ensures waits { result ≡ waits due self.now.invite }
     {
@@ -106,7 +106,7 @@ impl Seat {
         }
     }
 
-    /// Acknowledges a final from 300 of the server's INVITE to it.
+    /// Acknowledges a final response from 300 to the server's INVITE to the participant.
     pub fn acknowledge_failure(
         &self,
         alloc: Global,
@@ -123,7 +123,7 @@ impl Seat {
         }
     }
 
-    /// Cancels the server's INVITE to it, where that is due.
+    /// Cancels the server's INVITE to the participant, where that is due.
     pub fn cancel(&self, alloc: Global, sip: Addr, desk: &mut Desk) -> Result<(), NoMemory>
         ensures cancelled { OnOk result (desk.new ≡ cancelled_in sip self.now.invite desk.old) }
     {
@@ -133,7 +133,7 @@ impl Seat {
         }
     }
 
-    /// Notes a provisional response of that INVITE, by its client transaction.
+    /// Records a provisional response to that INVITE, and its client transaction.
     pub fn note(&mut self, key: TKey)
         ensures noted { self.new ≡ record self.old { invite = noted key self.old.invite } }
     {
@@ -147,7 +147,7 @@ impl Seat {
         }
     }
 
-    /// Keeps the tag of the 2xx of that INVITE, and the ACK that it had.
+    /// Records the tag of the 2xx to that INVITE, and the ACK that was sent for it.
     pub fn agree(&mut self, tag: Text, ack: Text)
         ensures agreed { self.new ≡ record self.old { invite = agreed_by tag ack self.old.invite } }
     {
@@ -155,7 +155,7 @@ impl Seat {
         drop(mem::replace(&mut self.invite, agreed));
     }
 
-    /// Notes that the INVITE was cancelled, where that was due.
+    /// Records that the INVITE was cancelled, where that was due.
     pub fn note_cancelled(&mut self)
         ensures cancelled { self.new ≡ record self.old { invite = once_cancelled_in self.old.invite } }
     {
@@ -170,7 +170,7 @@ impl Seat {
         }
     }
 
-    /// The seat once whoever is invited is seated.
+    /// The participant once an invited party is connected.
     pub fn stand(self, room: RoomNo, now: Moment, remote: Remote) -> Seat
         ensures seated { result ≡ seated room now remote self }
     {

@@ -1,4 +1,4 @@
-//! Somebody is invited into a room (RFC 4579 §5.5).
+//! A party is invited into a conference (RFC 4579 §5.5).
 ghost use Rattle.std.specs.Prelude.{◌≡◌, ◌+◌, [], IfOk, OnOk, codes};
 ghost use Rattle.mmtel_answers.specs.Attempts.{bracketed};
 ghost use Rattle.mmtel_answers.specs.Requests.{bringing};
@@ -28,18 +28,18 @@ use mmtel_transaction::{Emit, RoomWord};
 use mmtel_types::{Account, Moment, Peer, RoomNo};
 use std::alloc::Global;
 
-/// For so long an invitation may ring, in milliseconds.
+/// How long an invited party may ring, in milliseconds.
 const LONGEST_RINGING: u64 = 180_000;
 
-/// What becomes of a REFER that asks for an INVITE. It must be spent.
+/// The result of a REFER that asks for an INVITE. The value is linear: it must be spent.
 pub enum Bid {
-    /// Somebody is invited, and has this seat.
+    /// A party is invited, and is this participant.
     Begun(Seat),
-    /// Nobody is, for the reason of this status.
+    /// Nobody is invited; the REFER is refused with this status.
     Refused(u16),
 }
 
-/// To whom an invitation to this URI goes, by this peer.
+/// The destination of an invitation to this URI, by this peer.
 fn aim_at(alloc: Global, peer: Peer, uri: Uri) -> Result<Aim, NoMemory>
     ensures { IfOk result (λ aim. aim
         ≡ record { peer = peer; uri = uri_text (target_of uri); to = bracketed (uri_text (target_of uri)); routes = [] }) }
@@ -55,7 +55,7 @@ fn aim_at(alloc: Global, peer: Peer, uri: Uri) -> Result<Aim, NoMemory>
     })
 }
 
-/// The dialog of an invitation to this URI, whose Call-ID and tag are drawn.
+/// The dialog of an invitation to this URI, with a new Call-ID and tag.
 fn begin(
     step: &Step<'_>,
     room: RoomNo,
@@ -74,7 +74,7 @@ fn begin(
     Ok(dialogue_to(aim, call_id, tag, from))
 }
 
-/// The INVITE that begins this dialog, with this branch behind the cookie.
+/// The INVITE that creates this dialog, with this branch after the magic cookie.
 fn invite_of(
     step: &Step<'_>,
     room: RoomNo,
@@ -91,7 +91,7 @@ fn invite_of(
     numbered(step.alloc, dialogue, first, b"INVITE", &parts)
 }
 
-/// Arms the deadline of its ringing.
+/// Arms the timer of its ringing.
 fn arm(alloc: Global, now: Moment, next: Next, desk: &mut Desk) -> Result<(), NoMemory>
     ensures { OnOk result (desk.new
         ≡ emitted (ArmSeat next.room next.seat (Cap next.number) (now + longest_ringing)) desk.old) }
@@ -110,7 +110,7 @@ fn arm(alloc: Global, now: Moment, next: Next, desk: &mut Desk) -> Result<(), No
     )
 }
 
-/// Sends the INVITE that begins this dialog, and arms the deadline of its ringing. Gives its branch behind the cookie.
+/// Sends the INVITE that creates this dialog, and arms the timer of its ringing. Returns its branch after the magic cookie.
 fn send(step: &Step<'_>, next: Next, dialogue: &Dialogue, desk: &mut Desk) -> Result<Text, NoMemory>
     ensures branch { IfOk result (λ t. t ≡ token desk.old) }
     ensures desk { OnOk result (desk.new
@@ -124,7 +124,7 @@ fn send(step: &Step<'_>, next: Next, dialogue: &Dialogue, desk: &mut Desk) -> Re
     Ok(branch)
 }
 
-/// The seat of somebody who is invited in this dialog by the INVITE of this branch.
+/// The participant that is invited in this dialog by the INVITE of this branch.
 fn seat_of(
     alloc: Global,
     next: Next,
@@ -155,7 +155,7 @@ fn seat_of(
     })
 }
 
-/// Sends the INVITE of this dialog, and gives the seat of whoever it goes to.
+/// Sends the INVITE of this dialog, and returns the participant to which it is sent.
 fn invite_in(
     step: &Step<'_>,
     next: Next,
@@ -172,7 +172,7 @@ fn invite_in(
     seat_of(step.alloc, next, by, account, dialogue, branch)
 }
 
-/// By which peer somebody is invited, where one leads there and a seat is free; else the status that refuses the REFER: 404 where no peer does, and then 503.
+/// The peer by which a party is invited, where a route leads there and the conference is not full; else the status that refuses the REFER: 404 where no route does, else 503.
 fn way_to(peer: Option<Peer>, full: bool) -> Result<Peer, u16>
     ensures { result ≡ way_to peer full }
 {
@@ -182,12 +182,12 @@ fn way_to(peer: Option<Peer>, full: bool) -> Result<Peer, u16>
     }
 }
 
-/// Invites whoever this URI is of, by the REFER of the seat of number `by`: the INVITE goes out in a dialog of the room, and the deadline of its ringing is armed. Nobody
-/// is invited where no peer leads to the URI (404), and else where no seat is free (503).
+/// Invites the party of this URI, by the REFER of the participant of number `by`: the INVITE is sent in a dialog of the conference, and the timer of its ringing is armed. Nobody
+/// is invited where no route leads to the URI (404), and else where the conference is full (503).
 ///
 /// # Errors
 ///
-/// Want of memory alone; nothing is said of what goes out then.
+/// Out of memory only; nothing is claimed of the output then.
 #[tactic(auto, using(crate::proofs::Bids::bid_refused, crate::proofs::Bids::bid_begun), unfolding(crate::specs::Inviting::bid_for))]
 pub fn bring(
     step: &Step<'_>,

@@ -1,4 +1,4 @@
-//! How a seat is left.
+//! How a participant leaves.
 ghost use Rattle.std.specs.Prelude.{◌≡◌, ◌++◌, IfOk, OnOk, codes, true};
 ghost use Rattle.mmtel_desk.specs.Sending.{bye};
 ghost use Rattle.mmtel_leg.specs.Dialogues.{after_request};
@@ -15,7 +15,7 @@ use mmtel_scan::{List, NoMemory};
 use mmtel_types::{Cause, Moment};
 use std::alloc::Global;
 
-/// The dialog, where it has had its BYE.
+/// The dialog, where the server sent BYE in it.
 fn ended_dialogs(
     alloc: Global,
     had_bye: bool,
@@ -37,7 +37,7 @@ fn ended_dialogs(
     }
 }
 
-/// An INVITE ends with the dialog that it was sent in.
+/// An INVITE ends with the dialog in which it was sent.
 fn end_within(
     alloc: Global,
     had_bye: bool,
@@ -52,7 +52,7 @@ fn end_within(
     Ok(())
 }
 
-/// An INVITE in a dialog that stands, which is left without a final.
+/// An INVITE in a confirmed dialog, abandoned without a final response.
 fn loosened_within(
     alloc: Global,
     had_bye: bool,
@@ -93,7 +93,7 @@ fn loosened(
     }
 }
 
-/// Keeps the INVITE of a seat that is left, where it has no final.
+/// Keeps the INVITE of a participant that leaves as abandoned, where it has no final response.
 #[tactic(auto, using(crate::proofs::Dropped::and_nothing))]
 fn loosen(
     alloc: Global,
@@ -114,7 +114,7 @@ fn loosen(
     }
 }
 
-/// Files the row of a participant.
+/// Files the CDR of a participant.
 fn file_row(
     alloc: Global,
     now: Moment,
@@ -130,7 +130,7 @@ fn file_row(
 }
 
 impl Party {
-    /// Sends BYE to whoever is seated.
+    /// Sends BYE to a connected party.
     fn bye(&mut self, step: &Step<'_>, desk: &mut Desk) -> Result<(), NoMemory>
         requires { is_seated_by self.old ≡ true }
         ensures party { OnOk result (self.new
@@ -146,7 +146,7 @@ impl Party {
 }
 
 impl Seat {
-    /// Leaves the seat: its INVITE without a final is loose, and its row is filed. All is spent, also where memory runs out.
+    /// The participant leaves: its INVITE without a final response is abandoned, and its CDR is filed. All is spent, also where memory runs out.
     pub fn leave(
         self,
         alloc: Global,
@@ -171,7 +171,7 @@ impl Seat {
         filed
     }
 
-    /// Leaves the seat, with BYE where somebody is seated. All is spent, also where memory runs out.
+    /// The participant leaves, and is sent BYE where it is connected. All is spent, also where memory runs out.
     pub fn dismiss(self, step: &Step<'_>, effects: &mut Effects) -> Result<(), NoMemory>
         ensures dismissed { OnOk result (effects.new ≡ dismissed_with step.now.setting step.now.at self effects.old) }
     {
@@ -188,7 +188,7 @@ impl Seat {
         }
     }
 
-    /// Lets the seat go, and gives what is left of its leg.
+    /// Ends the participant, and returns what remains of its leg.
     pub fn end(self) -> Ended
         ensures ended { result ≡ ended self }
     {

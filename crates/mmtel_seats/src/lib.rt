@@ -1,4 +1,5 @@
-//! The seats of a conference room (RFC 4579): who has one, which number is next and whether one is free, how one is told, asked, left, and what is said in the room's name.
+//! The participants of a conference (RFC 4579): who they are, which number is next and whether the conference is full, how one is notified, invited, and leaves, and which
+//! messages are sent in the conference's name.
 #![tactic(auto)]
 
 mod effects;

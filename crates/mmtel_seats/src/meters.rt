@@ -6,7 +6,7 @@ use mmtel_charging::{Kind, Meter};
 use mmtel_leg::LegOf;
 use mmtel_types::{Account, CallNo, Cause, Moment, RoomNo};
 
-/// Lets a meter go that is left without a row.
+/// Closes a meter, and discards its CDR.
 pub fn give_up_meter(meter: Option<Meter>, at: Moment) {
     match meter {
         None => {}
@@ -14,7 +14,7 @@ pub fn give_up_meter(meter: Option<Meter>, at: Moment) {
     }
 }
 
-/// A participant's meter, which begins, and is answered, when it is seated.
+/// The meter of a participant, which begins, and is answered, at the moment when the participant is connected.
 pub fn meter_of(room: RoomNo, now: Moment, account: Option<Account>) -> Option<Meter>
     ensures meter { result ≡ meter_of room now account }
 {
@@ -28,7 +28,7 @@ pub fn meter_of(room: RoomNo, now: Moment, account: Option<Account>) -> Option<M
     }
 }
 
-/// Keeps this meter in a leg; one that ran there gives no row.
+/// Puts this meter into a leg; one that ran there closes without a CDR.
 pub fn metered<P, S>(leg: LegOf<P, S>, meter: Option<Meter>, now: Moment) -> LegOf<P, S>
     ensures leg { result ≡ metered meter leg }
 {

@@ -1,4 +1,4 @@
-//! The numbers of seats: which is next, whether one is free, where one stands.
+//! The numbers of participants: which is next, whether the conference is full, and the place of one.
 ghost use Rattle.std.specs.Prelude.{◌≡◌};
 ghost use Rattle.mmtel_seats.specs.Seats.{has_no_seat, next_of, place_of};
 
@@ -6,22 +6,22 @@ use crate::seats::Seat;
 use mmtel_types::RoomNo;
 use mmtel_types::limits::SEATS;
 
-/// The number of the creator's seat, which is the first one: the room closes with it.
+/// The number of the creator, who is the first participant: the conference closes as the creator leaves.
 pub const CREATOR: u64 = 1;
 
-/// The numbers that the next seat of a room has.
+/// The numbers of the next participant of a conference.
 #[derive(Clone, Copy)]
 pub struct Next {
-    /// The room.
+    /// The conference.
     pub room: RoomNo,
-    /// Its own: seats are numbered from 1 in the order in which they are taken.
+    /// The participant's number: participants are numbered from 1 in the order in which they come.
     pub seat: u64,
-    /// That of its invitation or 2xx, counted in this room.
+    /// The number of its invitation or 2xx, counted within this conference.
     pub number: u64,
 }
 
 impl Next {
-    /// Those of the seat behind the one that was taken last, and behind the last invitation or 2xx.
+    /// The numbers after those of the last participant and of the last invitation or 2xx.
     pub fn after(room: RoomNo, taken: u64, counted: u64) -> Next
         ensures numbers { result ≡ next_of room taken counted }
     {
@@ -31,14 +31,14 @@ impl Next {
     }
 }
 
-/// Whether so many seats are taken that no more is, pending invitations among them.
+/// Whether the conference has its maximum number of participants, pending invitations among them.
 pub fn has_no_seat(seats: &[Seat]) -> bool
     ensures full { result ≡ has_no_seat seats.now }
 {
     seats.len() >= SEATS
 }
 
-/// The place of the seat of this number.
+/// The place of the participant of this number.
 pub fn place_of(seats: &[Seat], number: u64) -> Option<usize>
     ensures place { result ≡ place_of number seats.now }
 {

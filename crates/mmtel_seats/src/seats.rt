@@ -1,4 +1,4 @@
-//! The seats of a room.
+//! The participants of a conference.
 ghost use Rattle.std.specs.Prelude.{◌≡◌, OnErr, OnOk, Some};
 ghost use Rattle.mmtel_seats.specs.Asking.{awaiting, busy, having_heard, heard_seat, says};
 ghost use Rattle.mmtel_seats.specs.Invites.{is_asked, is_sent, is_waiting};
@@ -13,51 +13,51 @@ use mmtel_leg::{
 use mmtel_scan::Text;
 use mmtel_types::{Account, Moment};
 
-/// A 2xx that went to a seat and has no ACK.
+/// A 2xx that was sent to a participant and has no ACK.
 #[derive(Clone, Copy)]
 pub struct Awaited {
-    /// Its number among the invitations and the 2xx of the room.
+    /// Its number among the invitations and the 2xx of the conference.
     pub number: u64,
-    /// The number in CSeq of its INVITE.
+    /// The CSeq number of its INVITE.
     pub cseq: Option<u32>,
 }
 
-/// The server's INVITE to a seat.
+/// The server's INVITE to a participant.
 #[derive(Drop)]
 pub enum Invite {
-    /// It has no final; the number is its own among the invitations and the 2xx of the room.
+    /// It has no final response; the number is its own among the invitations and the 2xx of the conference.
     Waiting(u64, Invitation),
-    /// It had a 2xx: its branch, the tag of the 2xx, and the text of the ACK.
+    /// It got a 2xx: its branch, the tag of the 2xx, and the text of the ACK.
     Agreed(Text, Text, Text),
 }
 
-/// Who has a seat. It must be spent.
+/// The party that is a participant. The value is linear: it must be spent.
 pub enum Party {
-    /// Somebody who is invited and has not answered.
+    /// A party that is invited and has not answered.
     Invited(CalleeLeg<Asked>),
-    /// Somebody who called.
+    /// A party that called.
     Came(CallerLeg<Standing>),
-    /// Somebody who was called.
+    /// A party that was called.
     Brought(CalleeLeg<Standing>),
 }
 
-/// A seat of a room. It must be spent.
+/// A participant of a conference. The value is linear: it must be spent.
 pub struct Seat {
-    /// Its number: seats are numbered from 1 in the order in which they were taken.
+    /// Its number: participants are numbered from 1 in the order in which they come.
     pub number: u64,
-    /// The seat whose REFER brought it.
+    /// The number of the participant whose REFER invited it.
     pub by: Option<u64>,
-    /// Whose seat it is, where an account is charged for it.
+    /// The account that is charged for it, if any.
     pub account: Option<Account>,
     /// The 2xx whose ACK is due.
     pub awaited: Option<Awaited>,
     /// The server's INVITE to it.
     pub invite: Option<Invite>,
-    /// Who has it.
+    /// The party.
     pub party: Party,
 }
 
-/// Takes note of a request, or refuses it.
+/// Accepts a request, or refuses it.
 #[tactic(auto, unfolding(mmtel_leg::specs::Dialogues::number_in))]
 fn hear<P, S>(leg: &mut LegOf<P, S>, request: &Hearing, busy: InFlight) -> Result<(), DialogueFault>
     ensures answer { result ≡ says leg.old request.now busy }
@@ -68,7 +68,7 @@ fn hear<P, S>(leg: &mut LegOf<P, S>, request: &Hearing, busy: InFlight) -> Resul
 }
 
 impl Invite {
-    /// Whether it has no final.
+    /// Whether it has no final response.
     fn is_waiting(&self) -> bool
         ensures { result ≡ is_waiting (Some self.now) }
     {
@@ -90,7 +90,7 @@ impl Invite {
 }
 
 impl Party {
-    /// Whether somebody is seated, and so has a dialog.
+    /// Whether the party is connected, and so has a dialog.
     pub fn is_seated(&self) -> bool
         ensures seated { result ≡ is_seated_by self.now }
     {
@@ -112,7 +112,7 @@ impl Party {
         }
     }
 
-    /// Takes note of a request, or refuses it.
+    /// Accepts a request, or refuses it.
     fn hear(&mut self, request: &Hearing, busy: InFlight) -> Result<(), DialogueFault>
         ensures answer { result ≡ says (leg_of self.old) request.now busy }
         ensures heard { OnOk result (self.new ≡ with_leg (having_heard request.now (leg_of self.old)) self.old) }
@@ -138,14 +138,14 @@ impl Party {
 }
 
 impl Seat {
-    /// Whether somebody is seated, and so has a dialog.
+    /// Whether the party is connected, and so has a dialog.
     pub fn is_seated(&self) -> bool
         ensures seated { result ≡ is_seated self.now }
     {
         self.party.is_seated()
     }
 
-    /// The dialog of whoever has the seat.
+    /// The dialog of the party.
     pub fn dialogue(&self) -> &Dialogue
         ensures dialogue { result.now ≡ dialogue_of self.now }
     {
@@ -169,7 +169,7 @@ impl Seat {
         }
     }
 
-    /// Whether an INVITE of the server's own has no final, or an ACK of the seat is due.
+    /// Whether an INVITE of the server's own has no final response, or an ACK of the participant is due.
     fn busy(&self) -> InFlight
         ensures { result ≡ busy self.now }
     {
@@ -188,7 +188,7 @@ impl Seat {
         }
     }
 
-    /// Takes note of a request of the seat, or refuses it.
+    /// Accepts a request of the participant, or refuses it.
     pub fn hear(&mut self, request: &Hearing) -> Result<(), DialogueFault>
         ensures answer { result ≡ says (leg_of self.old.party) request.now (busy self.old) }
         ensures heard { OnOk result (self.new ≡ heard_seat request.now self.old) }
@@ -198,7 +198,7 @@ impl Seat {
         self.party.hear(request, busy)
     }
 
-    /// The ACK of the 2xx of this number is due, which answers the request that was heard last.
+    /// The ACK of the 2xx of this number is due; that 2xx answers the request that was received last.
     pub fn await_ack(&mut self, number: u64)
         ensures awaiting { self.new ≡ awaiting number self.old }
     {
@@ -206,7 +206,7 @@ impl Seat {
         self.awaited = Some(Awaited { number, cseq });
     }
 
-    /// Whoever has the seat.
+    /// The party.
     pub fn into_party(self) -> Party
         ensures party { result ≡ self.party }
     {
@@ -222,7 +222,7 @@ impl Seat {
         party
     }
 
-    /// Lets the seat go, without a row.
+    /// Ends the participant, and discards its CDR.
     pub fn give_up(self, at: Moment) {
         let Ended { meter } = self.into_party().leave();
         give_up_meter(meter, at);

@@ -1,4 +1,4 @@
-//! What each step of a room is given.
+//! The configuration and the context of each step of a conference.
 
 use mmtel_answers::FurtherMethods;
 use mmtel_sdp::Mixer;
@@ -7,14 +7,14 @@ use mmtel_types::{Addr, Moment};
 use std::alloc::Global;
 use std::marker::Model;
 
-/// The server's configuration, as rooms need it.
+/// The server's configuration, as conferences need it.
 #[derive(Drop)]
 pub struct Setting<'a> {
     /// The server's address.
     pub sip: Addr,
-    /// Where the mixer takes media.
+    /// Where the mixer receives media.
     pub mixer: Mixer,
-    /// The methods that the server knows beside those that it always knows.
+    /// The methods that the server supports beside those that it always supports.
     pub methods: FurtherMethods,
     /// The peers and the routes to them.
     pub peers: &'a PeerTable,
@@ -36,13 +36,13 @@ impl<'a> Model for Setting<'a> {
     } };
 }
 
-/// What each step of a room is given beside what it hears. It is read and never changed.
+/// The context of each step of a conference, beside its event. It is read and never changed.
 #[derive(Drop)]
 pub struct Step<'a> {
-    /// Where memory comes from.
+    /// The allocator.
     pub alloc: Global,
     /// The server's configuration.
     pub setting: Setting<'a>,
-    /// The moment.
+    /// The moment of the step.
     pub at: Moment,
 }

@@ -1,4 +1,4 @@
-//! What is left of the URI of a Refer-To as the target of a request (RFC 3261 §19.1.5).
+//! What remains of the URI of a Refer-To as the target of a request (RFC 3261 §19.1.5).
 ghost use Rattle.std.specs.Prelude.{◌≡◌, ◌++◌, IfOk, OnOk, filter};
 ghost use Rattle.mmtel_seats.specs.Targets.{is_method, is_no_method, target_of};
 
@@ -6,14 +6,14 @@ use mmtel_lex::{Param, Params, Uri};
 use mmtel_scan::{List, NoMemory, Text};
 use std::alloc::Global;
 
-/// Whether it names a method.
+/// Whether the parameter is `method`.
 pub fn is_method(param: &Param) -> bool
     ensures named { result ≡ is_method param.now }
 {
     param.name.bytes().eq_ignore_ascii_case(b"method")
 }
 
-/// The parameters but those that name a method.
+/// The parameters without `method`.
 fn without_method(alloc: Global, params: Params) -> Result<Params, NoMemory>
     ensures { IfOk result (λ ps. ps ≡ filter is_no_method params) }
 {
@@ -27,7 +27,7 @@ fn without_method(alloc: Global, params: Params) -> Result<Params, NoMemory>
     Ok(kept)
 }
 
-/// What is left of a URI as the target of a request (RFC 3261 §19.1.5).
+/// What remains of a URI as the target of a request (RFC 3261 §19.1.5).
 pub fn target_of(alloc: Global, uri: Uri) -> Result<Uri, NoMemory>
     ensures target { IfOk result (λ u. u ≡ target_of uri) }
 {

@@ -1,4 +1,4 @@
-//! NOTIFY to a seat (RFC 3515 §2.4.4).
+//! NOTIFY to a participant (RFC 3515 §2.4.4).
 ghost use Rattle.std.specs.Prelude.{◌≡◌, OnOk};
 ghost use Rattle.mmtel_seats.specs.Seats.{notified, notified_by, told_leg, told_party};
 
@@ -10,7 +10,7 @@ use mmtel_leg::{LegOf, Standing};
 use mmtel_scan::NoMemory;
 use mmtel_types::RoomNo;
 
-/// Tells the side of a leg what became of its REFER.
+/// Notifies the other side of a leg of the progress of its REFER.
 fn tell<P>(
     step: &Step<'_>,
     room: RoomNo,
@@ -36,11 +36,11 @@ fn tell<P>(
 }
 
 impl Party {
-    /// Tells whoever is seated a status line, of a request that goes on or has ended.
+    /// Notifies a connected party of a status line, of a request that is in progress or has ended.
     ///
     /// # Errors
     ///
-    /// Want of memory alone; nothing is said of the seat and of what goes out then.
+    /// Out of memory only; nothing is claimed of the participant and of the output then.
     pub fn tell(
         &mut self,
         step: &Step<'_>,

@@ -1,4 +1,4 @@
-//! How a room names itself, and the texts of what it asks.
+//! How a conference names itself, and the texts of its requests.
 ghost use Rattle.std.specs.Prelude.{◌≡◌, IfOk};
 ghost use Rattle.mmtel_seats.specs.Texts.{contact_value, described, fragment, notify_lines, room_from, room_uri, sdp_lines, subscription};
 
@@ -7,7 +7,7 @@ use mmtel_scan::{List, NoMemory, Text, add_number};
 use mmtel_types::{Addr, RoomNo};
 use std::alloc::Global;
 
-/// The URI of a room (RFC 4579 §4.4).
+/// The URI of a conference (RFC 4579 §4.4).
 #[tactic(auto, unfolding(crate::specs::Texts::room_uri))]
 fn room_uri(alloc: Global, sip: Addr, room: RoomNo) -> Result<Text, NoMemory>
     ensures { IfOk result (λ t. t ≡ room_uri sip room) }
@@ -20,7 +20,7 @@ fn room_uri(alloc: Global, sip: Addr, room: RoomNo) -> Result<Text, NoMemory>
     Ok(out)
 }
 
-/// The room as From of an INVITE, with this tag.
+/// The conference as From of an INVITE, with this tag.
 #[tactic(auto, unfolding(crate::specs::Texts::room_from))]
 pub fn room_from(alloc: Global, sip: Addr, room: RoomNo, tag: &[u8]) -> Result<Text, NoMemory>
     ensures { IfOk result (λ t. t ≡ room_from sip room tag.now) }
@@ -33,7 +33,7 @@ pub fn room_from(alloc: Global, sip: Addr, room: RoomNo, tag: &[u8]) -> Result<T
     Ok(out)
 }
 
-/// The room as Contact (RFC 4579 §5.1).
+/// The conference as Contact (RFC 4579 §5.1).
 #[tactic(auto, unfolding(crate::specs::Texts::contact_value))]
 pub fn contact_value(alloc: Global, sip: Addr, room: RoomNo) -> Result<Text, NoMemory>
     ensures contact { IfOk result (λ t. t ≡ contact_value sip room) }
@@ -45,7 +45,7 @@ pub fn contact_value(alloc: Global, sip: Addr, room: RoomNo) -> Result<Text, NoM
     Ok(out)
 }
 
-/// The line that names a description.
+/// The header field that gives the media type of a session description.
 #[tactic(auto, unfolding(mmtel_message::specs::Message::line))]
 pub fn sdp_lines(alloc: Global) -> Result<List<Line>, NoMemory>
     ensures lines { IfOk result (λ ls. ls ≡ sdp_lines) }
@@ -55,7 +55,7 @@ pub fn sdp_lines(alloc: Global) -> Result<List<Line>, NoMemory>
     Ok(lines)
 }
 
-/// The lines of a request of a room with a description.
+/// The header fields of a request of a conference with a session description.
 #[tactic(auto, unfolding(mmtel_message::specs::Message::line))]
 pub fn described(alloc: Global, sip: Addr, room: RoomNo) -> Result<List<Line>, NoMemory>
     ensures lines { IfOk result (λ ls. ls ≡ described sip room) }
@@ -67,7 +67,7 @@ pub fn described(alloc: Global, sip: Addr, room: RoomNo) -> Result<List<Line>, N
     Ok(lines)
 }
 
-/// What a NOTIFY says of its subscription (RFC 3515 §2.4.7).
+/// The Subscription-State of a NOTIFY (RFC 3515 §2.4.7).
 fn subscription(goes_on: bool) -> &'static [u8]
     ensures { result.now ≡ subscription goes_on }
 {
@@ -78,7 +78,7 @@ fn subscription(goes_on: bool) -> &'static [u8]
     }
 }
 
-/// The lines of a NOTIFY (RFC 3515 §2.4.4).
+/// The header fields of a NOTIFY (RFC 3515 §2.4.4).
 #[tactic(auto, unfolding(crate::specs::Texts::notify_lines, mmtel_message::specs::Message::line))]
 pub fn notify_lines(
     alloc: Global,
@@ -107,7 +107,7 @@ pub fn notify_lines(
     Ok(lines)
 }
 
-/// A status line as a fragment of a message (RFC 3420 §2).
+/// A status line as a message fragment, `message/sipfrag` (RFC 3420 §2).
 pub fn fragment(alloc: Global, line: &[u8]) -> Result<Text, NoMemory>
     ensures { IfOk result (λ t. t ≡ fragment line.now) }
 {

@@ -1,4 +1,4 @@
--- What a link is given, event after event, is what they add to the offers of the run.
+-- What is passed to a link, event after event, is what they add to the outputs of the run.
 use Rattle.std.proofs.Common.{◌≡◌, ◌≤◌, ℕ, List, [], ◌∷◌, ◌++◌, length, refl, sym, ap, ◌∙◌, subst, append-nil, append_assoc, Option, Err, arith}
 use Rattle.mmtel_directory.specs.declared.directories.Directory.{Directory}
 use Rattle.mmtel_giving.specs.Giving.{Gave, GaveAll}
@@ -21,7 +21,7 @@ use Rattle.mmtel_server.proofs.Made.{few, few_first, there, whole}
 use Rattle.mmtel_serve.specs.Served.{GaveOn, StoppedGiving}
 use Rattle.mmtel_serve.specs.Turns.{ArePeers}
 
--- nothing happened, and nothing was given
+-- there was no event, and nothing was passed
 pub gave_nothing : NothingIsGiven → (s : Server) (given : Option Given) → GaveOn [] s given given
 gave_nothing none s given d token loaded es fuel serves short enough = (
   [],
@@ -37,7 +37,7 @@ module _ (law : AllDrawOn) (always : GivesAlways) (both : PartsAreGiven) (xs : L
       gave d token loaded es fuel serves (few_first law always xs ys d token loaded es short)
       (enough_of_front d token loaded fuel (es ++ xs) ys (subst (λ (l : List Happened). IsEnough d token loaded fuel l) (whole law always xs ys es) enough))
 
-  -- memory ran out in what happened then, of which nothing was given
+  -- memory ran out in the event after, of which nothing was passed
   pub gave_still : (ys : List Happened) → length ys ≤ 1 → StoppedGiving (xs ++ ys) s given between
   gave_still ys one = record {
     done = xs;
@@ -53,9 +53,9 @@ module _ (law : AllDrawOn) (always : GivesAlways) (both : PartsAreGiven) (xs : L
         (here.0, (([], append-nil (gives d token loaded fuel (es ++ xs)) ∙ here.1), subst (λ (l : List Offer). IsPrefixOf l (gives d token loaded fuel (es ++ (xs ++ ys)))) here.1 after), here.2);
   }
 
-  -- one event more, of which these were offered
+  -- one more event, with these outputs
   module _ (one : Happened) (u : Server) (offers : List Offer) (adds : AddsOn t [] u offers one) (known : List KnownPeer) (peers : ArePeers known u) (now : Option Given) where
-    -- what is due of it
+    -- its outputs
     abbrev Due : Directory → List ℕ → Texts → List Happened → ℕ → List Offer → Type 0
     Due d token loaded es fuel added = gives d token loaded fuel (es ++ (xs ++ one ∷ [])) ≡ gives d token loaded fuel es ++ (added ++ offers)
 
@@ -73,7 +73,7 @@ module _ (law : AllDrawOn) (always : GivesAlways) (both : PartsAreGiven) (xs : L
           peers d token loaded ((es ++ xs) ++ one ∷ []) more.0,
         )
 
-    -- all of them were given
+    -- all of them were passed
     pub gave_then : Gave known offers between now → GaveOn (xs ++ one ∷ []) s given now
     gave_then second d token loaded es fuel serves short enough =
         let here = front (one ∷ []) d token loaded es fuel serves short enough in
@@ -83,7 +83,7 @@ module _ (law : AllDrawOn) (always : GivesAlways) (both : PartsAreGiven) (xs : L
           both d.peers.known here.0 offers given between now here.2 (subst (λ (k : List KnownPeer). Gave k offers between now) last.1 second),
         )
 
-    -- or a front of them
+    -- or a prefix of them
     pub gave_part : (e : NoMemory) → GaveAll known offers between now (Err e) → StoppedGiving (xs ++ one ∷ []) s given now
     gave_part e second = record {
       done = xs;

@@ -1,4 +1,4 @@
--- How web connections are read, between what a link is given.
+-- How web connections are read, between the calls that pass outputs to a link.
 use Rattle.std.proofs.Common.{◌≡◌, ◌+◌, ◌-◌, ℕ, zero, suc, List, [], ◌∷◌, ◌++◌, drop, length, refl, sym, ap, ◌∙◌, subst, append-nil, append_assoc, Option, Some, None, arith, inl, inr}
 use Rattle.std.specs.Prelude.{◌⊎◌}
 use Rattle.std.specs.Option.{option_map}
@@ -27,9 +27,9 @@ stands_on : (much a b c : ℕ) → RoseBy much a b → StandsOrRose b c → Rose
 stands_on much a b c one (inl same) = omega (arith, one, same)
 stands_on much a b c one (inr rose) = omega (arith, one, rose)
 
--- ---- how web connections were read
+-- ---- the reads of web connections
 
--- no event more
+-- no further event
 none_but : (es : List Event) → EachReadBut 0 es []
 none_but [] = refl
 none_but (e ∷ es) = refl
@@ -38,7 +38,7 @@ pub reads_nothing : (ear : Option Ear) (given : Option Given) (giving : ℕ) →
 reads_nothing None given giving = tt
 reads_nothing (Some ear) given giving = record { reads = []; unread = 0; parts = sym (append-nil ear.reads); each = none_but (to_come ear); rose = omega arith }
 
--- one that was read out, but where a read failed
+-- one that was read to the end of its request, unless a read failed
 one_but : (a b count : ℕ) (e : Event) → IsRead a b count e → (unread : ℕ) × IsReadBut unread count e × RoseBy unread a b
 one_but a b count (event.Datagram from at bytes) is = (0, refl, omega (arith, is))
 one_but a b count (event.Web at bytes) is = elim is.1 [
@@ -47,7 +47,7 @@ one_but a b count (event.Web at bytes) is = elim is.1 [
 ]
 one_but a b count (event.Quiet at) is = (0, refl, omega (arith, is))
 
--- the same of each
+-- the same for each
 each_but : (a b : ℕ) (es : List Event) (reads : List ℕ) → EachRead a b es reads → (unread : ℕ) × EachReadBut unread es reads × RoseBy unread a b
 each_but a b [] [] each = (0, refl, omega (arith, each))
 each_but a b (e ∷ es) [] each = (0, refl, omega (arith, each))
@@ -66,7 +66,7 @@ but_then j k (e ∷ es) (n ∷ reads) more first second =
     let all = first.2 in
     (first.0, first.1 + k, omega (arith, all), (first.3.0, but_then first.1 k es reads more first.3.1 second))
 
--- and then something may have been lost
+-- and then outputs may have been lost
 pub reads_lost : (ear later : Option Ear) (given between now : Option Given) (a b c : ℕ) → ReadsBetween ear later given between a b → RoseBy (lost_more between now) b c
     → ReadsBetween ear later given now a c
 reads_lost None later given between now a b c first lost = tt
@@ -127,7 +127,7 @@ reads_all_last (Some ear) (Some later) given now a b first = record {
 
 -- ---- what was lost
 
--- a count that stands or rose, by what was lost
+-- a count that is unchanged or rose, by what was lost
 pub stands_of : (given now : Option Given) (a b : ℕ) → (LostNoMore given now × (b ≡ a)) ⊎ Rose a b → StandsOrRose a b
 stands_of given now a b (inl both) = inl both.1
 stands_of given now a b (inr rose) = inr rose
@@ -140,7 +140,7 @@ rise_after : (a b c : ℕ) → StandsOrRose a b → Rose b c → Rose a c
 rise_after a b c (inl same) rose = subst (λ (n : ℕ). Rose n c) same rose
 rise_after a b c (inr first) rose = omega (arith, first, rose)
 
--- nothing was lost but where the count rose: nothing was given as an event was read, and then this was
+-- nothing was lost but where the count rose: nothing was passed as an event was read, and then this was
 pub lost_then : (given between before now : Option Given) (a b c d : ℕ) → LostNoMore given between ⊎ Rose a b → StandsOrRose a b → before ≡ between → StandsOrRose b c
     → (LostNoMore before now × (d ≡ c)) ⊎ Rose c d → LostNoMore given now ⊎ Rose a d
 lost_then given between before now a b c d (inl none) stands same reads (inl more) = inl (more.0 ∙ (ap (λ (g : Option Given). option_map lost_in g) same ∙ none))
@@ -157,7 +157,7 @@ bound_times : (count : ℕ) (calls : LinkCalls) → (called_times count calls).b
 bound_times zero calls = refl
 bound_times (suc count) calls = bound_times count calls
 
--- no call that took an event binds it
+-- no call that received an event binds it
 bound_called : (calls later : Option LinkCalls) (count : ℕ) → CalledTimes calls later count → IsBoundStill calls later
 bound_called None later count made = ap (λ (o : Option LinkCalls). option_map (λ (c : LinkCalls). c.bound) o) made
 bound_called (Some calls) later count made =

@@ -1,4 +1,4 @@
--- What is sent to a peer's address is what the peer sees of the offers, and keeps the secret.
+-- What is sent to a peer's address is what the peer observes of the outputs, and noninterference holds for it.
 use Rattle.std.proofs.Common.{◌≡◌, ◌==◌, ℕ, Bool, true, false, List, [], ◌∷◌, ◌++◌, map, refl, sym, ap, ◌∙◌, subst, Option, None, Some, inl, inr}
 use Rattle.std.specs.Prelude.{if◌then◌else◌}
 use Rattle.std.proofs.lemmas.Bool.{cases_Bool}
@@ -30,7 +30,7 @@ bytes_then addr [] ys = refl
 bytes_then addr (x ∷ xs) ys =
     ap (λ (l : List (List ℕ)). if is_same_addr x.0 addr then x.1 ∷ l else l) (bytes_then addr xs ys) ∙ one_more (is_same_addr x.0 addr) x.1 (bytes_to addr xs) (bytes_to addr ys)
 
--- what was sent to an address is what was offered to its peer
+-- what was sent to an address is what was output for its peer
 sent_there : (known : List KnownPeer) (offers : List Offer) (given now : Option Given) (addr : Addr) (texts : List (List ℕ)) → Gave known offers given now → bytes_to addr (sends_of known offers) ≡ texts
     → SentTo addr given now texts
 sent_there known offers None now addr texts gave seen = tt
@@ -64,7 +64,7 @@ view_then p (offer.Web at text ∷ xs) ys = view_then p xs ys
 seen_then : (p : Peer) (xs ys : List Offer) → texts_seen p (xs ++ ys) ≡ texts_seen p xs ++ texts_seen p ys
 seen_then p xs ys = ap (map (λ (seen : ℕ × List ℕ). seen.1)) (view_then p xs ys) ∙ map-append (λ (seen : ℕ × List ℕ). seen.1) (view p xs) (view p ys)
 
--- what was given is a front of what the run gives, so what was sent is a front of what is seen of that
+-- what was passed is a prefix of the outputs of the run, so what was sent is a prefix of what is observed of these
 pub front_of : OffersKeepTheSecret → GivesAlways → BytesAreSeen → (happened : List Happened) (old : Server) (given now : Option Given) → StoppedGiving happened old given now
     → KeptInFront happened old given now
 front_of keeps always bytes happened old given now s d token loaded serves short =

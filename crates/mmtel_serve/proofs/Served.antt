@@ -1,4 +1,4 @@
--- What the turns of `serve` come to, turn after turn.
+-- The effect of the turns of `serve`, turn after turn.
 use Rattle.std.proofs.Common.{◌≡◌, ◌+◌, ◌<◌, ◌≤◌, ℕ, Bool, true, false, List, [], ◌∷◌, ◌++◌, length, sym, ◌∙◌, subst, append-nil, Option, Ok, Err, arith, inl, inr}
 use Rattle.std.specs.Prelude.{◌⊎◌}
 use Rattle.mmtel_giving.specs.Giving.{Gave, GaveAll, RoseBy, lost_more}
@@ -35,11 +35,11 @@ module _ (laws : RunLaws) (none : NothingIsGiven) (both : PartsAreGiven) (keeps 
   }
 
   module _ (turns : ℕ) (mid : ServingState) (s : ServedSoFar turns start mid) where
-    -- where the link alone has gone on since
+    -- where only the link has changed since
     abbrev since : LinkSeen → ServingState
     since link = record { link = link; keeper = mid.keeper; server = mid.server }
 
-    -- it took an event, or none
+    -- it received an event, or none
     abbrev ReadsOn : LinkSeen → Type 0
     ReadsOn link = ReadEach mid.link.ear link.ear mid.link.giving link.giving
 
@@ -53,20 +53,20 @@ module _ (laws : RunLaws) (none : NothingIsGiven) (both : PartsAreGiven) (keeps 
     secret_kept : KeptTheSecret s.happened start.server start.link.given mid.link.given
     secret_kept = kept_of keeps laws.always bytes s.happened start.server start.link.given mid.link.given s.gave_all
 
-    -- the link was given nothing as the event was read, and heard nothing as this was given
+    -- nothing was passed to the link as the event was read, and it received nothing as the outputs were passed
     module _ (read : LinkSeen) (new : ServingState) (e : Event) (told : HeardMore mid.link.ear read.ear (e ∷ []) × ReadsOn read) (same : read.given ≡ mid.link.given)
         (heard : new.link.ear ≡ read.ear) (rose : RoseBy (lost_more read.given new.link.given) read.giving new.link.giving) where
       heard_new : HeardMore mid.link.ear new.link.ear (e ∷ [])
       heard_new = subst (λ (ear : Option Ear). HeardMore mid.link.ear ear (e ∷ [])) (sym heard) told.0
 
-      -- something may have been lost in giving
+      -- something may have been lost in passing the outputs
       read_new : ReadsBetween start.link.ear new.link.ear start.link.given new.link.given start.link.giving new.link.giving
       read_new =
           subst (λ (ear : Option Ear). ReadsBetween start.link.ear ear start.link.given new.link.given start.link.giving new.link.giving) (sym heard)
           (reads_lost start.link.ear read.ear start.link.given mid.link.given new.link.given start.link.giving read.giving new.link.giving (read_more read told.1)
           (subst (λ (given : Option Given). RoseBy (lost_more given new.link.given) read.giving new.link.giving) same rose))
 
-      -- it was done and given
+      -- it was processed and its outputs were passed
       pub goes_on : (x : Unit {0}) → EventServed e (since read) new (Ok x) → ServedSoFar (turns + 1) start new
       goes_on x served =
           let one : Happened = happened_in e served.step.kept served.step.rows served.step.took in
@@ -80,7 +80,7 @@ module _ (laws : RunLaws) (none : NothingIsGiven) (both : PartsAreGiven) (keeps 
           }
 
       module _ (most : ℕ) (less : turns < most) where
-        -- memory ran out in doing it
+        -- memory ran out in processing it
         stopped : EventStopped e (since read) new → Served most start new (Err NoMemory)
         stopped ev =
             let one : Happened = happened_in e ev.met.kept ev.met.rows false in
@@ -97,7 +97,7 @@ module _ (laws : RunLaws) (none : NothingIsGiven) (both : PartsAreGiven) (keeps 
               kept = front_kept (s.happened ++ one ∷ []) new.link.given gave_none;
             }
 
-        -- or in giving what came of it
+        -- or in passing its outputs
         cut : (x : memory.NoMemory) → EventServed e (since read) new (Err x) → Served most start new (Err NoMemory)
         cut x ev =
             let one : Happened = happened_in e ev.step.kept ev.step.rows ev.step.took in
@@ -119,7 +119,7 @@ module _ (laws : RunLaws) (none : NothingIsGiven) (both : PartsAreGiven) (keeps 
         breaks x (inl ev) = stopped ev
         breaks x (inr ev) = cut x ev
 
-    -- the link is given nothing in a turn that takes no event
+    -- nothing is passed to the link in a turn that receives no event
     module _ (most : ℕ) (less : turns < most) (link : LinkSeen) (same : link.given ≡ mid.link.given) where
       read_still : ReadsOn link → ReadsBetween start.link.ear link.ear start.link.given link.given start.link.giving link.giving
       read_still each =
@@ -131,7 +131,7 @@ module _ (laws : RunLaws) (none : NothingIsGiven) (both : PartsAreGiven) (keeps 
       kept_still : KeptTheSecret s.happened start.server start.link.given link.given
       kept_still = subst (λ (given : Option Given). KeptTheSecret s.happened start.server start.link.given given) (sym same) secret_kept
 
-      -- memory ran out before it was read to its end
+      -- memory ran out before the connection was read to its end
       lost_one : StandsOrRose mid.link.giving link.giving → (es : List Event) → length es ≤ 1 → HeardMore mid.link.ear link.ear es × AddsOne mid.link.ear link.ear
           → Served most start (since link) (Err NoMemory)
       lost_one stands es one told =
@@ -169,7 +169,7 @@ module _ (laws : RunLaws) (none : NothingIsGiven) (both : PartsAreGiven) (keeps 
       }
       fails stands NoMemory told = lost_one stands told.0 told.1 told.2
 
-    -- the turns were made
+    -- the turns were done
     pub ends : (most : ℕ) → turns ≡ most → Served most start mid (Ok false)
     ends most all = record {
       happened = s.happened;

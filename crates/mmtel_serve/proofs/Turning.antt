@@ -1,4 +1,4 @@
--- What one turn comes to.
+-- The effect of one turn.
 use Rattle.std.proofs.Common.{◌≡◌, List, [], subst, Result, Ok, Err}
 use Rattle.std.specs.Prelude.{OnErr, OnOk}
 use Rattle.mmtel_giving.specs.Giving.{GaveAll}
@@ -19,7 +19,7 @@ any_err (Ok x) P p = tt
 any_err (Err e) P p = p
 
 module _ (event : Event) (old new : ServingState) (start out : List Offer) (none : start ≡ []) where
-  -- the step began with an empty list, and what stood there then was given, or a front of it
+  -- the step began with an empty list, and what was in it then was passed, or a prefix of it
   pub served_of : (result : Result (Unit {0}) NoMemory) (items : List Offer) (known : List KnownPeer) → items ≡ out → Stepped event (step_of old start) (step_of new out)
       → ArePeers known new.server → GaveAll known items old.link.given new.link.given result → EventServed event old new result
   served_of result items known same step peers gave = record {

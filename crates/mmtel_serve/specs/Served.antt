@@ -1,4 +1,4 @@
--- What `serve` heard of a link, made of it, and gave it.
+-- The contract of `serve`: what it received from a link, did with it, and passed to it.
 use Rattle.std.specs.Prelude.{◌≡◌, ◌≤◌, ◌⊎◌, ◌+◌, ℕ, Bool, ⊤, List, [], ◌∷◌, ◌++◌, length, map, true, Option, Some, None, Result, Ok, Err}
 use Rattle.mmtel_directory.specs.declared.directories.Directory.{Directory}
 use Rattle.mmtel_giving.specs.Giving.{Gave, RoseBy, bytes_to, lost_more, sent_of}
@@ -22,21 +22,21 @@ use Rattle.mmtel_trust.specs.Peers.{addr_of, are_apart}
 use Rattle.mmtel_types.specs.declared.addrs.Addr.{Addr}
 use Rattle.mmtel_types.specs.declared.numbers.Peer.{Peer}
 
--- ---- how web connections were read
+-- ---- the reads of web connections
 
--- an event came of which so many bytes were read: no read was made of a web connection that was not needed, and it was read out; or it was not, and is one of those
+-- so many bytes were read of an event: no read was made of a web connection that was not needed, and it was read to the end of its request; or it was not, and is counted
 abbrev pub IsReadBut : (unread : ℕ) → ℕ → Event → Type 0
 IsReadBut unread count (event.Datagram from at bytes) = unread ≡ 0
 IsReadBut unread count (event.Web at bytes) = IsNeeded count bytes × ((IsReadOut count bytes × (unread ≡ 0)) ⊎ (unread ≡ 1))
 IsReadBut unread count (event.Quiet at) = unread ≡ 0
 
--- the same of each event that came of these, in order: all of their web connections but so many were read out
+-- the same for each of these events, in order: all of their web connections but so many were read to the end of their request
 abbrev pub EachReadBut : (unread : ℕ) → List Event → (reads : List ℕ) → Type 0
 EachReadBut unread events [] = unread ≡ 0
 EachReadBut unread [] (count ∷ reads) = ⊥
 EachReadBut unread (e ∷ events) (count ∷ reads) = (one : ℕ) × (others : ℕ) × (unread ≡ one + others) × (IsReadBut one count e × EachReadBut others events reads)
 
--- so many bytes were read of each event that came: the count of giving out rose once for each connection that was not read out, and once for each thing more that was lost
+-- so many bytes were read of each event that came: the count of delivery faults rose once for each connection that was not read to the end, and once for each output that was lost
 pub record EarReads (ear later : Ear) (lost giving gave : ℕ) : Type 0 where
   pub reads : List ℕ
   pub unread : ℕ
@@ -44,13 +44,13 @@ pub record EarReads (ear later : Ear) (lost giving gave : ℕ) : Type 0 where
   pub each : EachReadBut unread (to_come ear) reads
   pub rose : RoseBy (unread + lost) giving gave
 
--- so it is where the link tells what it hears, and what was lost where it tells that
+-- this holds where the link exposes its input, for what was lost where it exposes that
 abbrev pub ReadsBetween : Option Ear → Option Ear → (given now : Option Given) → (giving gave : ℕ) → Type 0
 ReadsBetween None later given now giving gave = ⊤
 ReadsBetween (Some ear) None given now giving gave = ⊥
 ReadsBetween (Some ear) (Some later) given now giving gave = EarReads ear later (lost_more given now) giving gave
 
--- of each but the last, if that was not read to its end
+-- for each but the last, if that was not read to the end
 pub record EarReadsButLast (ear later : Ear) (lost giving gave : ℕ) : Type 0 where
   pub reads : List ℕ
   pub last : List ℕ
@@ -71,9 +71,9 @@ ReadsAll old new (Ok closed) = ReadsBetween old.ear new.ear old.given new.given 
 ReadsAll old new (Err LinkFault) = ReadsBetween old.ear new.ear old.given new.given old.giving new.giving
 ReadsAll old new (Err NoMemory) = ReadsButLast old.ear new.ear old.given new.given old.giving new.giving
 
--- ---- what the link was given
+-- ---- what was passed to the link
 
--- whatever run the server serves in, these are what that and what happened here add to its offers, and exactly they were given, at the addresses of its configuration
+-- whatever run the server serves in, these are the outputs that these events add to those of the run, and exactly they were passed, with the addresses of its configuration
 abbrev pub GaveOn : List Happened → Server → Option Given → Option Given → Type 0
 GaveOn happened old given now =
     (directory : Directory) (token : List ℕ) (loaded : Texts) (earlier : List Happened) (fuel : ℕ) →
@@ -81,7 +81,7 @@ GaveOn happened old given now =
     (added : List Offer) × (gives directory token loaded fuel (earlier ++ happened) ≡ gives directory token loaded fuel earlier ++ added) ×
     Gave directory.peers.known added given now
 
--- of what is due in the run up to the last of these nothing is missing, and nothing was given that is not due in the whole
+-- nothing of what is due in the run without the last of these is missing, and nothing was passed that is not due in the whole
 abbrev pub GaveUpTo : (done last : List Happened) → Server → Option Given → Option Given → Type 0
 GaveUpTo done last old given now =
     (directory : Directory) (token : List ℕ) (loaded : Texts) (earlier : List Happened) (fuel : ℕ) →
@@ -91,7 +91,7 @@ GaveUpTo done last old given now =
     (gives directory token loaded fuel (earlier ++ (done ++ last)))
     × Gave directory.peers.known added given now
 
--- all of these were done and given, but for the last, if memory ran out in it: of what that one makes the server offer a front was given
+-- all of these were processed and their outputs passed, but for the last, if memory ran out in it: a prefix of its outputs was passed
 pub record StoppedGiving (happened : List Happened) (old : Server) (given now : Option Given) : Type 0 where
   pub done : List Happened
   pub last : List Happened
@@ -99,29 +99,29 @@ pub record StoppedGiving (happened : List Happened) (old : Server) (given now : 
   pub one : length last ≤ 1
   pub gave : GaveUpTo done last old given now
 
--- the server did all of these and the link was given what is due, but for want of memory
+-- the server processed all of these and the outputs that are due were passed to the link, unless memory ran out
 abbrev pub GaveAllOf : List Happened → (old new : ServingState) → Result Bool DriveFault → Type 0
 GaveAllOf happened old new (Ok closed) = ServesOn happened old.server new.server × GaveOn happened old.server old.link.given new.link.given
 GaveAllOf happened old new (Err LinkFault) = ServesOn happened old.server new.server × GaveOn happened old.server old.link.given new.link.given
 GaveAllOf happened old new (Err NoMemory) = StoppedGiving happened old.server old.link.given new.link.given
 
--- ---- what the link was sent for whom
+-- ---- what was sent, by address
 
--- so many bytes more were sent to an address, in order, where the link tells what it was given
+-- these further texts were sent to an address, in order, where the link exposes what was passed to it
 abbrev pub SentTo : Addr → Option Given → Option Given → List (List ℕ) → Type 0
 SentTo addr None now texts = ⊤
 SentTo addr (Some given) None texts = ⊥
 SentTo addr (Some given) (Some now) texts = bytes_to addr (map sent_of now.offers) ≡ bytes_to addr (map sent_of given.offers) ++ texts
 
--- in a run that the server serves in from its first event on there are offers of which an untrusted peer sees what it would see of any other run that is equal without its
--- private places, and what it sees of them was sent to its address, in order, and nothing else, where each peer has a number and an address of its own
+-- in a run that the server serves in from its first event on there are outputs of which an untrusted peer observes what it would observe of any other run that is equal without its
+-- private places, and what it observes of them was sent to its address, in order, and nothing else, where each peer has a number and an address of its own
 abbrev pub KeptTheSecret : List Happened → Server → Option Given → Option Given → Type 0
 KeptTheSecret happened old given now =
     (directory : Directory) (token : List ℕ) (loaded : Texts) → Serves directory token loaded [] old → IsShortRun directory token loaded happened →
     (offers : List Offer) × SeesAlike directory token loaded happened offers
     × ((seer : Peer) (addr : Addr) → are_apart directory.peers.known ≡ true → addr_of seer directory.peers.known ≡ Some addr → SentTo addr given now (texts_seen seer offers))
 
--- the same where memory ran out: what was sent to its address is a front of what it sees of them
+-- the same where memory ran out: what was sent to its address is a prefix of what it observes of them
 abbrev pub KeptInFront : List Happened → Server → Option Given → Option Given → Type 0
 KeptInFront happened old given now =
     (directory : Directory) (token : List ℕ) (loaded : Texts) → Serves directory token loaded [] old → IsShortRun directory token loaded happened →
@@ -136,14 +136,14 @@ KeptAll happened old given now (Err NoMemory) = KeptInFront happened old given n
 
 -- ---- the whole
 
--- what was made of a link and of a keeper in so many turns, the server before and after, and the answer
+-- the effect on a link and on a keeper in so many turns, the server before and after, and the result
 pub record Served (turns : ℕ) (old new : ServingState) (result : Result Bool DriveFault) : Type 0 where
-  -- there are events that came, each with what the keeper answered in it,
+  -- there are events that came, each with the keeper's results in it,
   pub happened : List Happened
   pub made : MadeOf happened turns old new result
-  -- the web connections among them read out,
+  -- the web connections among them were read to the end,
   pub read : ReadsAll old.link new.link result
-  -- the server did them all, and the link was given what that makes it offer,
+  -- the server processed them all, and its outputs were passed to the link,
   pub given_all : GaveAllOf happened old new result
-  -- and the secret was kept
+  -- and noninterference holds
   pub kept : KeptAll happened old.server old.link.given new.link.given result

@@ -1,4 +1,4 @@
--- What one turn of `serve` gave a link, and what the turns so far gave it.
+-- What one turn of `serve` passed to a link, and what the turns so far passed to it.
 use Rattle.std.specs.Prelude.{◌≡◌, ℕ, List, [], Result}
 use Rattle.mmtel_directory.specs.declared.directories.Directory.{Directory}
 use Rattle.mmtel_giving.specs.Giving.{GaveAll}
@@ -20,7 +20,7 @@ abbrev pub ArePeers : List KnownPeer → Server → Type 0
 ArePeers known server = (directory : Directory) (token : List ℕ) (loaded : Texts) (happened : List Happened) → Serves directory token loaded happened server →
     known ≡ directory.peers.known
 
--- one event was done over an empty list, and the link was given what stood there then; or, for want of memory in that, a front of it
+-- one event was processed with an empty list of outputs, and the outputs were passed to the link; or, where memory ran out meanwhile, a prefix of them
 pub record EventServed (event : Event) (old new : ServingState) (result : Result (Unit {0}) NoMemory) : Type 0 where
   pub offers : List Offer
   pub step : Stepped event (step_of old []) (step_of new offers)
@@ -28,13 +28,13 @@ pub record EventServed (event : Event) (old new : ServingState) (result : Result
   pub peers : ArePeers known new.server
   pub gave : GaveAll known offers old.link.given new.link.given result
 
--- memory ran out in doing it, and nothing was given
+-- memory ran out in processing it, and nothing was passed
 pub record EventStopped (event : Event) (old new : ServingState) : Type 0 where
   pub stands : new.link.given ≡ old.link.given
   pub offers : List Offer
   pub met : Stopped event (step_of old []) offers new.keeper
 
--- so many turns took an event each, and the server did and gave them all
+-- so many turns received an event each, and the server processed them all and its outputs were passed
 pub record ServedSoFar (turns : ℕ) (old new : ServingState) : Type 0 where
   pub happened : List Happened
   pub made : MadeSoFar happened turns old new

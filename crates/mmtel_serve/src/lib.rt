@@ -1,4 +1,4 @@
-//! The server over a link that is given what it offers.
+//! The server over a link to which its outputs are passed.
 #![tactic(auto)]
 
 mod serving;

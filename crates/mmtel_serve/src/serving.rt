@@ -1,4 +1,4 @@
-//! Serving: the server over a link that is given what the server offers.
+//! Serving: the server over a link to which the server's outputs are passed.
 ghost use Rattle.std.specs.Prelude.{◌≡◌, ◌⊎◌, OnErr, OnOk};
 ghost use Rattle.mmtel_giving.specs.Giving.{IsBoundStill, LostNoMore, LostOnlyWhereRose, RoseBy, lost_more};
 ghost use Rattle.mmtel_outside.specs.Counts.{Rose};
@@ -17,7 +17,7 @@ use mmtel_timers::Steps;
 use std::alloc::Global;
 use std::sync::ledger::Ledger;
 
-/// Does an event, and gives the link what the server offers then, in order.
+/// Processes an event, and passes the outputs of the server for it to the link, in order.
 fn serve_event<N: Link, K: Keeper, L: Ledger>(
     alloc: Global,
     server: &mut Server,
@@ -48,16 +48,16 @@ fn serve_event<N: Link, K: Keeper, L: Ledger>(
     }
 }
 
-/// Takes events of a link and does each of them over a keeper, until the link is closed or so many turns were made, and gives the link after each event what the server
-/// offers then: each datagram at the address of its peer, and each reply on the web connection that came. What was given is not kept, so it takes no more memory the longer
-/// it runs. What the link loses is lost. What is looked at of the transactions is added to the counter. A turn is one call of the link's `next`, of a web connection the
-/// reads until its request is whole, and what is given then. True exactly where the link is closed, and false exactly where each turn took an event.
+/// Receives events from a link and processes each of them over a keeper, until the link is closed or so many turns were done, and passes to the link after each event the outputs
+/// of the server for it: each datagram for the address of its peer, and each reply for the web connection that came. What was passed is not stored, so memory does not grow with
+/// the duration. What the link loses is lost. The search steps in the transactions are counted. A turn is one call of the link's `next`, for a web connection the reads
+/// until its request is complete, and the calls that pass the outputs. True exactly where the link is closed, and false exactly where each turn received an event.
 ///
 /// # Errors
 ///
-/// `LinkFault` only where the link's count of taking in rose: the first `next` that fails ends it, and the server, the keeper and what was given stand as after the events
-/// that were taken before. `NoMemory` where memory ran out in the link, in reading a connection, in a step or in giving; of what the last event makes the server offer a
-/// front was given then.
+/// `LinkFault` only where the link's count of arrival faults rose: the first `next` that fails ends it, and the server, the keeper and what was passed are as after the events
+/// that came before. `NoMemory` where memory ran out in the link, in reading a connection, in a step or in passing its outputs; a prefix of the outputs for the last event
+/// was passed then.
 pub fn serve<N: Link, K: Keeper, L: Ledger>(
     alloc: Global,
     server: &mut Server,
@@ -68,11 +68,11 @@ pub fn serve<N: Link, K: Keeper, L: Ledger>(
 ) -> Result<bool, DriveFault>
     ensures served { Served turns (serving_state N.Link link.old K.Keeper keeper.old server.old)
         (serving_state N.Link link.new K.Keeper keeper.new server.new) result }
-    // Something is lost only where the count of giving out rose.
+    // An output is lost only where the count of delivery faults rose.
     ensures lost { LostNoMore (N.given link.old) (N.given link.new) ⊎ Rose (N.giving link.old) (N.giving link.new) }
     ensures giving { StandsOrRose (N.giving link.old) (N.giving link.new) }
     ensures bound { IsBoundStill (N.calls link.old) (N.calls link.new) }
-    // At a fault of taking in the last call of the link, where it tells its calls, has the number of one that fails.
+    // At an arrival fault the last call of the link, where it exposes its calls, has the number of one that fails.
     ensures number { HasFailedByNumber (N.calls link.new) result }
     ensures cause { HasDriveCause (N.taking link.old) (N.taking link.new) result }
 {

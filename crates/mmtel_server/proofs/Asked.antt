@@ -1,4 +1,4 @@
--- What a server reads of its own state is what is so of whatever it stands for: so what it decides by that is what is due.
+-- What a server reads of its own state holds for whatever state it represents: so what it decides by that is what the definitions require.
 use Rattle.std.proofs.Common.{◌≡◌, ℕ, List, ◌++◌, refl, sym, ap, ◌∙◌, subst, Option, Some, None}
 use Rattle.std.specs.Option.{option_map}
 use Rattle.mmtel_b2bua.specs.Histories as histories
@@ -30,7 +30,7 @@ use Rattle.mmtel_server.specs.Follows.{Breaks, Follows}
 use Rattle.mmtel_server.specs.Stands.{Did, IsCut, Stands, calls_of, rooms_of}
 use Rattle.mmtel_server.specs.declared.servers.Server.{Server}
 
--- ---- a deed by what was read
+-- ---- an operation by what was read
 
 module _ {A : Type 0} (x : A) (f : Directory → World → A) (deed : A → Directory → List ℕ → World → World) (s : Server) (out : List Offer)
     (is : (d : Directory) (token : List ℕ) (w : World) → Stands d token s w → x ≡ f d w) where
@@ -50,7 +50,7 @@ module _ {A : Type 0} (x : A) (f : Directory → World → A) (deed : A → Dire
 pub rests : (s : Server) (out : List Offer) → Follows s out s out (λ d token w. w)
 rests s out d token before w did short = did
 
--- ---- what is asked of the calls
+-- ---- what is read of the calls
 
 pub asked : {A : Type 0} (s : Server) (x : A) (f : List Entry → A)
     → ((peers : Peers) (accounts : List AccountIdentity) (deeds : List Deed) → histories.Stands peers accounts s.calls deeds → x ≡ f (table_after (site_in s.calls peers accounts) deeds).entries)
@@ -60,7 +60,7 @@ asked s x f says d token w have =
     says d.peers d.names.accounts w.deeds (subst (λ (c : CallsView). histories.Stands d.peers d.names.accounts c w.deeds) (sym have.calls) there)
     ∙ ap (λ (c : CallsView). f (table_after (site_in c d.peers d.names.accounts) w.deeds).entries) have.calls
 
--- whose a request is, by its branches or by its client transaction
+-- the owner of a request, by its branches or by its client transaction
 pub sent_of : (s : Server) (x : Whose) (o p q r : Option (List ℕ)) → o ≡ p → q ≡ r → x ≡ whose_branch o q s.calls.table.entries s.boxes.table
     → (d : Directory) (token : List ℕ) (w : World) → Stands d token s w → x ≡ whose_branch p r (calls_in d w).entries (boxes_in w)
 sent_of s x o p q r same alike is d token w have = is ∙ (λ i. whose_branch (same i) (alike i) (have.calls i).table.entries (have.boxes i).table)
@@ -69,7 +69,7 @@ pub key_of : (s : Server) (x : Whose) (key : TKey) → x ≡ whose_key key s.cal
     → (d : Directory) (token : List ℕ) (w : World) → Stands d token s w → x ≡ whose_key key (calls_in d w).entries
 key_of s x key is d token w have = is ∙ ap (λ (c : CallsView). whose_key key c.table.entries) have.calls
 
--- ---- what is asked of the rooms
+-- ---- what is read of the conferences
 
 pub asked_rooms : {A : Type 0} (s : Server) (x : A) (f : List Room → A)
     → ((peers : Peers) (accounts : List AccountIdentity) (deeds : List rooms.Deed) → rooms.Stands peers accounts s.rooms deeds → x ≡ f (rooms.table_after (rooms.site_of s.rooms peers accounts) deeds).live)
@@ -79,7 +79,7 @@ asked_rooms s x f says d token w have =
     says d.peers d.names.accounts w.rooms (subst (λ (c : RoomsView). rooms.Stands d.peers d.names.accounts c w.rooms) (sym have.rooms) there)
     ∙ ap (λ (c : RoomsView). f (rooms.table_after (rooms.site_of c d.peers d.names.accounts) w.rooms).live) have.rooms
 
--- ---- who has a dialog
+-- ---- the owner of a dialog
 
 -- of this name
 abbrev pub holder_by : Option DialogName → Directory → World → Option Holder

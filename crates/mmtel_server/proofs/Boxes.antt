@@ -1,4 +1,4 @@
--- What is done on mailboxes and on the subscriptions to them: what the code reads and does, one after another, is what is due.
+-- Operations on mailboxes and on the subscriptions to them: what the code reads and does, one after another, is what the definitions require.
 use Rattle.std.proofs.Common.{◌≡◌, ◌+◌, ◌<◌, ◌≤◌, ◌^◌, ℕ, List, [], ◌∷◌, length, drop, get_or, eq-eqb, refl, sym, ap, ◌∙◌, subst, Bool, true, false, Option, Some, None, Result, Ok, Err, inl, inr, add-one, drop-cons}
 use Rattle.std.specs.Prelude.{◌==◌, if◌then◌else◌, codes, find, is_some}
 use Rattle.std.specs.Option.{option_map}
@@ -89,7 +89,7 @@ module _ (d : Directory) (token : List ℕ) (at : ℕ) where
 -- ---- what was read decides
 
 module _ (s : Server) (P : (Directory → List ℕ → World → World) → Type 0) (reads : Reads s P) (at : ℕ) where
-  -- whose subscription it is
+  -- the peer of a subscription
   is_peer : (sub : SubNo) (d : Directory) (token : List ℕ) (w : World) → Stands d token s w → peer_of sub s.boxes.table ≡ peer_of sub (boxes_in w)
   is_peer sub d token w have = ap (λ (b : BoxesView). peer_of sub b.table) have.boxes
 
@@ -98,7 +98,7 @@ module _ (s : Server) (P : (Directory → List ℕ → World → World) → Type
       reads (Option Peer) (peer_of sub s.boxes.table) (λ d w. peer_of sub (boxes_in w)) (λ x d token w. telling_peer d token at sub last x w) (is_peer sub)
       (subst (λ (x : Option Peer). P (λ d token. telling_peer d token at sub last x)) (sym is) p)
 
-  -- who subscribes to a mailbox
+  -- the subscribers to a mailbox
   are_due : (account : Account) (d : Directory) (token : List ℕ) (w : World) → Stands d token s w → subscribers_of account s.boxes.table ≡ subscribers_of account (boxes_in w)
   are_due account d token w have = ap (λ (b : BoxesView). subscribers_of account b.table) have.boxes
 
@@ -108,7 +108,7 @@ module _ (s : Server) (P : (Directory → List ℕ → World → World) → Type
       reads (List SubNo) (subscribers_of account s.boxes.table) (λ d w. subscribers_of account (boxes_in w)) (λ x d token w. telling_each d token at x (noting (Puts account counts) w)) (are_due account)
       (subst (λ (x : List SubNo). P (λ d token w. telling_each d token at x (noting (Puts account counts) w))) are p)
 
-  -- which SUBSCRIBE set its end
+  -- which SUBSCRIBE set its expiration
   is_set : (sub : SubNo) (d : Directory) (token : List ℕ) (w : World) → Stands d token s w → set_by sub s.boxes.table ≡ set_by sub (boxes_in w)
   is_set sub d token w have = ap (λ (b : BoxesView). set_by sub b.table) have.boxes
 
@@ -162,13 +162,13 @@ module _ (s : Server) (P : (Directory → List ℕ → World → World) → Type
           reads (Option ℕ) (refusal (asking_of s.directory true said.heard)) (λ d w. refusal (asking_of d true said.heard)) (λ x d token w. refreshing_by d token at key said sub x w) (is_refused true)
           (subst (λ (x : Option ℕ). P (λ d token. refreshing_by d token at key said sub x)) is p)
 
-      -- what the subscription says of it
+      -- the result of the subscription for it
       pub entering_so : (r : Result (Unit {0}) DialogueFault) → ((d : Directory) (token : List ℕ) (w : World) → Stands d token s w → r ≡ says sub (message_in said.heard) (boxes_in w))
           → P (λ d token. entering_by d token at key said sub r) → P (λ d token. entering_box d token at key said sub)
       entering_so r says_so p =
           reads (Result (Unit {0}) DialogueFault) r (λ d w. says sub (message_in said.heard) (boxes_in w)) (λ x d token w. entering_by d token at key said sub x w) says_so p
 
--- its time is over, if no later SUBSCRIBE set another
+-- it expires, if no later SUBSCRIBE set another moment
 module _ (P : (Directory → List ℕ → World → World) → Type 0) (at : ℕ) (sub : SubNo) (set last : ℕ) where
   pub due_now : last ≡ set → P (λ d token. telling_last d token at sub) → P (λ d token w. if is_last_set set (Some last) then telling_last d token at sub w else w)
   due_now is p = subst (λ (b : Bool). P (λ d token w. if b then telling_last d token at sub w else w)) (sym (eq-eqb set last (sym is))) p
@@ -176,7 +176,7 @@ module _ (P : (Directory → List ℕ → World → World) → Type 0) (at : ℕ
   pub due_later : (last ≡ set → ⊥) → P (λ d token w. w) → P (λ d token w. if is_last_set set (Some last) then telling_last d token at sub w else w)
   due_later other p = subst (λ (b : Bool). P (λ d token w. if b then telling_last d token at sub w else w)) (sym (ne_eqb set last (λ e. other (sym e)))) p
 
--- ---- a subscriber is told
+-- ---- a subscriber is notified
 
 module _ (at : ℕ) (sub : SubNo) (last : Bool) (peer : Peer) (s : Server) (out : List Offer) (is_peer_of : peer_of sub s.boxes.table ≡ Some peer) (t : Drawn) (branch : List ℕ)
     (drawn : s.tokens.drawn < 2 ^ 60 → t ≡ record { token = s.tokens.token; drawn = s.tokens.drawn + 1 })
@@ -243,7 +243,7 @@ module _ (at : ℕ) (account : Account) (counts : Counts) (s : Server) (out : Li
       (broken (λ d token. noting (Puts account counts)) (λ d token. telling_each d token at subs) s (record s { boxes = boxes }) out out now
       (λ d token w. notes (Puts account counts) w) (λ d token w. tells_each_grows d token at subs w) first_put breaks)
 
--- ---- a subscription stands: its end is armed behind the NOTIFY
+-- ---- a subscription is active: its expiration is armed after the NOTIFY
 
 module _ (at : ℕ) (sub : SubNo) (seconds : ℕ) (some : (seconds == 0) ≡ false) (s mid : Server) (out between : List Offer) (tells : Follows s out mid between (λ d token. telling d token at sub false))
     (set : Option ℕ) (is_set_so : set_by sub s.boxes.table ≡ set) where
@@ -261,7 +261,7 @@ module _ (at : ℕ) (sub : SubNo) (seconds : ℕ) (some : (seconds == 0) ≡ fal
       (λ d token w. tells_grows d token at sub false w) (λ d token w. arms_until_grows d token at sub set (until_of at seconds) w) tells
       (stops (λ d token. arming_until sub set (until_of at seconds)) mid between between (λ d token w. arms_until_grows d token at sub set (until_of at seconds) w) refl))
 
--- ---- a subscription is made
+-- ---- a subscription is created
 
 module _ (at : ℕ) (key : TKey) (said : Said) (account : Account) (seconds : ℕ) (s : Server) (t : Drawn) (tag : List ℕ) (out : List Offer)
     (drawn : s.tokens.drawn < 2 ^ 60 → t ≡ record { token = s.tokens.token; drawn = s.tokens.drawn + 1 })
@@ -313,7 +313,7 @@ module _ (at : ℕ) (key : TKey) (said : Said) (account : Account) (seconds : �
         (broken (λ d token w. granted_with tag d (subscribed_with tag w)) (λ d token. standing d token at sub seconds) (record s { tokens = t }) there out between now
         both_grow (λ d token w. stands_grows d token at sub seconds w) first_both breaks))
 
--- ---- a subscription is made to stand anew
+-- ---- the expiration of a subscription is set anew
 
 module _ (at : ℕ) (key : TKey) (said : Said) (sub : SubNo) (s mid : Server) (out between : List Offer) (boxes : BoxesView)
     (is_refreshed : boxes ≡ with_table s.boxes (refreshed sub (until_of at (granted said.heard.expires)) s.boxes.table))
@@ -346,7 +346,7 @@ module _ (at : ℕ) (key : TKey) (said : Said) (sub : SubNo) (s mid : Server) (o
 
 -- ---- a request in the dialog of a subscription
 
--- where it does not live, nothing changes by what is heard
+-- where it is not live, nothing changes by what is received
 changed_none : {A : Type 0} (is : A → Bool) (change : A → A) (xs : List A) → find is xs ≡ None → changed is change xs ≡ xs
 changed_none is change [] none = refl
 changed_none is change (x ∷ xs) none =
@@ -387,7 +387,7 @@ module _ (at : ℕ) (key : TKey) (said : Said) (sub : SubNo) (s : Server) (r : R
       entering_so s (Follows s out new now) (follows_reads s out new now) at key said sub r says_so
       (subst (λ (x : Result (Unit {0}) DialogueFault). Follows s out new now (λ d token. entering_by d token at key said sub x)) (sym is) follows)
 
-  -- it is let through
+  -- it is accepted
   module _ (is : r ≡ Ok tt) (mid : Server) (hears : Follows s out mid out (λ d token. noting (Hears sub (message_in said.heard)))) where
     pub enters_follows : (new : Server) (now : List Offer) → Follows mid out new now (λ d token. entered_by d token at key said sub) → Follows s out new now (λ d token. entering_box d token at key said sub)
     enters_follows new now follows =
@@ -418,7 +418,7 @@ pub answers_other : (s : Server) (at : ℕ) (key : TKey) (said : Said) (a : Answ
 answers_other s at key said a is out new now follows =
     follows_so a (λ d w. other_answer d said.heard) (λ x d token. replying d token at key said x) s out (λ d token w have. is ∙ ap (λ (x : Directory). other_answer x said.heard) have.directory_same) new now follows
 
--- ---- a web request, and behind its reply what it brings subscribers
+-- ---- a web request, and after its reply the NOTIFYs that it causes
 
 module _ (law : AllDrawOn) (s mid : Server) (out between : List Offer) (at : ℕ) (request : Request) (kept : Kept) (rows : List Row) (put : Option (Account × Counts))
     (replies_first : Follows s out mid between (λ d token. serving d at request kept rows)) (is_put : put ≡ put_in s.directory.names request kept) where

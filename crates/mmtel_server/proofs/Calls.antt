@@ -1,4 +1,4 @@
--- What calls bring forth in a server, where the rows that they closed are taken from them.
+-- The output of calls in a server, where the CDRs that they closed are removed from them.
 use Rattle.std.proofs.Common.{◌≡◌, ℕ, List, [], ◌∷◌, ◌++◌, drop, length, refl, sym, ap, ◌∙◌, subst, arith}
 use Rattle.std.specs.Option.{option_map}
 use Rattle.std.proofs.lemmas.List.{drop_all}
@@ -31,12 +31,12 @@ use Rattle.mmtel_server.specs.Follows.{AllDrawOn, brought_in, desk_at_end, desk_
 use Rattle.mmtel_server.specs.Stands.{Did, calls_of}
 use Rattle.mmtel_server.specs.declared.servers.Server.{Server}
 
--- a signal, as the server tells it
+-- a signal, as the server passes it on
 abbrev pub heard_of : ℕ → Server → Signal → histories.Heard
 heard_of at s x = record { at = at; view = s.records.view; tokens = s.tokens; signal = x }
 
 module _ (d : Directory) (token : List ℕ) (before out : List Offer) (s : Server) (w : World) (have : Did d token before s out w) where
-  -- the calls of the server stand for what was done on them
+  -- the calls of the server represent the operations on them
   stand : histories.Stands s.directory.peers s.directory.names.accounts s.calls w.deeds
   stand =
       subst (λ (e : Directory). histories.Stands e.peers e.names.accounts s.calls w.deeds) (sym have.stands.directory_same)
@@ -47,7 +47,7 @@ module _ (d : Directory) (token : List ℕ) (before out : List Offer) (s : Serve
       ap (λ (e : Directory). site_in s.calls e.peers e.names.accounts) have.stands.directory_same
       ∙ ap (λ (c : CallsView). site_in c d.peers d.names.accounts) have.stands.calls
 
-  -- a deed was done on them, which the server says so and the world so; then their rows were taken out
+  -- an operation was done on them, in the server's terms and in those of the state; then their CDRs were removed
   module _ (said deed : Deed) (desk : Desk) (same : table_after (site_of d) (said ∷ w.deeds) ≡ table_after (site_of d) (deed ∷ w.deeds))
       (closes : (table_after (site_of d) (deed ∷ w.deeds)).rows ≡ (calls_in d w).rows ++ desk.rows) (calls : CallsView)
       (done : (deeds : List Deed) → histories.Stands s.directory.peers s.directory.names.accounts s.calls deeds → histories.Stands s.directory.peers s.directory.names.accounts calls (said ∷ deeds))
@@ -132,7 +132,7 @@ module _ (told : CallsAreToldWhatIsInForce) (seen : CallsSeeWhatIsSaid) (draws :
   abbrev accounts : List AccountIdentity
   accounts = s.directory.names.accounts
 
-  -- the records of the server say what is in force in the world
+  -- the records of the server are what is in force in the state
   say_same : SaySame s.records.view (in_force w.texts w.registrations)
   say_same = record {
     sheets = λ n.
@@ -141,7 +141,7 @@ module _ (told : CallsAreToldWhatIsInForce) (seen : CallsSeeWhatIsSaid) (draws :
     ends = λ n. let account : Account = record { 0 = n } in have.stands.registered account ∙ sym (told w.texts w.registrations account).ends;
   }
 
-  -- so the same comes of a signal
+  -- so a signal has the same effect
   moved_same : hears_after (site_of d) w.deeds (heard_of at s x) ≡ hears_after (site_of d) w.deeds (heard_now token at x w)
   moved_same =
       let calls : Table = calls_after d w.deeds in
@@ -175,7 +175,7 @@ module _ (told : CallsAreToldWhatIsInForce) (seen : CallsSeeWhatIsSaid) (draws :
           taken_over dropped stays_then,
     )
 
--- ---- the end of a call whose leg is away
+-- ---- the end of a call whose leg is detached
 
 module _ (draws : AllDrawOn) (d : Directory) (token : List ℕ) (before out : List Offer) (s : Server) (w : World) (have : Did d token before s out w) (at : ℕ) (call : CallNo) where
   abbrev those : Peers

@@ -1,4 +1,4 @@
--- The charging rows of a whole run: where the keeper took none of them in an event, and where none waits behind one.
+-- The CDRs of a whole run: where the keeper accepted none of them in an event, and where none waits after one.
 use Rattle.std.proofs.Common.{◌≡◌, ℕ, Bool, true, false, List, [], ◌∷◌, ◌++◌, sym, ap, ◌∙◌, subst}
 use Rattle.std.proofs.lemmas.Bool.{false≢true}
 use Rattle.mmtel_directory.specs.declared.directories.Directory.{Directory}
@@ -13,7 +13,7 @@ use Rattle.mmtel_server.proofs.Filing.{met_none, settled_none}
 use Rattle.mmtel_server.proofs.Handing.{hands_none}
 
 module _ (d : Directory) (token : List ℕ) where
-  -- an event in which the keeper took none files none
+  -- an event in which the keeper accepted none files none
   pub untaken : (fuel : ℕ) (one : Happened) (w : World) → one.took ≡ false → (going fuel one d token w).filed ≡ w.filed
   untaken fuel one w none =
       let at : ℕ = clock_at w (moment_of one.event) in
@@ -25,7 +25,7 @@ module _ (d : Directory) (token : List ℕ) where
       ∙ (met_none d token at (digest d one) there ∙ settled_none d token fuel at w))
 
   module _ (law : NoneWaits) where
-    -- none waits behind the last of these, where the keeper took what was handed to it
+    -- none waits after the last of these, where the keeper accepted what was handed to it
     none_behind : (fuel : ℕ) (happened : List Happened) (w : World) → took_last happened ≡ true → (after d token fuel (notices d happened) w).waiting ≡ []
     none_behind fuel [] w took = absurd (false≢true took)
     none_behind fuel (one ∷ []) w took =
@@ -38,7 +38,7 @@ module _ (d : Directory) (token : List ℕ) where
     none_after fuel [] happened w took = none_behind fuel happened w took
     none_after fuel (one ∷ earlier) happened w took = none_after fuel earlier happened (one_more d token fuel (notice_of d one) w) took
 
--- all rows of a run are filed or wait
+-- all CDRs of a run are filed or wait
 pub charged : RowsAreFiled → NoneWaits → (happened : List Happened) (old : Server) → Charged happened old
 charged all none happened old d token loaded earlier fuel serves short enough = record {
   all = all d token loaded fuel (earlier ++ happened);

@@ -1,4 +1,4 @@
--- One event, once its step has begun: what was offered where memory ran out in it, or over the rows that waited at its end.
+-- One event, once its step has begun: the outputs where memory ran out in it, or while the CDRs that waited at its end were handed over.
 use Rattle.std.proofs.Common.{ℕ, Bool, List, ◌++◌, refl}
 use Rattle.mmtel_directory.specs.declared.directories.Directory.{Directory}
 use Rattle.mmtel_outside.specs.declared.events.Offer.{Offer}
@@ -35,7 +35,7 @@ module _ (law : AllDrawOn) (old mid : Server) (out : List Offer) (at : ℕ) (beg
       let cut = breaks d token before (there d token before w did short) (clocked d token before w did short) (few d token before w did short) in
       (cut.0, front_on now (before ++ left.offers) (before ++ all.offers) cut.1 (front_of before (before ++ left.offers) left all (ends law d token at took left) refl))
 
-  -- memory ran out over the rows that waited
+  -- memory ran out while the CDRs that waited were handed over
   pub broke_handing : (t : Server) (now : List Offer) → Follows (record mid { clock = at }) out t now (λ d token. met d token at (x d)) → Breaks old out now (λ d token. came d token at (x d) took)
   broke_handing t now follows d token before w did short =
       let from : World = there d token before w did short in

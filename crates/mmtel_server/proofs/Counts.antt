@@ -1,4 +1,4 @@
--- Where there were few calls, one more transaction has a number of its own.
+-- Where there were few operations, one more transaction has a number of its own.
 use Rattle.std.proofs.Common.{◌+◌, ◌≤◌, ◌<◌, ◌^◌, List, [], ◌∷◌, length, arith}
 use Rattle.mmtel_transaction.specs.Calls.{Done, DidAck, DidAsk, DidBegin, DidFire, DidSettle, DidHear, DidReply}
 use Rattle.mmtel_transaction.specs.Laws.{FewAreOpened, asked_in, heard_in}

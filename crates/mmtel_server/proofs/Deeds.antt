@@ -1,4 +1,4 @@
--- What is offered once numbers were drawn, and one after another.
+-- The outputs once numbers were drawn, and one after another.
 use Rattle.std.proofs.Common.{Option, append_assoc, ◌++◌, ◌≡◌, ℕ, ◌+◌, ◌-◌, ◌≤◌, ◌<◌, ◌^◌, List, [], ◌∷◌, length, refl, sym, ap, ◌∙◌, subst, arith, drop, get_or, add-one, drop-cons}
 use Rattle.std.proofs.lemmas.List.{drop_all, map-append}
 use Rattle.mmtel_desk.specs.declared.desks.Desk.{Desk}
@@ -61,7 +61,7 @@ drew d token before s t out w n did e = record {
 pub drawn_small : (d : Directory) (token : List ℕ) (before : List Offer) (s : Server) (out : List Offer) (w : World) → Did d token before s out w → IsShort w → s.tokens.drawn < 2 ^ 60
 drawn_small d token before s out w did few = let n : s.tokens.drawn ≡ w.drawn = ap (λ (x : Drawn). x.drawn) did.stands.tokens in omega (arith, n, few.drawn)
 
--- numbers are drawn, and then one thing is done that names them
+-- numbers are drawn, and then one command is executed that names them
 pub drawn_one : (f : Directory → List ℕ → ℕ → Emit) (n at : ℕ) (s : Server) (t : Drawn) (s2 : Server) (out out2 : List Offer) (e : Emit)
     → (s.tokens.drawn < 2 ^ 60 → t ≡ record { token = s.tokens.token; drawn = s.tokens.drawn + n }) → (s.tokens.drawn < 2 ^ 60 → e ≡ f s.directory s.tokens.token s.tokens.drawn)
     → Follows (record s { tokens = t }) out s2 out2 (λ d token. emit_one at e)
@@ -112,7 +112,7 @@ asked few s t out out2 peer m at text P opens is offered d token before w did sh
       ∙ (append_assoc before w.offers (offer.To peer at text ∷ []) ∙ ap (λ (x : List ℕ). before ++ (w.offers ++ offer.To peer at x ∷ [])) is));
 }
 
--- what a transaction is told goes to its peer, if it is live
+-- what is passed to a transaction goes to its peer, if it is live
 pub sent_to : (deed : Done) (s : Server) (t : Transactions) (out out2 : List Offer) (key at : ℕ) (text said : List ℕ) (peer : Option Peer)
     → ((h : List Done) → kept.Stands s.transactions h → kept.Stands t (deed ∷ h)) → ((h : List Done) → kept.Stands s.transactions h → peer ≡ peer_of key (live h))
     → text ≡ said → out2 ≡ out ++ to_peer at text peer
@@ -151,7 +151,7 @@ next_emit at i es e w less is =
 pub no_emit : (at i : ℕ) (es : List Emit) (w : World) → length es ≤ i → emitted at (drop i es) w ≡ w
 no_emit at i es w less = ap (λ (l : List Emit). emitted at l w) (drop_all i es less)
 
--- ---- what was done on the calls or the rooms, and then what came of it
+-- ---- an operation on the calls or the conferences, and then its commands
 
 module _ (old mid : Server) (desk : Directory → List ℕ → World → Desk) (there : Directory → List ℕ → World → World) (emits given : List Emit) (at : ℕ) (out now : List Offer)
     (done : HasDone old mid desk there emits) (same : given ≡ emits) where
@@ -162,7 +162,7 @@ module _ (old mid : Server) (desk : Directory → List ℕ → World → Desk) (
       subst (λ (l : List Emit). Did d token before new now (emitted at l (there d token w))) all
       (follows d token before (there d token w) first.1 (subst (λ (l : List Emit). IsShort (emitted at l (there d token w))) (sym all) short))
 
-  -- where what was done offers nothing of itself
+  -- where the operation outputs nothing by itself
   pub done_breaks : Breaks mid out now (λ d token. emitted at given) → Breaks old out now (λ d token w. emitted at (desk d token w).out (there d token w))
   done_breaks breaks d token before w did short =
       let first = done d token before out w did in
@@ -170,7 +170,7 @@ module _ (old mid : Server) (desk : Directory → List ℕ → World → Desk) (
       subst (λ (l : List Emit). IsCut out now (before ++ (emitted at l (there d token w)).offers)) all
       (breaks d token before (there d token w) first.1 (subst (λ (l : List Emit). IsShort (emitted at l (there d token w))) (sym all) short))
 
--- what a transaction is told brings nothing forth
+-- an operation on a transaction outputs nothing
 pub told_alone : (deed : Done) (s : Server) (t : Transactions) (out : List Offer) → ((h : List Done) → kept.Stands s.transactions h → kept.Stands t (deed ∷ h))
     → Follows s out (record s { transactions = t }) out (λ d token. acting deed)
 told_alone deed s t out told d token before w did short = record {
@@ -194,7 +194,7 @@ told_alone deed s t out told d token before w did short = record {
   offered = did.offered;
 }
 
--- a deed on mailboxes brings nothing forth by itself
+-- an operation on mailboxes outputs nothing by itself
 pub noted : (deed : boxes.Deed) (s : Server) (new : BoxesView) (out : List Offer) → new ≡ with_table s.boxes (boxes.did deed s.boxes.table)
     → Follows s out (record s { boxes = new }) out (λ d token. noting deed)
 noted deed s new out is d token before w did short = record {
@@ -218,7 +218,7 @@ noted deed s new out is d token before w did short = record {
   offered = did.offered;
 }
 
--- a deadline is armed, in the step that goes on
+-- a timer is armed, in the step under way
 pub armed_more : (s : Server) (a : Armed) (rest : List Armed) (out : List Offer) → rest ≡ s.armed ++ a ∷ [] → a.step ≡ s.steps - 1
     → Follows s out (record s { armed = rest }) out (λ d token w. arming (record { alarm = alarm_in a.alarm; at = a.at; step = w.steps - 1 }) w)
 armed_more s a rest out more step d token before w did short = record {

@@ -1,4 +1,4 @@
--- What is offered of the events that came, turn after turn, where it is added to a list.
+-- The outputs for the events that came, turn after turn, where they are appended to a list.
 use Rattle.std.proofs.Common.{◌≡◌, ◌+◌, ◌<◌, ◌≤◌, ℕ, Bool, true, false, List, [], ◌∷◌, ◌++◌, length, refl, sym, subst, append-nil, Result, Ok, Err, arith}
 use Rattle.mmtel_directory.specs.declared.directories.Directory.{Directory}
 use Rattle.mmtel_in_force.specs.Texts.{Texts}
@@ -28,7 +28,7 @@ use Rattle.mmtel_server.proofs.Made.{few, few_first, made_all, made_broken, made
 went_nothing : (s : Server) (out : List Offer) → WentOn [] s out s out
 went_nothing s out d token loaded es before went short = subst (λ (l : List Happened). Went d token loaded l before s out) (sym (append-nil es)) went
 
--- of all of these and then of these the front is few enough, and the rest begins where it ended
+-- with all of these and then these, the prefix is few enough, and the rest begins where it ended
 module _ (law : AllDrawOn) (always : GivesAlways) (xs ys : List Happened) (s t : Server) (out between : List Offer) (first : WentOn xs s out t between) where
   there : (d : Directory) (token : List ℕ) (loaded : Texts) (es : List Happened) (before : List Offer) → Went d token loaded es before s out → IsShortRun d token loaded (es ++ (xs ++ ys))
       → Went d token loaded (es ++ xs) before t between
@@ -39,7 +39,7 @@ module _ (law : AllDrawOn) (always : GivesAlways) (xs ys : List Happened) (s t :
       subst (λ (l : List Happened). Went d token loaded l before u now) (sym (whole law always xs ys es))
       (second d token loaded (es ++ xs) before (there d token loaded es before went short) (few law always xs ys d token loaded es short))
 
-  -- memory ran out in what came then, and nothing more than a front was added
+  -- memory ran out in what came then, and nothing more than a prefix was added
   pub broke_in : (now : List Offer) → length ys ≤ 1
       → ((d : Directory) (token : List ℕ) (loaded : Texts) (before : List Offer) (es : List Happened) (fuel : ℕ) → Went d token loaded es before t between
       → IsShortRun d token loaded (es ++ ys) → IsEnough d token loaded fuel (es ++ ys)
@@ -61,19 +61,19 @@ module _ (law : AllDrawOn) (always : GivesAlways) (xs ys : List Happened) (s t :
         );
   }
 
--- memory ran out in doing one event more
+-- memory ran out in processing one more event
 pub broke_then : AllDrawOn → GivesAlways → (xs : List Happened) (one : Happened) (s t : Server) (out between now : List Offer) → WentOn xs s out t between → BreaksOff t between now one
     → BrokeOff (xs ++ one ∷ []) s out now
 broke_then law always xs one s t out between now first second =
     broke_in law always xs (one ∷ []) s t out between first now (omega arith) (λ d token loaded before es fuel went short enough. second d token loaded es before fuel went short enough)
 
--- memory ran out before anything of what came then was done
+-- memory ran out before anything of what came then was processed
 pub broke_there : AllDrawOn → GivesAlways → (xs ys : List Happened) (s t : Server) (out now : List Offer) → length ys ≤ 1 → WentOn xs s out t now → BrokeOff (xs ++ ys) s out now
 broke_there law always xs ys s t out now one first =
     broke_in law always xs ys s t out now first now one
     (λ d token loaded before es fuel went short enough. (([], append-nil now), offers_front d token loaded law before es ys fuel t now went enough))
 
--- what was offered keeps the secret
+-- noninterference holds for the outputs
 pub kept : WentSeesAlike → (xs : List Happened) (s t : Server) (out now : List Offer) → WentOn xs s out t now → KeptTheSecret xs s out now
 kept secret xs s t out now did d token loaded es went short = secret d token loaded (es ++ xs) t now (did d token loaded es [] went short)
 
@@ -93,7 +93,7 @@ module _ (laws : RunLaws) (start : ServingState) (out : List Offer) where
     read_more link read =
         read_then start.link.ear mid.link.ear link.ear start.link.giving mid.link.giving link.giving (events_in d.happened) d.made.told d.read read
 
-    -- one turn took an event, and it was done
+    -- one turn received an event, and it was processed
     pub goes_on : (new : ServingState) (now : List Offer) (e : Event)
         → HeardMore mid.link.ear new.link.ear (e ∷ []) × ReadEach mid.link.ear new.link.ear mid.link.giving new.link.giving → Stepped e (step_of mid between) (step_of new now)
         → Drove (turns + 1) start new out now
@@ -107,7 +107,7 @@ module _ (laws : RunLaws) (start : ServingState) (out : List Offer) where
         }
 
     module _ (most : ℕ) (less : turns < most) where
-      -- it was not done to its end
+      -- it was not processed to its end
       pub breaks : (new : ServingState) (now : List Offer) (e : Event)
           → HeardMore mid.link.ear new.link.ear (e ∷ []) × ReadEach mid.link.ear new.link.ear mid.link.giving new.link.giving
           → Stopped e (step_of mid between) now new.keeper → Driven most start new out now (Err NoMemory)
@@ -122,12 +122,12 @@ module _ (laws : RunLaws) (start : ServingState) (out : List Offer) where
             kept = tt;
           }
 
-      -- where the link alone has gone on since
+      -- where only the link has changed since
       module _ (link : LinkSeen) where
         abbrev Ends : Result Bool DriveFault → Type 0
         Ends result = Driven most start (record { link = link; keeper = mid.keeper; server = mid.server }) out between result
 
-        -- memory ran out before it was read to its end
+        -- memory ran out before the connection was read to its end
         lost : StandsOrRose mid.link.giving link.giving → (es : List Event) → length es ≤ 1 → HeardMore mid.link.ear link.ear es × AddsOne mid.link.ear link.ear → Ends (Err NoMemory)
         lost stands es one told =
             let few_lost : length (lost_events es) ≤ 1 = omega (arith, length_lost es, one) in
@@ -161,7 +161,7 @@ module _ (laws : RunLaws) (start : ServingState) (out : List Offer) where
           }
           fails stands NoMemory told = lost stands told.0 told.1 told.2
 
-    -- the turns were made
+    -- the turns were done
     pub ends : WentSeesAlike → (most : ℕ) → turns ≡ most → Driven most start mid out between (Ok false)
     ends secret most all = record {
       happened = d.happened;

@@ -1,4 +1,4 @@
--- Rows are filed at the end of an event alone.
+-- CDRs are filed at the end of an event alone.
 use Rattle.std.proofs.Common.{◌≡◌, ℕ, zero, suc, List, [], ◌∷◌, ◌++◌, Bool, true, false, refl, sym, ◌∙◌, append-nil, subst, Option, Some, None}
 use Rattle.mmtel_answers.specs.Said.{Said}
 use Rattle.mmtel_b2bua.specs.Histories.{Finishes, Hears}
@@ -38,7 +38,7 @@ use Rattle.mmtel_server.proofs.RoomWords as words
 use Rattle.mmtel_server.specs.Follows.{brought_in, desk_at_end, desk_of, housed_in, lodged_in}
 use Rattle.mmtel_server_decisions.specs.Handed.{left_of, taken_of}
 
--- the second world has filed no more than the first
+-- the second state has filed no more than the first
 abbrev pub FilesNone : World → World → Type 0
 FilesNone v w = w.filed ≡ v.filed
 
@@ -170,7 +170,7 @@ module _ (d : Directory) (token : List ℕ) where
   settled_none zero now w = refl
   settled_none (suc n) now w = settled_none n now (fire_one d token now w) ∙ fired_if_none now (due_in now w) w
 
--- what is handed over is filed, or waits still
+-- what is handed over is filed, or still waits
 handed_is : (took : Bool) (rows : List Row) (w : World) → rows ≡ w.waiting
     → ((handing took rows w).filed ≡ w.filed ++ taken_of took rows) × ((handing took rows w).waiting ≡ left_of took rows)
 handed_is true [] w e = (sym (append-nil w.filed), sym e)

@@ -1,4 +1,4 @@
--- What a deadline brings, once it is taken from the deadlines that are armed.
+-- The effect of a timer, once it is removed from the timers that are armed.
 use Rattle.std.proofs.Common.{◌≡◌, ◌≤◌, ℕ, List, [], ◌∷◌, ◌++◌, Option, Some, None, IfSome, append_assoc, refl, sym, ap, ◌∙◌, subst}
 use Rattle.std.specs.Prelude.{Bool, true, false, nat_le, if◌then◌else◌, is_some}
 use Rattle.std.specs.Option.{option_map}
@@ -26,9 +26,9 @@ use Rattle.mmtel_server_decisions.specs.declared.armed.Armed.{Armed}
 use Rattle.mmtel_server.specs.declared.servers.Server.{Server}
 use Rattle.mmtel_server_decisions.specs.declared.deadlines.Deadline as deadlines
 
--- ---- what is due of messages by a moment is not past it
+-- ---- what is due of the transactions by a moment is not after it
 
--- the deadline of a transaction
+-- the timer of a transaction
 one_by : (now : ℕ) (e : Entry) (o : Option ℕ) → IfSome (due_one now e o) (λ n. n.at ≤ now)
 one_by now e None = tt
 one_by now e (Some at) = test (nat_le at now) refl
@@ -60,7 +60,7 @@ says_by now (Some n) by = test (is_some (resend_at n.entry)) (ends n.entry.plan)
     test false true = by
     test false false = by
 
--- ---- single deeds
+-- ---- elementary operations
 
 pub offers : (s : Server) (out now os : List Offer) → now ≡ out ++ os → Follows s out s now (λ d token. offering os)
 offers s out now os e d token before w did short = record {
@@ -84,7 +84,7 @@ offers s out now os e d token before w did short = record {
   offered = e ∙ (ap (λ (x : List Offer). x ++ os) did.offered ∙ append_assoc before w.offers os);
 }
 
--- these are the calls on the transactions
+-- these are the operations on the transactions
 acted : (d : Directory) (token : List ℕ) (before out : List Offer) (s : Server) (t : Transactions) (w : World) (acts : List Done) → Did d token before s out w → table.Stands t acts
     → Did d token before (record s { transactions = t }) out (record w { acts = acts })
 acted d token before out s t w acts did stands = record {
@@ -108,7 +108,7 @@ acted d token before out s t w acts did stands = record {
   offered = did.offered;
 }
 
--- these are the deadlines of calls
+-- these are the timers of calls
 left : (d : Directory) (token : List ℕ) (before out : List Offer) (s : Server) (rest : List Armed) (w : World) → Did d token before s out w
     → Did d token before (record s { armed = rest }) out (record w { armed = queue_of rest })
 left d token before out s rest w did = record {
@@ -132,9 +132,9 @@ left d token before out s rest w did = record {
   offered = did.offered;
 }
 
--- ---- a deadline fires
+-- ---- a timer fires
 
--- of a message
+-- one of a transaction
 module _ (now : ℕ) (s : Server) (t : Transactions) (said : Due)
     (says : table.Does s.transactions t (λ h. fires h (next_due now (live h))) (λ h. said ≡ says_due (next_due now (live h)))) (out given : List Offer) where
   said_by : (h : List Done) → said ≡ says_due (next_due now (live h)) → IsBy now said
@@ -157,7 +157,7 @@ module _ (now : ℕ) (s : Server) (t : Transactions) (said : Due)
       (rings (said_by w.acts done.1) d token before fewer (acted d token before out s t w (fires w.acts (next_due now (live w.acts))) did done.0)
       (subst (λ (x : Due). IsShort (rung d token x fewer)) (sym done.1) short))
 
--- of a call: these are left
+-- one of a call: these remain
 module _ (deed : Directory → List ℕ → World → World) (s : Server) (rest : List Armed) (out now : List Offer) where
   pub on_left : (new : Server) → Follows (record s { armed = rest }) out new now deed → Follows s out new now (λ d token w. deed d token (record w { armed = queue_of rest }))
   on_left new follows d token before w did short = follows d token before (record w { armed = queue_of rest }) (left d token before out s rest w did) short

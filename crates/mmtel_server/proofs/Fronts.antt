@@ -1,4 +1,4 @@
--- The front of a run: what was done in it stands in front of what is done in the whole.
+-- The prefix of a run: what was done in it is a prefix of what is done in the whole.
 use Rattle.std.proofs.Common.{◌≡◌, ℕ, List, [], ◌∷◌, ◌++◌, refl, sym, ap, ◌∙◌, subst}
 use Rattle.mmtel_directory.specs.declared.directories.Directory.{Directory}
 use Rattle.mmtel_in_force.specs.Texts.{Texts}
@@ -31,7 +31,7 @@ module _ (d : Directory) (token : List ℕ) where
   -- ---- runs
 
   module _ (loaded : Texts) where
-    -- what is done in a run, where so many firings are enough
+    -- the state after a run, where so many firings are enough
     abbrev done : (fuel : ℕ) → List Happened → World
     done fuel happened = after d token fuel (notices d happened) (beginning loaded)
 
@@ -40,7 +40,7 @@ module _ (d : Directory) (token : List ℕ) where
         enough_both fuel (notices d es) (notices d more) (beginning loaded)
         (subst (λ (xs : List Notice). IsEnoughAfter d token fuel xs (beginning loaded)) (notices_both d es more) e)
 
-    -- all that is due was offered, by whatever count is enough
+    -- all that is due was output, by whatever count is enough
     pub offers_given : (before : List Offer) (es : List Happened) (fuel : ℕ) (s : Server) (out : List Offer)
         → Went d token loaded es before s out → IsEnough d token loaded fuel es → out ≡ before ++ gives d token loaded fuel es
     offers_given before es fuel s out went e = (stands_by d token loaded es before out s fuel went e).offered
@@ -65,18 +65,18 @@ module _ (d : Directory) (token : List ℕ) where
           subst (λ (u : World). Grows u (done m (es ++ more))) (sym same_front)
           (subst (λ (u : World). Grows (done m es) u) (sym whole) (after_grows m (notices d more) (done m es)))
 
-      -- what is few enough in the whole is so in the front
+      -- what is few enough in the whole is so in the prefix
       pub short_front : GivesAlways → (es more : List Happened) → IsShortRun d token loaded (es ++ more) → IsShortRun d token loaded es
       short_front always es more short fuel e =
           let found = always d token loaded (es ++ more) in
           short_of (done fuel es) (done found.0 (es ++ more)) (front_grows fuel found.0 es more e found.1) (short found.0 found.1)
 
-      -- what was offered in the front stands in front of what is due in the whole
+      -- the outputs of the prefix are a prefix of those that are due in the whole
       pub offers_front : (before : List Offer) (es more : List Happened) (fuel : ℕ) (s : Server) (out : List Offer)
           → Went d token loaded es before s out → IsEnough d token loaded fuel (es ++ more) → IsPrefixOf out (before ++ gives d token loaded fuel (es ++ more))
       offers_front before es more fuel s out went e =
           front_of before out (done went.fuel es) (done fuel (es ++ more)) (front_grows went.fuel fuel es more went.enough e) went.did.offered
 
-      -- and so it is of the offers of the run themselves
+      -- and so are the outputs of the run themselves
       pub gives_front : (es more : List Happened) (fuel : ℕ) → IsEnough d token loaded fuel (es ++ more) → IsPrefixOf (gives d token loaded fuel es) (gives d token loaded fuel (es ++ more))
       gives_front es more fuel e = (front_grows fuel fuel es more (enough_of_front fuel es more e) e).front

@@ -1,4 +1,4 @@
--- Nothing that was done is undone: each deed only adds. So what was few enough in the end was few enough before, and what was offered before stands in front of what is offered in the end.
+-- Nothing that was done is undone: each operation only adds. So what was few enough in the end was few enough before, and the outputs before are a prefix of the outputs in the end.
 use Rattle.std.proofs.Common.{◌≡◌, ℕ, ◌≤◌, ◌<◌, ◌^◌, List, [], ◌∷◌, ◌++◌, length, refl, sym, ap, ◌∙◌, arith, append-nil, append_assoc, subst, Option, Some, None}
 use Rattle.std.specs.Prelude.{Bool, true, false, OnErr, Result, Ok, Err}
 use Rattle.mmtel_answers.specs.Said.{Said}
@@ -49,11 +49,11 @@ use Rattle.mmtel_server.specs.Follows.{AllDrawOn, Breaks, Follows, brought_in, d
 use Rattle.mmtel_server.specs.Stands.{IsCut, IsPrefixOf}
 use Rattle.mmtel_server.specs.declared.servers.Server.{Server}
 
--- the second world has all that the first has
+-- the second state has all that the first has
 pub record Grows (v w : World) : Type 0 where
   pub acts : length v.acts ≤ length w.acts
   pub steps : v.steps ≤ w.steps
-  -- where not too many were drawn, as the calls count no further than numbers go
+  -- where not too many were drawn, since the calls count no further than the range of numbers
   pub drawn : w.drawn < 2 ^ 60 → v.drawn ≤ w.drawn
   pub front : IsPrefixOf v.offers w.offers
 
@@ -72,7 +72,7 @@ grows_on u v w a b = record {
   front = (a.front.0 ++ b.front.0, sym (append_assoc u.offers a.front.0 b.front.0) ∙ (ap (λ (os : List Offer). os ++ b.front.0) a.front.1 ∙ b.front.1));
 }
 
--- ---- single deeds
+-- ---- elementary operations
 
 pub adds : (os : List Offer) (w : World) → Grows w (offering os w)
 adds os w = record { acts = omega arith; steps = omega arith; drawn = λ less. omega arith; front = (os, refl) }
@@ -103,7 +103,7 @@ emits_all at (e ∷ es) w = grows_on w (emit_one at e w) (emitted at es (emit_on
 pub draws_emits : (n at : ℕ) (es : List Emit) (w : World) → Grows w (emitted at es (drawing n w))
 draws_emits n at es w = grows_on w (drawing n w) (emitted at es (drawing n w)) (draws n w) (emits_all at es (drawing n w))
 
--- ---- what is done on the calls
+-- ---- operations on the calls
 
 brings : (at : ℕ) (deed : Deed) (desk : Desk) (w : World) → (desk.tokens.drawn < 2 ^ 60 → w.drawn ≤ desk.tokens.drawn) → Grows w (bringing at deed desk w)
 brings at deed desk w on =
@@ -120,7 +120,7 @@ finishes law d token at call w = brings at (Finishes call.0 at (tokens_now token
 pub lends : (deed : Deed) (w : World) → Grows w (lending deed w)
 lends deed w = record { acts = omega arith; steps = omega arith; drawn = λ less. omega arith; front = ([], append-nil w.offers) }
 
--- ---- what is done on the mailboxes
+-- ---- operations on the mailboxes
 
 pub notes : (deed : box.Deed) (w : World) → Grows w (noting deed w)
 notes deed w = record { acts = omega arith; steps = omega arith; drawn = λ less. omega arith; front = ([], append-nil w.offers) }
@@ -128,7 +128,7 @@ notes deed w = record { acts = omega arith; steps = omega arith; drawn = λ less
 pub arms : (armed : Armed) (w : World) → Grows w (arming armed w)
 arms armed w = record { acts = omega arith; steps = omega arith; drawn = λ less. omega arith; front = ([], append-nil w.offers) }
 
--- ---- what is done on the rooms
+-- ---- operations on the conferences
 
 pub lodges : (at : ℕ) (deed : rooms.Deed) (desk : Desk) (w : World) → Grows w (lodging at deed desk w)
 lodges at deed desk w =
@@ -286,15 +286,15 @@ short_of v w g s = record { acts = omega (arith, g.acts, s.acts); steps = omega 
 pub front_of : (before out : List Offer) (v w : World) → Grows v w → out ≡ before ++ v.offers → IsPrefixOf out (before ++ w.offers)
 front_of before out v w g e = (g.front.0, ap (λ (os : List Offer). os ++ g.front.0) e ∙ (append_assoc before v.offers g.front.0 ∙ ap (λ (os : List Offer). before ++ os) g.front.1))
 
--- what stood there before stands in front of what stands there later
+-- what was in the list before is a prefix of what is in it later
 pub kept_of : (before out now : List Offer) (v w : World) → Grows v w → out ≡ before ++ v.offers → now ≡ before ++ w.offers → IsPrefixOf out now
 kept_of before out now v w g e f = subst (IsPrefixOf out) (sym f) (front_of before out v w g e)
 
--- a deed ended half way
+-- an operation ended half way
 pub cut_of : (before out now : List Offer) (u v w : World) → Grows u v → Grows v w → out ≡ before ++ u.offers → now ≡ before ++ v.offers → IsCut out now (before ++ w.offers)
 cut_of before out now u v w g h e f = (kept_of before out now u v g e f, front_of before now v w h f)
 
--- a front of a front
+-- a prefix of a prefix
 pub front_on : (xs ys zs : List Offer) → IsPrefixOf xs ys → IsPrefixOf ys zs → IsPrefixOf xs zs
 front_on xs ys zs a b = (a.0 ++ b.0, sym (append_assoc xs a.0 b.0) ∙ (ap (λ (os : List Offer). os ++ b.0) a.1 ∙ b.1))
 
@@ -303,7 +303,7 @@ pub stops : (f : Directory → List ℕ → World → World) (old : Server) (out
     → Breaks old out now f
 stops f old out now grows e d token before w did short = cut_of before out now w w (f d token w) (same w) (grows d token w) did.offered (e ∙ did.offered)
 
--- one deed after another
+-- one operation after another
 pub followed : (f g : Directory → List ℕ → World → World) (old mid new : Server) (out between now : List Offer)
     → ((d : Directory) (token : List ℕ) (w : World) → Grows w (g d token w)) → Follows old out mid between f → Follows mid between new now g
     → Follows old out new now (λ d token w. g d token (f d token w))
@@ -322,7 +322,7 @@ pub on_err : {A E : Type 0} (r : Result A E) (P : Type 0) → P → OnErr r P
 on_err (Ok x) P p = tt
 on_err (Err e) P p = p
 
--- the same of a call that offers all or nothing
+-- the same for a call that outputs all or nothing
 pub stops_on : {A E : Type 0} (r : Result A E) (f : Directory → List ℕ → World → World) (old : Server) (out now : List Offer)
     → ((d : Directory) (token : List ℕ) (w : World) → Grows w (f d token w)) → OnErr r (now ≡ out) → OnErr r (Breaks old out now f)
 stops_on (Ok x) f old out now grows e = tt

@@ -1,4 +1,4 @@
--- The rows that wait at the end of an event, handed to the keeper.
+-- The CDRs that wait at the end of an event, handed to the keeper.
 use Rattle.std.proofs.Common.{◌≡◌, ◌∷◌, ◌++◌, [], ℕ, Bool, true, false, List, refl, sym, subst}
 use Rattle.mmtel_charging.specs.declared.rows.Row.{Row}
 use Rattle.mmtel_directory.specs.declared.directories.Directory.{Directory}
@@ -13,7 +13,7 @@ pub hands_none : (rows : List Row) (w : World) → handing false rows w ≡ w
 hands_none [] w = refl
 hands_none (row ∷ rows) w = refl
 
--- the server and the world with other rows that wait stand for one another where those are the same
+-- the server with other CDRs that wait represents the state with other ones, where these are the same
 module _ (s : Server) (d : Directory) (token : List ℕ) (before out : List Offer) (w : World) (did : Did d token before s out w) where
   waiting_so : (here there filed : List Row) → here ≡ there → Did d token before (record s { waiting = here }) out (record w { waiting = there; filed = filed })
   waiting_so here there filed same = record {
@@ -37,7 +37,7 @@ module _ (s : Server) (d : Directory) (token : List ℕ) (before out : List Offe
     offered = did.offered;
   }
 
-  -- where none waited, none does; else the keeper took all of them or none
+  -- where none waited, none does; else the keeper accepted all of them or none
   handed : (took : Bool) (rows : List Row) → rows ≡ w.waiting → Did d token before (record s { waiting = left_of took s.waiting }) out (handing took rows w)
   handed false [] none = waiting_so s.waiting w.waiting w.filed did.stands.waiting
   handed true [] none = waiting_so [] w.waiting w.filed none

@@ -1,4 +1,4 @@
--- What is heard of a link, turn after turn, and how often it is called.
+-- What is received from a link, turn after turn, and how often it is called.
 use Rattle.std.proofs.Common.{◌≡◌, ◌+◌, ◌≤◌, ℕ, zero, suc, Bool, false, List, [], ◌∷◌, ◌++◌, drop, length, slice_get, take, refl, sym, ap, ◌∙◌, subst, append-nil, append_assoc, length-append, Option, Some, None, Result, Ok, Err, arith, inl, inr}
 use Rattle.std.specs.Prelude.{◌⊎◌}
 use Rattle.std.proofs.lemmas.List.{take-take}
@@ -36,7 +36,7 @@ drop_next [] n e next = absurd cc
 drop_next (x ∷ es) zero e next = let same : x ≡ e = cc in ap (λ (y : Event). y ∷ es) same
 drop_next (x ∷ es) (suc n) e next = drop_next es n e next
 
--- no event more
+-- no further event
 each_none : (giving gave : ℕ) (es : List Event) → gave ≡ giving → EachRead giving gave es []
 each_none giving gave [] stands = stands
 each_none giving gave (e ∷ es) stands = stands
@@ -79,7 +79,7 @@ came_quiet (Some ear) later giving at h = (
   read_one ear 0 false (event.Quiet at) h.0 later giving giving h.1 refl,
 )
 
--- what was needed of the bytes that were read was needed of all
+-- what was needed for the bytes that were read was needed for all
 needed_of : (whole bytes : List ℕ) → take (length bytes) whole ≡ bytes → IsNeeded (length bytes) bytes → IsNeeded (length bytes) whole
 needed_of whole bytes these (inl none) = inl none
 needed_of whole bytes these (inr last) =
@@ -250,7 +250,7 @@ pub last_failed : (T : Type 0) (calls later : Option LinkCalls) (e : Failed) →
 last_failed T None later e made = subst LastFailed (sym made) tt
 last_failed T (Some calls) later e made = subst LastFailed (sym made.0) (calls, refl, made.1)
 
--- want of memory says nothing of it
+-- nothing is stated of it where memory runs out
 pub none_failed : {T : Type 0} (calls : Option LinkCalls) (r : Result T DriveFault) → IsErrAnd r (λ e. e ≡ fault.NoMemory) → HasFailedByNumber calls r
 none_failed calls (Ok x) is = tt
 none_failed calls (Err fault.LinkFault) is = absurd cc

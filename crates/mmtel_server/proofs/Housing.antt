@@ -1,4 +1,4 @@
--- What is done on the rooms of a server, with the rows that it closed taken from them.
+-- Operations on the conferences of a server, with the CDRs that they closed removed.
 use Rattle.std.proofs.Common.{◌≡◌, ℕ, List, [], ◌∷◌, ◌++◌, length, drop, refl, sym, ap, ◌∙◌, subst, arith}
 use Rattle.std.proofs.lemmas.List.{drop_all}
 use Rattle.mmtel_charging.specs.declared.rows.Row.{Row}
@@ -21,24 +21,24 @@ use Rattle.mmtel_server.specs.Follows.{RoomsDo, RoomsOpen, housed_in, lodged_in}
 use Rattle.mmtel_server.specs.Stands.{Did, rooms_of}
 use Rattle.mmtel_server.specs.declared.servers.Server.{Server}
 
--- the rooms of the server stand for what was done on them
+-- the conferences of the server represent the operations on them
 abbrev StandsFor : Server → RoomsView → List Deed → Type 0
 StandsFor s view deeds = histories.Stands s.directory.peers s.directory.names.accounts view deeds
 
 abbrev site_in : Server → RoomsView → Site
 site_in s view = site_of view s.directory.peers s.directory.names.accounts
 
--- the rows that a deed closes stand behind those that stand there
+-- the CDRs that an operation closes come after those that were there
 abbrev pub Closes : Deed → Type 0
 Closes deed = (site : Site) (table : Table) → (did site deed table).rows ≡ table.rows ++ (effects_of site deed table).desk.rows
 
--- the rows were taken from the rooms
+-- the CDRs were removed from the conferences
 pub record Taken (mid new : RoomsView) (before after : List Row) : Type 0 where
   pub waiting : after ≡ before ++ mid.table.rows
   pub done : (peers : Peers) (accounts : List AccountIdentity) (deeds : List Deed) → histories.Stands peers accounts mid deeds → histories.Stands peers accounts new (Drops (length mid.table.rows) ∷ deeds)
   pub site : (peers : Peers) (accounts : List AccountIdentity) → site_of new peers accounts ≡ site_of mid peers accounts
 
--- a deed was done that is given these tokens, and its rows were taken
+-- an operation was done with these tokens, and its CDRs were removed
 module _ (f : Drawn → Deed) (s : Server) (mid new : RoomsView) (waiting : List Row)
     (done : (deeds : List Deed) → StandsFor s s.rooms deeds → StandsFor s mid (f s.tokens ∷ deeds))
     (stays : (peers : Peers) (accounts : List AccountIdentity) → site_of mid peers accounts ≡ site_of s.rooms peers accounts)
@@ -74,7 +74,7 @@ module _ (f : Drawn → Deed) (s : Server) (mid new : RoomsView) (waiting : List
         ∙ (ap (λ (t : Site). table_after t (f s.tokens ∷ w.rooms)) mid_site
         ∙ ap (λ (t : Drawn). table_after (rooms_site d) (f t ∷ w.rooms)) have.stands.tokens)
 
-    -- the rows that it closed are all that stand there
+    -- the CDRs that it closed are all that are there
     these : (did (rooms_site d) deed (rooms_in d w)).rows ≡ desk.rows
     these = closes (rooms_site d) (rooms_in d w) ∙ ap (λ (rows : List Row). rows ++ desk.rows) have.stands.cleared
 
@@ -162,7 +162,7 @@ module _ (f : Drawn → Deed) (s : Server) (mid new : RoomsView) (waiting : List
         offered = have.offered;
       }
 
-  -- it brings these forth
+  -- these are its commands
   module _ (emits : List Emit) (sent : (deeds : List Deed) → StandsFor s s.rooms deeds → emits ≡ (brought_after (site_in s s.rooms) deeds (f s.tokens)).desk.out) where
     pub opens : (deed : Deed) → ((t : Drawn) → f t ≡ deed) → Closes deed → RoomsOpen s (record s { rooms = new; waiting = waiting }) (λ d token w. deed) emits
     opens deed is closes d token before out w have =

@@ -1,4 +1,4 @@
--- What the keeper was asked, event after event, and what it holds then.
+-- How the keeper was called, event after event, and what it holds then.
 use Rattle.std.proofs.Common.{◌≡◌, ◌≤◌, ℕ, suc, Bool, true, false, List, [], ◌∷◌, ◌++◌, length, refl, sym, ap, ◌∙◌, subst, append-nil, append_assoc, Option, Some, None, Result, Ok, Err, OnErr, arith, inl}
 use Rattle.std.proofs.lemmas.Bool.{false≢true}
 use Rattle.std.specs.Option.{option_map, option_to_list}
@@ -30,9 +30,9 @@ use Rattle.mmtel_server.specs.declared.servers.Server.{Server}
 use Rattle.mmtel_server.proofs.Charging.{untaken}
 use Rattle.mmtel_server.proofs.Runs.{after_last}
 
--- ---- one event more
+-- ---- one more event
 
--- the same from a keeper that holds and was called the same
+-- the same from a keeper with the same contents and calls
 one_from : (names : WebDirectory) (one : Happened) (old mid new : KeeperSeen) → mid.held ≡ old.held → mid.calls ≡ old.calls → AnswersOne names one mid new → AnswersOne names one old new
 one_from names one old mid new held calls answered = record {
   between = answered.between;
@@ -64,7 +64,7 @@ counted_then (x ∷ xs) ys old between new first second = (first.0, first.1, cou
 pub counted_one : (one : Happened) (old asked new : ℕ) → Counted one.kept old asked → HandedCounted one.took asked new → EachCounted (one ∷ []) old new
 counted_one one old asked new counted handed = (new, record { between = asked; counted = counted; handed = handed }, refl)
 
--- ---- one that was not done to its end
+-- ---- one that was not processed to its end
 
 pub answers_last : (names : WebDirectory) (xs : List Happened) (one : Happened) (old mid new : KeeperSeen) (asked : Option KeeperCalls)
     → one.took ≡ false → EachAnswers names xs old mid → Answers (call_of names one.event) one.kept one.rows mid.held new.held mid.calls asked → MayBeCalled asked new.calls
@@ -78,18 +78,18 @@ counted_last xs one old between new first counted =
 
 -- ---- events that were lost as they were read
 
--- nothing was asked
+-- the keeper was not called
 lost_answers : (call : Call) (held : Option Held) (calls : Option KeeperCalls) → Answers call no_memory [] held held calls calls
 lost_answers none held calls = (λ same. cc, (refl, refl))
 lost_answers (stores account text) held calls = (refl, inl refl)
 lost_answers asks held calls = (refl, inl refl)
 
--- and where memory runs out before anything was
+-- and where memory runs out before any call
 pub met_unasked : {T E : Type 0} (r : Result T E) (call : Call) (held : Option Held) (calls : Option KeeperCalls) (faults : ℕ) → OnErr r (Met call held held calls calls faults faults)
 met_unasked (Ok x) call held calls faults = tt
 met_unasked (Err e) call held calls faults = record { kept = no_memory; rows = []; answers = lost_answers call held calls; counted = refl }
 
--- and no row was taken
+-- and no CDR was accepted
 abbrev pub lost_event : Event → Happened
 lost_event e = happened_in e no_memory [] false
 
@@ -124,13 +124,13 @@ pub counted_lost : (xs : List Happened) (es : List Event) (faults count : ℕ) �
 counted_lost xs es faults count one first =
     record { done = xs; last = lost_events es; parts = refl; between = count; each = first; rest = last_counted es count one }
 
--- ---- what it holds
+-- ---- its contents
 
--- such sheets and such rows
+-- these sheets and these CDRs
 abbrev holding : Texts → List Row → Option Held
 holding sheets rows = let h : Held = record { sheets = sheets; rows = rows } in Some h
 
--- nothing was put over it
+-- nothing was put over them
 pub unchanged : (held : Option Held) → held ≡ option_map (with_all [] []) held
 unchanged None = refl
 unchanged (Some h) = ap (λ (rows : List Row). holding h.sheets rows) (sym (append-nil h.rows))
@@ -170,14 +170,14 @@ by_web web.Charges made rows held left calls after a = a.0 ∙ unchanged held
 by_web web.Charges failed rows held left calls after a = a.0 ∙ unchanged held
 by_web web.Charges no_memory rows held left calls after a = a.0 ∙ unchanged held
 
--- by what was asked of it in an event
+-- by how it was called in an event
 holds_asked : (names : WebDirectory) (e : Event) (kept : Kept) (rows : List Row) (held left : Option Held) (calls after : Option KeeperCalls) → Answers (call_of names e) kept rows held left calls after
     → left ≡ option_map (with_all (option_to_list (upload_at names e kept)) []) held
 holds_asked names (event.Datagram from at bytes) kept rows held left calls after a = a.1.0 ∙ unchanged held
 holds_asked names (event.Web at bytes) kept rows held left calls after a = by_web (web_of names [] (request_of bytes)) kept rows held left calls after a
 holds_asked names (event.Quiet at) kept rows held left calls after a = a.1.0 ∙ unchanged held
 
--- of the rows that were handed to it, it holds those that it took
+-- of the CDRs that were handed to it, it holds those that it accepted
 holds_handed : (took : Bool) (waiting : List Row) (held left : Option Held) (calls after : Option KeeperCalls) → Handed took waiting held left calls after
     → left ≡ option_map (with_all [] (taken_of took waiting)) held
 holds_handed true [] held left calls after handed = handed.1.0 ∙ unchanged held
@@ -195,7 +195,7 @@ holds_one names one waiting held asked left calls midst after answers handed =
     ∙ (ap (λ (h : Option Held). option_map (with_all [] (taken_of one.took waiting)) h) (holds_asked names one.event one.kept one.rows held asked calls midst answers)
     ∙ all_then put [] [] (taken_of one.took waiting) held)
 
--- in one event in which it took no rows
+-- in one event in which it accepted no CDRs
 holds_no_more : (names : WebDirectory) (one : Happened) (held left : Option Held) (calls midst : Option KeeperCalls) → Answers (call_of names one.event) one.kept one.rows held left calls midst
     → left ≡ option_map (with_all (uploads_of names (one ∷ [])) []) held
 holds_no_more names one held left calls midst answers =

@@ -1,4 +1,4 @@
--- What is so of a value, where it is known.
+-- What holds for a value, where it is known.
 use Rattle.std.proofs.Common.{◌≡◌, subst, Option, Some, Result, Ok, Err}
 use Rattle.std.specs.Prelude.{IfErr, IfOk, IfSome, OnErr}
 

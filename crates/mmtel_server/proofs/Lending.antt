@@ -23,7 +23,7 @@ use Rattle.mmtel_server.specs.Follows.{Breaks, Follows}
 use Rattle.mmtel_server.specs.Stands.{Did}
 use Rattle.mmtel_server.specs.declared.servers.Server.{Server}
 
--- ---- where no leg comes out, nothing has changed
+-- ---- where no leg is taken out, nothing has changed
 
 unlent : (phase : Phase) (side : Side) (c : Call) → taken_out_in phase side ≡ None → lent_in phase side c ≡ c
 unlent (Offered x) side c h = refl
@@ -34,7 +34,7 @@ unlent (Stood x (Asking asking q)) side c h = refl
 unlent (Lent loan) side c h = refl
 unlent (Over cause) side c h = refl
 
--- the item that stands at a place is put there
+-- the item at a position is put there again
 set_back : {A : Type 0} → (l : List A) (i : ℕ) (b : A) → slice_get l i ≡ Some b → slice_set l i b ≡ l
 set_back [] i b there = cc
 set_back (x ∷ l) zero b there = cc
@@ -55,9 +55,9 @@ unreleased : (number : ℕ) (side : Side) (es : List Entry) → leg_out number s
 unfolding released
 unreleased number side es h = unlent_by side (place_of number es) es h
 
--- ---- the calls after such a deed
+-- ---- the calls after such an operation
 
--- a deed that files no row
+-- an operation that files no CDR
 module _ (deed : Deed) (files : (site : Site) (table : Table) → (did site deed table).rows ≡ table.rows) (s : Server) (calls : CallsView)
     (done : (peers : Peers) (accounts : List AccountIdentity) (deeds : List Deed) → histories.Stands peers accounts s.calls deeds → histories.Stands peers accounts calls (deed ∷ deeds))
     (stays : (peers : Peers) (accounts : List AccountIdentity) → site_in calls peers accounts ≡ site_in s.calls peers accounts) where
@@ -143,7 +143,7 @@ module _ (deed : Deed) (files : (site : Site) (table : Table) → (did site deed
       → Breaks s out out2 (λ d token w. g d token (lending deed w))
   breaks_lent g out out2 breaks d token before w did_it short = breaks d token before (lending deed w) (lent_once d token before out w did_it) short
 
--- no leg comes out: what is done from there on is done as things stood
+-- no leg is taken out: what is done from there on is done in the unchanged state
 module _ (number : ℕ) (side : Side) (s : Server) (calls : CallsView) (none : leg_out number side s.calls.table.entries ≡ None)
     (done : (peers : Peers) (accounts : List AccountIdentity) (deeds : List Deed) → histories.Stands peers accounts s.calls deeds → histories.Stands peers accounts calls (Releases number side ∷ deeds))
     (stays : (peers : Peers) (accounts : List AccountIdentity) → site_in calls peers accounts ≡ site_in s.calls peers accounts) where

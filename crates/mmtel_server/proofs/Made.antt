@@ -1,4 +1,4 @@
--- What is made of the events that came, turn after turn, but for what is offered.
+-- The effect of the events that came, turn after turn, but for the outputs.
 use Rattle.std.proofs.Common.{◌≡◌, ◌+◌, ◌<◌, ◌≤◌, ℕ, Bool, true, false, List, [], ◌∷◌, ◌++◌, length, refl, sym, ap, ◌∙◌, subst, append-nil, append_assoc, length-append, Option, Ok, Err, arith}
 use Rattle.std.specs.Option.{option_map}
 use Rattle.mmtel_charging.specs.declared.rows.Row.{Row}
@@ -39,7 +39,7 @@ events_both : (xs ys : List Happened) → events_in (xs ++ ys) ≡ events_in xs 
 events_both [] ys = refl
 events_both (x ∷ xs) ys = ap (λ (es : List Event). x.event ∷ es) (events_both xs ys)
 
--- ---- what calls come to, and what is sent
+-- ---- the outcomes of calls, and what is sent
 
 came : CallsOfRunsComeToOutcome → (happened : List Happened) (old : Server) → CameToOutcome happened old
 came law happened old d token loaded es serves short = law d token loaded (es ++ happened) short
@@ -55,7 +55,7 @@ sent law happened old d token loaded es serves short home text = law d token loa
 serves_nothing : (s : Server) → ServesOn [] s s
 serves_nothing s d token loaded es serves short = subst (λ (l : List Happened). Serves d token loaded l s) (sym (append-nil es)) serves
 
--- of all of these and then of these the front is few enough, and the rest begins where it ended
+-- with all of these and then these, the prefix is few enough, and the rest begins where it ended
 module _ (law : AllDrawOn) (always : GivesAlways) (xs ys : List Happened) where
   pub whole : (es : List Happened) → es ++ (xs ++ ys) ≡ (es ++ xs) ++ ys
   whole es = sym (append_assoc es xs ys)
@@ -81,7 +81,7 @@ module _ (law : AllDrawOn) (always : GivesAlways) (xs ys : List Happened) where
         (one d token loaded es serves (few_first d token loaded es short))
         (more d token loaded (es ++ xs) (there d token loaded es serves short) (few d token loaded es short))
 
-    -- the keeper holds what was kept and filed in both
+    -- the keeper holds what was stored and filed in both
     pub holds_then : (held mid left : Option Held) → HoldsUploads xs s held mid → HoldsUploads ys t mid left → HoldsUploads (xs ++ ys) s held left
     holds_then held mid left one more d token loaded es fuel enough serves short =
         let enough_here : IsEnough d token loaded fuel ((es ++ xs) ++ ys) = subst (λ (l : List Happened). IsEnough d token loaded fuel l) (whole es) enough in
@@ -97,12 +97,12 @@ module _ (law : AllDrawOn) (always : GivesAlways) (xs ys : List Happened) where
               ∙ ap (λ (uploads : Texts). option_map (with_all uploads (front.0 ++ rest.0)) held) (sym (uploads_both d.names xs ys)))),
         )
 
--- ---- what the keeper did
+-- ---- the effect on the keeper
 
 asked_nothing : (s : Server) (keeper : KeeperSeen) → AnswersAll [] s keeper keeper
 asked_nothing s keeper d token loaded es serves short = (refl, refl)
 
--- what it holds after one event that was done
+-- what it holds after one event that was processed
 holds_step : (old new : StepState) (e : Event) → (step : Stepped e old new) → HoldsUploads (happened_in e step.kept step.rows step.took ∷ []) old.server old.keeper.held new.keeper.held
 holds_step old new e step d token loaded es fuel enough serves short =
     let waited = step.waited d token loaded es fuel serves short enough in (
@@ -131,7 +131,7 @@ module _ (laws : RunLaws) (start : ServingState) where
         subst (λ (es : List Event). HeardMore start.link.ear later es) (sym (events_both happened ys))
         (heard_then start.link.ear mid.link.ear later (events_in happened) (events_in ys) m.told told)
 
-    -- one turn took an event, and it was done
+    -- one turn received an event, and it was processed
     pub made_more : (new : ServingState) (out offers : List Offer) (e : Event) → HeardMore mid.link.ear new.link.ear (e ∷ [])
         → (step : Stepped e (step_of mid out) (step_of new offers)) → MadeSoFar (happened ++ happened_in e step.kept step.rows step.took ∷ []) (turns + 1) start new
     made_more new out offers e told step =
@@ -151,7 +151,7 @@ module _ (laws : RunLaws) (start : ServingState) where
         }
 
     module _ (most : ℕ) where
-      -- it was not done to its end
+      -- it was not processed to its end
       pub made_broken : turns < most → (new : ServingState) (e : Event) (Broke : Kept → List Row → Type 0) → HeardMore mid.link.ear new.link.ear (e ∷ [])
           → (met : StoppedAt Broke (λ kept rows between. (took : Bool) → AskedIn mid.server (happened_in e kept rows took) mid.keeper between) mid.keeper new.keeper)
           → MadeOf (happened ++ happened_in e met.kept met.rows false ∷ []) most start new (Err NoMemory)
@@ -182,12 +182,12 @@ module _ (laws : RunLaws) (start : ServingState) where
             clean = sent laws.clean (happened ++ one ∷ []) start.server;
           }
 
-      -- where the link alone has gone on since
+      -- where only the link has changed since
       module _ (link : LinkSeen) where
         abbrev since : ServingState
         since = record { link = link; keeper = mid.keeper; server = mid.server }
 
-        -- memory ran out before it was read to its end
+        -- memory ran out before the connection was read to its end
         pub made_lost : (es : List Event) → length es ≤ 1 → turns + length es ≤ most → HeardMore mid.link.ear link.ear es
             → MadeOf (happened ++ lost_events es) most start since (Err NoMemory)
         made_lost es one less told =
@@ -234,7 +234,7 @@ module _ (laws : RunLaws) (start : ServingState) where
           clean = sent laws.clean happened start.server;
         }
 
-      -- the turns were made
+      -- the turns were done
       pub made_all : turns ≡ most → MadeOf happened most start mid (Ok false)
       made_all all = record {
         told = m.told;

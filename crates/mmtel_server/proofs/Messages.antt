@@ -1,4 +1,4 @@
--- A message that is heard, told by what the transactions gave.
+-- A message that is received, by how the transactions classified it.
 use Rattle.std.proofs.Common.{◌≡◌, ℕ, ◌++◌, Bool, List, true, false, refl, ap, ◌∙◌, sym, subst, length, Option, Some, None}
 use Rattle.std.proofs.lemmas.Option.{none-some, same_Some}
 use Rattle.std.specs.List.{find}
@@ -32,7 +32,7 @@ use Rattle.mmtel_server.specs.Follows.{AllDrawOn, Breaks, Follows, IsTaken}
 use Rattle.mmtel_server.specs.Stands.{Did, IsCut}
 use Rattle.mmtel_server.specs.declared.servers.Server.{Server}
 
--- ---- what is said of a message is said of it
+-- ---- the message that the transactions return is the one that was passed to them
 
 module _ (peer : Peer) (m : Message Start) (taken : Heard) where
   by : (x : Heard) → Some taken ≡ Some x → IsTaken m x → IsTaken m taken
@@ -52,9 +52,9 @@ module _ (peer : Peer) (m : Message Start) (taken : Heard) where
   taken_so k es part.AckOf2xx e = by (heard.AckOf2xx m) e refl
   taken_so k es part.Stray e = by heard.Stray e tt
 
--- ---- the server hears
+-- ---- the server receives it
 
--- the transactions stand for one more call
+-- the transactions represent one more operation
 goes_on : (d : Directory) (token : List ℕ) (before : List Offer) (s : Server) (t : Transactions) (out : List Offer) (w : World) (h : List Done) → Did d token before s out w → Stands t h
     → Did d token before (record s { transactions = t }) out (record w { acts = h })
 goes_on d token before s t out w h did stands = record {
@@ -106,7 +106,7 @@ module _ (law : AllDrawOn) (few : FewAreOpened) (s : Server) (t : Transactions) 
   heard_cut out2 breaks = subst (λ (x : World). IsCut out out2 (before ++ x.offers)) same
       (breaks m back d token before (record w { acts = hears w.acts peer m at }) went (subst IsShort (sym same) short))
 
--- one message too many
+-- a message beyond the capacity
 pub full_done : (s : Server) (t : Transactions) (s2 : Server) (out out2 : List Offer) (at : ℕ) (peer : Peer) (source : Addr) (trusted : Bool) (m x : Message Start) (f : HearFault)
     → Stays s.transactions t (λ h. IsRefusal (part_of (head_of m) (live h)) m f) → f ≡ fault.Full x
     → Follows (record s { transactions = t }) out s2 out2 (λ d token. answering d token at (said peer source trusted x) None)

@@ -1,4 +1,4 @@
--- Which web connections were read out, and what is not read of one that was.
+-- Which web connections were read to the end of their request, and the bytes that are not read of one that was.
 use Rattle.std.proofs.Common.{◌≡◌, ℕ, List, [], ◌∷◌, drop, take, refl, sym, ap, ◌∙◌, subst, arith, inl, inr}
 use Rattle.std.proofs.lemmas.List.{take-append-drop}
 use Rattle.mmtel_http.specs.Requests.{Request, request_of, unfinished, whole_of}
@@ -18,7 +18,7 @@ rose_on a b c n (event.Web at bytes) rose (needed, inl read) = subst (λ (k : �
 rose_on a b c n (event.Web at bytes) rose (needed, inr more) = omega (arith, rose, more)
 rose_on a b c n (event.Quiet at) rose read = subst (λ (k : ℕ). Rose a k) (sym read) rose
 
--- a count that rose has risen still after more
+-- a count that rose has still risen after more
 still_rose : (a b c : ℕ) (events : List Event) (reads : List ℕ) → Rose a b → EachRead b c events reads → Rose a c
 still_rose a b c [] [] rose each = subst (λ (n : ℕ). Rose a n) (sym each) rose
 still_rose a b c (e ∷ events) [] rose each = subst (λ (n : ℕ). Rose a n) (sym each) rose

@@ -1,4 +1,4 @@
--- How a web connection is read: what a read adds to what was read of it, and when it is read out.
+-- How a web connection is read: what a read adds to the bytes that were read from it, and when it is read to the end of its request.
 use Rattle.std.proofs.Common.{◌≡◌, ◌≢◌, ◌+◌, ◌<◌, ◌≤◌, ℕ, min, Bool, true, false, List, [], ◌∷◌, ◌++◌, length, take, drop, slice_get, refl, sym, ap, ◌∙◌, subst, length-append, Option, Some, None, Result, Ok, Err, arith, inl, inr}
 use Rattle.std.specs.Result.{IsErr}
 use Rattle.std.proofs.Math.Seq.{take-add}
@@ -31,7 +31,7 @@ current_more events (n ∷ reads) count =
     let long : length (reads ++ count ∷ []) ≡ length (n ∷ reads) = omega (arith, length-append reads (count ∷ [])) in
     ap (λ (i : ℕ). slice_get events i) long
 
--- what is still to be read of it
+-- what is still to be read from it
 unread_is : (ear : Ear) (count : ℕ) → unread (read_to ear count false) ≡ drop count (web_bytes (coming ear))
 unread_is ear count =
     ap (λ (n : ℕ). drop n (web_bytes (current ear.events (ear.reads ++ count ∷ [])))) (last_more ear.reads count)
@@ -50,7 +50,7 @@ module _ (ear : Ear) (bytes room filled : List ℕ) where
   read_there : (later : Option Ear) (n : ℕ) → later ≡ Some (record here { reads = more_of_last n here.reads }) → later ≡ Some (read_to ear (length bytes + n) false)
   read_there later n is = is ∙ ap (λ (reads : List ℕ). Some (record here { reads = reads })) (adds_more ear.reads (length bytes) n)
 
-  -- they stand behind those that were read before
+  -- they come after those that were read before
   adds_on : (n : ℕ) → n ≤ length filled → take (length bytes) all ≡ bytes → take n filled ≡ take n (drop (length bytes) all) → take (length (bytes ++ take n filled)) all ≡ bytes ++ take n filled
   adds_on n less front next =
       let some : length (take n filled) ≡ n = length-take-le n filled less in
@@ -60,7 +60,7 @@ module _ (ear : Ear) (bytes room filled : List ℕ) where
       ∙ (ap (λ (l : List ℕ). l ++ take n (drop (length bytes) all)) front
       ∙ ap (λ (l : List ℕ). bytes ++ l) (sym next)))
 
-  -- a read that gives nothing comes at its end
+  -- a read that returns nothing is at its end
   nothing_left : 0 < length room → 0 ≡ min (length room) (length (drop (length bytes) all)) → take (length bytes) all ≡ all
   nothing_left some none = let l = length-drop (length bytes) all in take_all (length bytes) all (omega (arith, l, some, none))
 
@@ -91,7 +91,7 @@ read_ends (Some ear) now later giving gave bytes room filled some stands told is
     let P : Option Ear → Type 0 = λ o. ReadTold o later room filled (Ok 0) in
     end_of ear bytes room filled later giving gave some stands is.1 (subst P is.0 told)
 
--- memory ran out behind a read
+-- memory ran out after a read
 pub read_lost : (ear now later : Option Ear) (giving gave : ℕ) (bytes more room filled : List ℕ) (n : ℕ) (r : Result Bool NoMemory) → IsErr r → ReadTold now later room filled (Ok n)
     → IsReading ear now bytes → ReadsOn ear later giving gave more r
 read_lost ear now later giving gave bytes more room filled n (Ok b) e told is = absurd cc
@@ -122,7 +122,7 @@ is_more bad e = absurd cc
 is_more large e = absurd cc
 is_more (asked a) e = absurd cc
 
--- what was read is a request, or can be none
+-- what was read is a request, or cannot become one
 pub read_whole : (ear now : Option Ear) (giving gave : ℕ) (bytes : List ℕ) → false ≡ is_unfinished (request_of bytes) → gave ≡ giving → IsReading ear now bytes → HasRead ear now giving gave (Ok bytes)
 read_whole None now giving gave bytes whole stands is = is
 read_whole (Some ear) now giving gave bytes whole stands is =
@@ -137,7 +137,7 @@ more_of bad e = absurd cc
 more_of large e = absurd cc
 more_of (asked a) e = absurd cc
 
--- one more read was needed behind bytes that are no whole request
+-- one more read was needed after bytes that are no complete request
 pub read_needed : (bytes more : List ℕ) → is_unfinished (request_of bytes) ≡ true → Grows bytes more true → IsNeeded (length more) more
 read_needed bytes more unfinished_yet grows =
     let same : whole_of (request_of (take (length bytes) more)) ≡ More = ap (λ (l : List ℕ). whole_of (request_of l)) grows.2 ∙ more_of (request_of bytes) unfinished_yet in

@@ -1,4 +1,4 @@
--- What is done with records and registrations.
+-- Operations on records and registrations.
 use Rattle.std.proofs.Common.{◌≡◌, ◌++◌, ◌∷◌, [], ℕ, true, List, Option, refl, sym, inl, ap, ◌∙◌, append_assoc}
 use Rattle.std.proofs.lemmas.Bool.{false≢true}
 use Rattle.mmtel_charging.specs.declared.rows.Row.{Row}
@@ -95,7 +95,7 @@ module _ (s : Server) (r : Held) where
 apart : no_memory ≡ failed → ⊥
 apart e = cc
 
--- where memory runs out before anything is asked of it
+-- where memory runs out before it is called
 pub unasked_answers : (call : Call) (held : Option Keeper.Held) (calls : Option KeeperCalls) → Answers call no_memory [] held held calls calls
 unasked_answers none held calls = (λ e. absurd (apart e), (refl, refl))
 unasked_answers (stores account text) held calls = (refl, inl refl)

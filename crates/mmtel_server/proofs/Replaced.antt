@@ -1,4 +1,4 @@
--- What is put in the place for which room was made stands behind the rest.
+-- What is put into the reserved place comes after the rest.
 use Rattle.std.proofs.Common.{◌≡◌, ◌∙◌, ◌++◌, ℕ, List, [], ◌∷◌, length, slice_set}
 use Rattle.std.proofs.Math.Seq.{set-append_seam}
 use Rattle.mmtel_outside.specs.declared.events.Offer.{Offer}

@@ -1,4 +1,4 @@
--- What is done on the rooms, part after part: what each part keeps, the whole keeps.
+-- Operations on the conferences, part after part: what each part preserves, the whole preserves.
 use Rattle.std.proofs.Common.{◌≡◌, ℕ, List, [], ◌∷◌, refl, Option, Some, None, Bool, true, false, Result, Ok, Err}
 use Rattle.mmtel_answers.specs.Said.{Said}
 use Rattle.mmtel_b2bua.specs.Histories.{Deed, Releases, Restores}
@@ -41,7 +41,7 @@ module _ (R : World → World → Type 0) (on : (u v w : World) → R u v → R 
   pub notices : (room : RoomNo) (seat code : ℕ) (w : World) → R w (noticed d token at room seat code w)
   notices room seat code w = houses (rooms.Notifies room.0 seat code (tokens_now token w)) w refl
 
-  -- ---- who comes
+  -- ---- who joins
 
   pub turns_away : (key : TKey) (s : Said) (tag : List ℕ) (code : ℕ) (w : World) → R w (turned_away d at key s tag code w)
   turns_away key s tag code w = emits (emit.Reply key (response_to d.sip tag s (plainly code)) ∷ []) w

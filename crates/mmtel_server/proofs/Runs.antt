@@ -1,4 +1,4 @@
--- A run of one event more: what it is enough for, and what a server that went through the shorter one has gone through then.
+-- A run with one more event: how many firings are enough for it, and that a server which went through the shorter one has gone through it.
 use Rattle.std.proofs.Common.{◌≡◌, ℕ, max, Bool, List, [], ◌∷◌, ◌++◌, false, refl, sym, ap, ◌∙◌, subst, append-nil, None}
 use Rattle.mmtel_directory.specs.declared.directories.Directory.{Directory}
 use Rattle.mmtel_charging.specs.declared.rows.Row.{Row}
@@ -38,14 +38,14 @@ module _ (d : Directory) (token : List ℕ) where
   enough_last fuel [] event w e = e.0
   enough_last fuel (x ∷ events) event w e = enough_last fuel events event (one_more d token fuel (notice_of d x) w) e.1
 
-  -- two counts that are enough leave the same
+  -- two counts that are enough lead to the same state
   pub run_same : (n m : ℕ) (xs : List Notice) (w : World) → IsEnoughAfter d token n xs w → IsEnoughAfter d token m xs w → after d token n xs w ≡ after d token m xs w
   run_same n m [] w e f = refl
   run_same n m (x ∷ xs) w e f =
       let one : one_more d token n x w ≡ one_more d token m x w = ap (came d token (clock_at w x.at) x.digest x.took) (enough_same d token n m (clock_at w x.at) w e.0 f.0) in
       ap (after d token n xs) one ∙ run_same n m xs (one_more d token m x w) (subst (λ (u : World). IsEnoughAfter d token n xs u) one e.1) f.1
 
-  -- a server that went through a run stands for it by any count that is enough
+  -- a server that went through a run represents its state for any count that is enough
   pub stands_by : (loaded : Texts) (events : List Happened) (before out : List Offer) (s : Server) (fuel : ℕ) → Went d token loaded events before s out → IsEnough d token loaded fuel events
       → Did d token before s out (after d token fuel (notices d events) (beginning loaded))
   stands_by loaded events before out s fuel went enough =
@@ -86,7 +86,7 @@ clocked_did d token before out s at w did = record {
   offered = did.offered;
 }
 
--- what the code takes for the clock is that of the world
+-- the clock of the code is that of the state
 pub clock_is : (now clock moment : ℕ) (event : Happened) → now ≡ max clock moment → moment ≡ moment_of event.event → (w : World) → clock ≡ w.clock → now ≡ clock_at w (moment_of event.event)
 clock_is now clock moment event is at w same = is ∙ (ap (λ (k : ℕ). max k moment) same ∙ ap (λ (k : ℕ). max w.clock k) at)
 
@@ -109,13 +109,13 @@ at_clock law d token fuel now event w at ready few =
       between = short_of (settled d token fuel now w) (came d token now (digest d event) event.took (settled d token fuel now w)) (came_grows law d token now (digest d event) event.took (settled d token fuel now w)) short;
     }
 
--- of the rows that waited, these were filed, and those wait still
+-- of the CDRs that waited, these were filed, and those still wait
 abbrev pub WaitsBy : World → World → Bool → List Row → Type 0
 WaitsBy w later took waiting = (later.filed ≡ w.filed ++ taken_of took waiting) × (later.waiting ≡ left_of took waiting)
 
--- the deadlines fire, and then the event comes
+-- the timers fire, and then the event comes
 module _ (law : AllDrawOn) (old mid : Server) (out between : List Offer) (event : Happened) (now : ℕ) (clock : (w : World) → old.clock ≡ w.clock → now ≡ clock_at w (moment_of event.event)) where
-  -- the deadlines alone
+  -- the timers alone
   pub cut_before : ((fuel : ℕ) → BreaksTo old out between (IsSettledBy fuel now) (λ d token. settled d token fuel now)) → (fuel : ℕ) → BreaksTo old out between (IsReady fuel event) (going fuel event)
   cut_before breaks fuel d token before w did ready few =
       let here = at_clock law d token fuel now event w (clock w did.stands.clock) ready few in
@@ -136,7 +136,7 @@ module _ (law : AllDrawOn) (old mid : Server) (out between : List Offer) (event 
         (cut_of before out between w v (came d token now (digest d event) event.took v) (settles d token law fuel now w) (came_grows law d token now (digest d event) event.took v) did.offered there.offered)
 
     module _ (new : Server) (after_all : List Offer) where
-      -- and what happened then
+      -- and the event then
       pub went_all : Follows mid between new after_all (λ d token. came d token now (digest d event) event.took) → (fuel : ℕ) → FollowsTo old out new after_all (IsReady fuel event) (going fuel event)
       went_all comes fuel d token before w did ready few =
           let here = at_clock law d token fuel now event w (clock w did.stands.clock) ready few in
@@ -153,7 +153,7 @@ module _ (law : AllDrawOn) (old mid : Server) (out between : List Offer) (event 
           subst (λ (u : World). IsCut out after_all (before ++ u.offers)) (sym here.whole)
           (front_on out between after_all (kept_of before out between w v (settles d token law fuel now w) did.offered there.offered) cut.0, cut.1)
 
-    -- the deadlines file no row
+    -- the timers file no CDR
     pub waited_there : (waiting : List Row)
         → ((d : Directory) (token : List ℕ) (before : List Offer) (w : World) → Did d token before mid between w → IsShort (came d token now (digest d event) event.took w)
         → WaitsBy w (came d token now (digest d event) event.took w) event.took waiting)
@@ -166,13 +166,13 @@ module _ (law : AllDrawOn) (old mid : Server) (out between : List Offer) (event 
         let filed = left.0 ∙ ap (λ (rows : List Row). rows ++ taken_of event.took waiting) (settled_none d token fuel now w) in
         subst (λ (u : World). WaitsBy w u event.took waiting) (sym here.whole) (filed, left.1)
 
-    -- the configuration is that of the run still
+    -- the configuration is still that of the run
     pub directory_there : (fuel : ℕ) (d : Directory) (token : List ℕ) (before : List Offer) (w : World) → Did d token before old out w → IsReady fuel event d token w → IsShort (going fuel event d token w) → mid.directory ≡ d
     directory_there fuel d token before w did ready few =
         let here = at_clock law d token fuel now event w (clock w did.stands.clock) ready few in
         (settles_all fuel d token before w did here.ready here.between).stands.directory_same
 
--- ---- a digest that is read under the server's configuration
+-- ---- an event that is parsed under the server's configuration
 
 module _ (s : Server) (x : Digest) (f : Directory → Digest) (told : x ≡ f s.directory) where
   told_in : (d : Directory) → s.directory ≡ d → x ≡ f d
@@ -192,7 +192,7 @@ module _ (s : Server) (x : Digest) (f : Directory → Digest) (told : x ≡ f s.
 
 -- ---- a step
 
--- that no step failed is noted
+-- it is noted that no step failed
 pub whole_again : (d : Directory) (token : List ℕ) (before out : List Offer) (s : Server) (w : World) → Did d token before s out w → Did d token before (record s { failed = false }) out w
 whole_again d token before out s w did = record {
   stands = record {
@@ -215,7 +215,7 @@ whole_again d token before out s w did = record {
   offered = did.offered;
 }
 
--- what a step does to whatever the server stood for it does to whatever run it went through
+-- what a step does to whatever state the server represented it does to whatever run it went through
 pub goes_on : (old new : Server) (out now : List Offer) (event : Happened) → GivesAlways
     → ((fuel : ℕ) → FollowsTo old out new now (IsReady fuel event) (going fuel event)) → GoesOn old out (record new { failed = false }) now event
 goes_on old new out now event always follows d token loaded events before went short =
@@ -244,15 +244,15 @@ breaks_off old out now event breaks d token loaded events before fuel went short
     (subst IsShort last (short fuel enough)) in
     subst (λ (u : World). IsCut out now (before ++ u.offers)) (sym last) cut
 
--- ---- a run that the server serves in, whatever became of what it offered
+-- ---- a run that the server serves in, wherever its outputs went
 
--- it stands for that run by any count that is enough
+-- it represents the state of that run for any count that is enough
 serves_by : (d : Directory) (token : List ℕ) (loaded : Texts) (events : List Happened) (s : Server) (fuel : ℕ) → Serves d token loaded events s → IsEnough d token loaded fuel events
     → Stands d token s (after d token fuel (notices d events) (beginning loaded))
 serves_by d token loaded events s fuel serves enough =
     subst (λ (u : World). Stands d token s u) (run_same d token serves.fuel fuel (notices d events) (beginning loaded) serves.enough enough) serves.stands
 
--- what it stands for does not rest on what was offered, nor on its note that no step failed
+-- the state that it represents depends neither on the outputs nor on its note that no step failed
 stands_alike : (d : Directory) (token : List ℕ) (s : Server) (os : List Offer) (w : World) → Stands d token s w → Stands d token (record s { failed = false }) (record w { offers = os })
 stands_alike d token s os w stands = record {
   directory_same = stands.directory_same;
@@ -294,7 +294,7 @@ did_unsaid d token s out w stands = record {
   offered = sym (append-nil out);
 }
 
--- an event does in a world what it does where nothing was offered yet, and adds that
+-- an event does in a state what it does in the same one without outputs, and adds these
 module _ (adds : EventsAdd) (deadlines : DeadlinesAdd) (d : Directory) (token : List ℕ) (fuel : ℕ) (one : Happened) (w : World) where
   restored : behind w.offers (unsaid w) ≡ w
   restored = ap (λ (os : List Offer). record w { offers = os }) (append-nil w.offers)
@@ -311,7 +311,7 @@ module _ (adds : EventsAdd) (deadlines : DeadlinesAdd) (d : Directory) (token : 
   short_unsaid : IsShort (going fuel one d token w) → IsShort (going fuel one d token (unsaid w))
   short_unsaid few = let short = subst IsShort going_adds few in record { acts = short.acts; steps = short.steps; drawn = short.drawn }
 
--- before the last event of a run, by so many firings, the server stands for a world in which nothing was offered yet
+-- before the last event of a run, by so many firings, the server represents a state without outputs
 pub record BeforeLast (d : Directory) (token : List ℕ) (loaded : Texts) (events : List Happened) (event : Happened) (fuel : ℕ) (old : Server) (out : List Offer) (world : World) : Type 0 where
   pub did : Did d token out old out (unsaid world)
   pub ready : IsReady fuel event d token (unsaid world)
@@ -332,7 +332,7 @@ module _ (adds : EventsAdd) (deadlines : DeadlinesAdd) where
         last = last ∙ going_adds adds deadlines d token fuel event w;
       }
 
-  -- what is so of the configuration under whatever the server stood for is so under whatever run it serves in
+  -- what holds for the configuration under whatever state the server represented holds under whatever run it serves in
   pub asked_then : (old : Server) (out : List Offer) (event : Happened) (P : Directory → Type 0) → GivesAlways
       → ((d : Directory) (token : List ℕ) (before : List Offer) (w : World) (fuel : ℕ) → Did d token before old out w → IsReady fuel event d token w → IsShort (going fuel event d token w) → P d)
       → (d : Directory) (token : List ℕ) (loaded : Texts) (events : List Happened) → Serves d token loaded events old → IsShortRun d token loaded (events ++ event ∷ []) → P d
@@ -349,7 +349,7 @@ module _ (adds : EventsAdd) (deadlines : DeadlinesAdd) where
       let left : WaitsBy w (behind w.offers (going fuel event d token (unsaid w))) event.took waiting = (there.0, there.1) in
       subst (λ (u : World). WaitsBy w u event.took waiting) (sym here.last) left
 
-  -- of what it adds a front was added
+  -- a prefix of what it adds was added
   pub adds_front : (old : Server) (out now : List Offer) (event : Happened) → ((fuel : ℕ) → BreaksTo old out now (IsReady fuel event) (going fuel event)) → AddsFront old out now event
   adds_front old out now event breaks d token loaded events fuel serves short enough =
       let w : World = after d token fuel (notices d events) (beginning loaded) in
@@ -357,7 +357,7 @@ module _ (adds : EventsAdd) (deadlines : DeadlinesAdd) where
       let cut = breaks fuel d token out (unsaid w) here.did here.ready here.short in
       ((going fuel event d token (unsaid w)).offers, cut, ap (λ (v : World). v.offers) here.last)
 
-  -- it serves in one more, and what this adds was added
+  -- it serves in the run with one more event, and what this adds was added
   pub adds_on : (old new : Server) (out now : List Offer) (event : Happened) → GivesAlways
       → ((fuel : ℕ) → FollowsTo old out new now (IsReady fuel event) (going fuel event)) → AddsOn old out (record new { failed = false }) now event
   adds_on old new out now event always follows d token loaded events serves short =

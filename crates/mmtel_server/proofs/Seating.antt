@@ -1,4 +1,4 @@
--- Who has a seat, and what a REFER with Replaces brings: what the code reads and does, one after another, is what is due.
+-- Who joins a conference, and the effect of a REFER with Replaces: what the code reads and does, one after another, is what the definitions require.
 use Rattle.std.proofs.Common.{◌≡◌, ◌+◌, ◌<◌, ◌^◌, ◌++◌, ℕ, List, append-nil, refl, sym, ap, ◌∙◌, subst, Bool, true, false, Option, Some, None, Result, Ok, Err}
 use Rattle.std.specs.Prelude.{◌&&◌, if◌then◌else◌, codes, IsOk}
 use Rattle.std.proofs.lemmas.Bool.{false≢true}
@@ -43,9 +43,9 @@ use Rattle.mmtel_server.specs.Follows.{AllDrawOn, Breaks, Follows, RoomsDo, Room
 use Rattle.mmtel_server.specs.Stands.{Did, IsCut, Stands}
 use Rattle.mmtel_server.specs.declared.servers.Server.{Server}
 
--- ---- deeds on rooms
+-- ---- operations on conferences
 
--- who opens a room leaves none
+-- whoever opens a conference leaves none
 pub opens_closes : (c : Coming) → Closes (Opens c)
 unfolding come
 opens_closes c site table = sym (append-nil table.rows)
@@ -117,7 +117,7 @@ module _ (s : Server) (t : Drawn) (tag : List ℕ) (out : List Offer)
 
 -- ---- what was read decides
 
--- what is so of deeds, where it is so of a deed that reads what stands there once it is of that which names it
+-- a property of operations: where it holds for one that uses a value which is read of the server, it holds for the one that computes the value from the represented state
 abbrev pub Reads : Server → ((Directory → List ℕ → World → World) → Type 0) → Type 1
 Reads s P =
     (A : Type 0) (x : A) (f : Directory → World → A) (deed : A → Directory → List ℕ → World → World) →
@@ -130,7 +130,7 @@ pub breaks_reads : (s : Server) (out now : List Offer) → Reads s (Breaks s out
 breaks_reads s out now A x f deed is breaks = breaks_so x f deed s out is now breaks
 
 module _ (s : Server) (P : (Directory → List ℕ → World → World) → Type 0) (reads : Reads s P) (at : ℕ) where
-  -- who comes to the factory
+  -- the party that joins by the factory
   module _ (key : TKey) (said : Said) (tag : List ℕ) where
     is_full : (d : Directory) (token : List ℕ) (w : World) → Stands d token s w → has_no_room s.rooms.table.live ≡ has_no_room (rooms_in d w).live
     is_full d token w have = ap (λ (r : RoomsView). has_no_room r.table.live) have.rooms
@@ -156,7 +156,7 @@ module _ (s : Server) (P : (Directory → List ℕ → World → World) → Type
         reads Bool (has_no_room s.rooms.table.live) (λ d w. has_no_room (rooms_in d w).live) (λ b d token w. room_opened d at key said tag b w) is_full
         (subst (λ (b : Bool). P (λ d token w. room_opened d at key said tag b w)) (sym full) p)
 
-  -- ---- whether a room takes another seat
+  -- ---- whether a conference can take another participant
 
   module _ (room : RoomNo) where
     is_found : (d : Directory) (token : List ℕ) (w : World) → Stands d token s w → access room.0 s.rooms.table.live ≡ access room.0 (rooms_in d w).live
@@ -165,7 +165,7 @@ module _ (s : Server) (P : (Directory → List ℕ → World → World) → Type
     found_so : (g : Result ℕ RoomFault → Directory → List ℕ → World → World) (x : Result ℕ RoomFault) → access room.0 s.rooms.table.live ≡ x → P (g x) → P (λ d token w. g (access room.0 (rooms_in d w).live) d token w)
     found_so g x is p = reads (Result ℕ RoomFault) (access room.0 s.rooms.table.live) (λ d w. access room.0 (rooms_in d w).live) g is_found (subst (λ (y : Result ℕ RoomFault). P (g y)) (sym is) p)
 
-    -- who comes to it
+    -- the party that joins it
     module _ (key : TKey) (said : Said) (tag : List ℕ) where
       abbrev joined_as : Option Account → Directory → List ℕ → World → World
       joined_as a d token w =
@@ -188,7 +188,7 @@ module _ (s : Server) (P : (Directory → List ℕ → World → World) → Type
           → P (λ d token w. room_joined d token at key said room tag (access room.0 (rooms_in d w).live) w)
       unjoined_so fault is p = found_so (λ x d token w. room_joined d token at key said room tag x w) (Err fault) is p
 
-    -- whose leg comes out of a call
+    -- the leg that is taken out of a call
     module _ (seat : ℕ) (call : CallNo) (leg : Released) (account : Option Account) where
       adopted_in : (x : Result ℕ RoomFault) → IsOk x → P (λ d token w. finishing d token at call (housed d at (adoption_of token at room seat leg account w) w))
           → P (λ d token w. adopting d token at room seat call leg account x w)
@@ -204,7 +204,7 @@ module _ (s : Server) (P : (Directory → List ℕ → World → World) → Type
           → P (λ d token w. adopting d token at room seat call leg account (access room.0 (rooms_in d w).live) w)
       unadopted_so fault is p = found_so (λ x d token w. adopting d token at room seat call leg account x w) (Err fault) is p
 
-  -- ---- the leg that is asked for
+  -- ---- the leg that is requested
 
   module _ (room : RoomNo) (seat : ℕ) where
     pub taken_so : (call : CallNo) (side : Side) (known : Option (Peer × Option Account)) (account : Option Account) (leg : Option Released) → account ≡ account_at known
@@ -231,7 +231,7 @@ module _ (s : Server) (P : (Directory → List ℕ → World → World) → Type
         → P (λ d token w. replaced_by d token at peer room seat named w) → P (λ d token w. replaced d token at peer room seat replaces w)
     dialog_so peer replaces named is p = reads (Option (CallNo × Side)) named (λ d w. side_replaced replaces (calls_in d w).entries) (λ o d token w. replaced_by d token at peer room seat o w) is p
 
--- ---- what was done on the rooms, and then what came of it
+-- ---- an operation on the conferences, and then its commands
 
 module _ (deed : Directory → List ℕ → World → Deed) (old mid : Server) (emits given : List Emit) (at : ℕ) (out now : List Offer) (is : given ≡ emits) where
   pub housed_follows : RoomsDo old mid deed emits → (new : Server) → Follows mid out new now (λ d token. emitted at given) → Follows old out new now (λ d token w. housed d at (deed d token w) w)
@@ -260,7 +260,7 @@ broke_first f h old out now grows breaks d token before w did short =
     let cut = breaks d token before w did (short_of left all (grows d token w) short) in
     (cut.0, front_on now (before ++ left.offers) (before ++ all.offers) cut.1 (front_of before (before ++ left.offers) left all (grows d token w) refl))
 
--- ---- a request of a seat, and what follows of it where it was accepted
+-- ---- a request of a participant, and what follows from it where it was accepted
 
 both : (b c : Bool) (x : Option Replaces) → (if c then (if b then x else None) else None) ≡ (if b && c then x else None)
 both true true x = refl
@@ -285,7 +285,7 @@ module _ (law : AllDrawOn) (at : ℕ) (key : TKey) (said : Said) (room : RoomNo)
   abbrev due : Directory → List ℕ → World → Option Replaces
   due d token w = replacement_in said.heard (comes_of d (heard_in_rooms token at (of_room.Request room seat key said) w) w).out
 
-  -- memory ran out over what the request brought forth
+  -- memory ran out while the output of the request was executed
   pub heard_breaks : Breaks mid out between (λ d token. emitted at given) → Breaks s out between (λ d token. entering_room d token at key said room seat)
   heard_breaks breaks =
       broke_first heard (λ d token. entering_room d token at key said room seat) s out between (λ d token w. replaces_asked_grows law d token at said.peer room seat (due d token w) (heard d token w))

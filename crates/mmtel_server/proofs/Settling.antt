@@ -1,4 +1,4 @@
--- Deadlines that fire: how many firings are enough, and that firings only add.
+-- Timers that fire: how many firings are enough, and that firings only add.
 use Rattle.std.proofs.Common.{◌≡◌, ℕ, zero, suc, ◌+◌, ◌≤◌, List, [], ◌∷◌, length, refl, sym, ap, ◌∙◌, arith, append-nil, Option, Some, None, subst}
 use Rattle.mmtel_b2bua.specs.Histories.{Hears}
 use Rattle.mmtel_b2bua.specs.declared.signals.Signal.{Signal}
@@ -42,7 +42,7 @@ emits_steps : (at : ℕ) (es : List Emit) (w : World) → (emitted at es w).step
 emits_steps at [] w = refl
 emits_steps at (e ∷ es) w = emits_steps at es (emit_one at e w) ∙ emit_steps at e w
 
--- steps are as they were
+-- the count of steps is unchanged
 abbrev StepsStay : World → World → Type 0
 StepsStay v w = w.steps ≡ v.steps
 
@@ -92,7 +92,7 @@ module _ (d : Directory) (token : List ℕ) where
   done_stays zero now w e = refl
   done_stays (suc n) now w e = ap (λ (o : Option Deadline). settled d token n now (fired_if d token now o w)) e ∙ done_stays n now w e
 
-  -- two counts that are enough give the same
+  -- two counts that are enough lead to the same state
   pub enough_same : (n m now : ℕ) (w : World) → IsSettled d token n now w → IsSettled d token m now w → settled d token n now w ≡ settled d token m now w
   enough_same zero m now w e f = sym (done_stays m now w e)
   enough_same (suc n) zero now w e f = done_stays (suc n) now w f
@@ -151,7 +151,7 @@ module _ (d : Directory) (token : List ℕ) where
     settles zero now w = same w
     settles (suc n) now w = grows_on w (fire_one d token now w) (settled d token n now (fire_one d token now w)) (fires_if now (due_in now w) w) (settles n now (fire_one d token now w))
 
-    -- no count passes one that is enough
+    -- no count is greater than one that is enough
     pub never_longer : (i fuel now : ℕ) (w : World) → IsSettled d token fuel now w → Grows (settled d token i now w) (settled d token fuel now w)
     never_longer zero fuel now w e = settles fuel now w
     never_longer (suc i) zero now w e = subst (λ (v : World). Grows v w) (sym (done_stays (suc i) now w e)) (same w)

@@ -1,4 +1,4 @@
--- All charging rows of a run: those that the keeper took, and those that wait for it (TS 32.260 §5).
+-- All CDRs of a run: those that the keeper accepted, and those that wait for it (TS 32.260 §5).
 use Rattle.std.specs.Prelude.{◌≡◌, ℕ, Bool, true, false, List, [], ◌∷◌, ◌++◌}
 use Rattle.mmtel_directory.specs.declared.directories.Directory.{Directory}
 use Rattle.mmtel_in_force.specs.Texts.{Texts}
@@ -10,21 +10,21 @@ use Rattle.mmtel_run.specs.World.{World}
 use Rattle.mmtel_server.specs.Stands.{Serves}
 use Rattle.mmtel_server.specs.declared.servers.Server.{Server}
 
--- whether the keeper took the rows that were handed to it at the end of the last of these events
+-- whether the keeper accepted the CDRs that were handed to it at the end of the last of these events
 abbrev pub took_last : List Happened → Bool
 took_last [] = false
 took_last (one ∷ []) = one.took
 took_last (one ∷ other ∷ happened) = took_last (other ∷ happened)
 
--- where a world has come of these events
+-- for the state of a run after these events
 pub record RowsCharged (directory : Directory) (world : World) (happened : List Happened) : Type 0 where
-  -- the rows that the keeper took in the whole run, and behind them those that wait, are all the rows that its calls closed and all those of the seats that were left, each
+  -- the CDRs that the keeper accepted in the whole run, and then those that wait, are all CDRs that its calls closed and all those of the participants that left, each
   -- in the order in which they were closed: none is lost, and none comes twice;
   pub all : AreFiled directory world
-  -- and none waits behind an event at whose end the keeper took what was handed to it
+  -- and none waits after an event at whose end the keeper accepted what was handed to it
   pub none : took_last happened ≡ true → world.waiting ≡ []
 
--- whatever run the server serves in, so it is of that run and what happened here
+-- whatever run the server serves in, this holds for that run continued by these events
 abbrev pub Charged : List Happened → Server → Type 0
 Charged happened old =
     (directory : Directory) (token : List ℕ) (loaded : Texts) (earlier : List Happened) (fuel : ℕ) →

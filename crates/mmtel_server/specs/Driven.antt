@@ -1,4 +1,4 @@
--- What `drive` heard of a link and made of it.
+-- The contract of `drive`: what it received from a link and did with it.
 use Rattle.std.specs.Prelude.{◌≡◌, ◌≢◌, ◌⊎◌, ◌+◌, ◌<◌, ◌≤◌, ℕ, zero, suc, Bool, true, false, ⊤, List, [], ◌∷◌, ◌++◌, drop, length, take, Option, Some, None, Result, Ok, Err}
 use Rattle.std.specs.Option.{option_map}
 use Rattle.mmtel_charging.specs.declared.rows.Row.{Row}
@@ -32,70 +32,70 @@ use Rattle.mmtel_server.specs.declared.driving.DriveFault.{DriveFault}
 use Rattle.mmtel_server.specs.declared.driving.DriveFault.TheVariants.{LinkFault, NoMemory}
 use Rattle.mmtel_server.specs.declared.servers.Server.{Server}
 
--- ---- what was heard
+-- ---- what was received
 
--- where the link tells what it hears, it heard these events more, in this order, and no other, of web connections with the bytes that were read
+-- where the link exposes its input, it received these further events, in this order, and no other, those of web connections with the bytes that were read
 abbrev pub HeardMore : Option Ear → Option Ear → List Event → Type 0
 HeardMore None None events = ⊤
 HeardMore None (Some later) events = ⊥
 HeardMore (Some ear) None events = ⊥
 HeardMore (Some ear) (Some later) events = (later.events ≡ ear.events) × (heard later ≡ heard ear ++ events)
 
--- where the link tells what it hears, nothing is left to come
+-- where the link exposes its input, no event is left to come
 abbrev pub IsAtEnd : Option Ear → Type 0
 IsAtEnd None = ⊤
 IsAtEnd (Some ear) = coming ear ≡ None
 
--- how many events came in so many turns, each of which takes one: true at the end of the link, before the turns were over; false where each turn took one;
--- a link's fault comes in place of an event, and want of memory there, in reading the last or in doing it
+-- how many events came in so many turns, each of which receives one: true at the end of the link, before the turns were over; false where each turn received one;
+-- a link's fault comes in place of an event, and memory may run out there, in reading the last or in processing it
 abbrev pub EndsAfter : (turns : ℕ) → Option Ear → (count : ℕ) → Result Bool DriveFault → Type 0
 EndsAfter turns ear count (Ok true) = (count < turns) × IsAtEnd ear
 EndsAfter turns ear count (Ok false) = count ≡ turns
 EndsAfter turns ear count (Err LinkFault) = count < turns
 EndsAfter turns ear count (Err NoMemory) = count ≤ turns
 
--- ---- how web connections were read
+-- ---- the reads of web connections
 
--- a connection of which so many bytes were read was read out: they are a request, or can be none, or there are no more of them (RFC 9112 §2.2, §6.3)
+-- a connection of which so many bytes were read was read to the end of its request: they are a request, or cannot become one, or there are no more of them (RFC 9112 §2.2, §6.3)
 abbrev pub IsReadOut : ℕ → List ℕ → Type 0
 IsReadOut count bytes = (whole_of (request_of (take count bytes)) ≢ More) ⊎ (take count bytes ≡ bytes)
 
--- how many bytes one read takes at most
+-- the maximum number of bytes of one read
 abbrev pub most_read : ℕ
 most_read = 4096
 
--- no read was made that was not needed: what was read before the last one is a request that is not whole yet
+-- no read was made that was not needed: the bytes before the last read are a request that is not complete yet
 abbrev pub IsNeeded : ℕ → List ℕ → Type 0
 IsNeeded count bytes = (count ≡ 0) ⊎ ((before : ℕ) × (before < count) × (count ≤ before + most_read) × (whole_of (request_of (take before bytes)) ≡ More))
 
--- how an event was read, of which so many bytes were, and what became of the count of giving out: a web connection was read out and not further, but where a read failed, at
--- which the count rose
+-- how an event was read, of which so many bytes were, and the change of the count of delivery faults: a web connection was read to the end of its request and no further, but where
+-- a read failed, at which the count rose
 abbrev pub IsRead : (giving gave : ℕ) → ℕ → Event → Type 0
 IsRead giving gave count (event.Datagram from at bytes) = gave ≡ giving
 IsRead giving gave count (event.Web at bytes) = IsNeeded count bytes × ((IsReadOut count bytes × (gave ≡ giving)) ⊎ Rose giving gave)
 IsRead giving gave count (event.Quiet at) = gave ≡ giving
 
--- the same of each event that came of these, in order
+-- the same for each of these events, in order
 abbrev pub EachRead : (giving gave : ℕ) → List Event → (reads : List ℕ) → Type 0
 EachRead giving gave events [] = gave ≡ giving
 EachRead giving gave [] (count ∷ reads) = ⊥
 EachRead giving gave (e ∷ events) (count ∷ reads) = (between : ℕ) × IsRead giving between count e × EachRead between gave events reads
 
--- the events that a link had still to give
+-- the events that were still to come on a link
 abbrev pub to_come : Ear → List Event
 to_come ear = drop (length ear.reads) ear.events
 
--- where the link tells what it hears, each event that came was read so
+-- where the link exposes its input, each event that came was read so
 abbrev pub ReadEach : Option Ear → Option Ear → (giving gave : ℕ) → Type 0
 ReadEach None later giving gave = ⊤
 ReadEach (Some ear) None giving gave = ⊥
 ReadEach (Some ear) (Some later) giving gave = (reads : List ℕ) × (later.reads ≡ ear.reads ++ reads) × EachRead giving gave (to_come ear) reads
 
--- a count stands, or it rose
+-- a count is unchanged, or it rose
 abbrev pub StandsOrRose : ℕ → ℕ → Type 0
 StandsOrRose before now = (now ≡ before) ⊎ Rose before now
 
--- each but the last, if that was not read to its end
+-- each but the last, if that was not read to the end
 pub record EarReadButLast (ear later : Ear) (giving gave : ℕ) : Type 0 where
   pub reads : List ℕ
   pub last : List ℕ
@@ -118,7 +118,7 @@ ReadAll old new (Err NoMemory) = ReadButLast old.ear new.ear old.giving new.givi
 
 -- ---- one turn
 
--- at most one event came more
+-- at most one further event came
 abbrev pub AddsOne : Option Ear → Option Ear → Type 0
 AddsOne None later = ⊤
 AddsOne (Some ear) None = ⊥
@@ -133,12 +133,12 @@ Takes ear later giving gave (Err NoMemory) = (events : List Event) × (length ev
 
 -- ---- the calls of the link
 
--- so many calls more
+-- so many further calls
 abbrev pub called_times : ℕ → LinkCalls → LinkCalls
 called_times zero calls = calls
 called_times (suc count) calls = called (called_times count calls)
 
--- so many were made, where the link tells its calls
+-- so many were made, where the link exposes its calls
 abbrev pub CalledTimes : Option LinkCalls → Option LinkCalls → ℕ → Type 0
 CalledTimes None later count = later ≡ None
 CalledTimes (Some calls) later count = later ≡ Some (called_times count calls)
@@ -147,31 +147,31 @@ CalledTimes (Some calls) later count = later ≡ Some (called_times count calls)
 abbrev pub CalledWithin : Option LinkCalls → Option LinkCalls → (most : ℕ) → Type 0
 CalledWithin calls later most = (count : ℕ) × (count ≤ most) × CalledTimes calls later count
 
--- how often a connection is read at most: each read but the last gives a byte of a request that is not whole yet
+-- the maximum number of reads of one connection: each read but the last returns a byte of a request that is not complete yet
 abbrev pub reads_a_turn : ℕ
 reads_a_turn = window + greatest + 1
 
--- and how many calls a turn makes, with that of `next`
+-- and the number of calls of one turn, with that of `next`
 abbrev pub calls_a_turn : ℕ
 calls_a_turn = reads_a_turn + 1
 
--- ---- what was made of it
+-- ---- the effect on the server
 
--- whatever run the server went through, it has gone through that and what happened here, and offered all that is due in it
+-- whatever run the server went through, it has gone through that run continued by these events, with all outputs that are due in it
 abbrev pub WentOn : List Happened → Server → List Offer → Server → List Offer → Type 0
 WentOn happened old out new now =
     (directory : Directory) (token : List ℕ) (loaded : Texts) (earlier : List Happened) (before : List Offer) →
     Went directory token loaded earlier before old out → IsShortRun directory token loaded (earlier ++ happened) →
     Went directory token loaded (earlier ++ happened) before new now
 
--- whatever run it serves in, it serves in that and what happened here
+-- whatever run it serves in, it serves in that run continued by these events
 abbrev pub ServesOn : List Happened → Server → Server → Type 0
 ServesOn happened old new =
     (directory : Directory) (token : List ℕ) (loaded : Texts) (earlier : List Happened) →
     Serves directory token loaded earlier old → IsShortRun directory token loaded (earlier ++ happened) →
     Serves directory token loaded (earlier ++ happened) new
 
--- nothing of what is due in the run up to the last of these is missing, and nothing stands behind what is due in the whole
+-- nothing of what is due in the run without the last of these is missing, and nothing comes after what is due in the whole
 abbrev pub OfferedUpTo : (done last : List Happened) → Server → List Offer → List Offer → Type 0
 OfferedUpTo done last old out now =
     (directory : Directory) (token : List ℕ) (loaded : Texts) (earlier : List Happened) (before : List Offer) (fuel : ℕ) →
@@ -179,7 +179,7 @@ OfferedUpTo done last old out now =
     IsEnough directory token loaded fuel (earlier ++ (done ++ last)) →
     IsCut (before ++ gives directory token loaded fuel (earlier ++ done)) now (before ++ gives directory token loaded fuel (earlier ++ (done ++ last)))
 
--- all of these were done but for the last, if memory ran out in it: of what that one makes the server offer a front was added
+-- all of these were processed but for the last, if memory ran out in it: a prefix of its outputs was added
 pub record BrokeOff (happened : List Happened) (old : Server) (out now : List Offer) : Type 0 where
   pub done : List Happened
   pub last : List Happened
@@ -187,13 +187,13 @@ pub record BrokeOff (happened : List Happened) (old : Server) (out now : List Of
   pub one : length last ≤ 1
   pub offered : OfferedUpTo done last old out now
 
--- the server and the offers stand as after all of these, but for want of memory
+-- the server and the outputs are as after all of these, unless memory ran out
 abbrev pub DidAll : List Happened → Server → List Offer → Server → List Offer → Result Bool DriveFault → Type 0
 DidAll happened old out new now (Ok closed) = WentOn happened old out new now
 DidAll happened old out new now (Err LinkFault) = WentOn happened old out new now
 DidAll happened old out new now (Err NoMemory) = BrokeOff happened old out now
 
--- of what is offered in a run from its first event on, an untrusted peer sees what it would see of any other run that is equal without its private places
+-- of the outputs of a run from its first event on, an untrusted peer observes what it would observe of any other run that is equal without its private places
 abbrev pub KeptTheSecret : List Happened → Server → List Offer → List Offer → Type 0
 KeptTheSecret happened old out now =
     (directory : Directory) (token : List ℕ) (loaded : Texts) (earlier : List Happened) →
@@ -204,20 +204,20 @@ KeptAll happened old out now (Ok closed) = KeptTheSecret happened old out now
 KeptAll happened old out now (Err LinkFault) = KeptTheSecret happened old out now
 KeptAll happened old out now (Err NoMemory) = ⊤
 
--- whatever run the server serves in, each call of that and of what happened here comes to what the precedence of services makes of how its attempts ended, and of how
--- things stood when it reached each target, within the bound on diversions and with its rows
+-- whatever run the server serves in, each call of that run continued by these events has the outcome that the precedence of services determines from how its attempts ended, and
+-- from the states in which it reached each target, within the bound on diversions and with its CDRs
 abbrev pub CameToOutcome : List Happened → Server → Type 0
 CameToOutcome happened old =
     (directory : Directory) (token : List ℕ) (loaded : Texts) (earlier : List Happened) →
     Serves directory token loaded earlier old → IsShortRun directory token loaded (earlier ++ happened) → CallsComeToOutcome directory token loaded (earlier ++ happened)
 
--- each seat of its rooms that was left was charged once, to the account of the deed that gave it; and all rows stand in the order of the steps
+-- each participant of its conferences that left was charged once, to the account of the operation that added it; and all CDRs are in the order of the steps
 abbrev pub ChargedSeats : List Happened → Server → Type 0
 ChargedSeats happened old =
     (directory : Directory) (token : List ℕ) (loaded : Texts) (earlier : List Happened) →
     Serves directory token loaded earlier old → IsShortRun directory token loaded (earlier ++ happened) → SeatsAreChargedOnce directory token loaded (earlier ++ happened)
 
--- and each message that is built in it has its own lines and nobody else's, and each text that is offered to a peer is that of one, under a home domain and a token of one line
+-- and each message that is built in it has no injected header fields, and each text that is sent to a peer is that of one, under a home domain and a token of one line
 -- each
 abbrev pub SentClean : List Happened → Server → Type 0
 SentClean happened old =
@@ -225,17 +225,17 @@ SentClean happened old =
     Serves directory token loaded earlier old → IsShortRun directory token loaded (earlier ++ happened) →
     IsClean directory.home → IsClean token → SendsCleanMessages directory token loaded (earlier ++ happened)
 
--- ---- what was made of the keeper
+-- ---- the effect on the keeper
 
--- what the keeper answered in one event is the answer of the call that the event asks for; then the rows that waited were handed to it, where there were any; and nothing else
--- was asked of it
+-- the keeper's results in one event are those of the call that the event asks for; then the CDRs that waited were handed to it, where there were any; and it was not called
+-- otherwise
 pub record AnswersOne (names : WebDirectory) (one : Happened) (old new : KeeperSeen) : Type 0 where
   pub between : KeeperSeen
   pub answers : Answers (call_of names one.event) one.kept one.rows old.held between.held old.calls between.calls
   pub waiting : List Row
   pub handed : Handed one.took waiting between.held new.held between.calls new.calls
 
--- the same of each event, in order; the count of its faults is said below
+-- the same for each event, in order; the count of its faults is defined below
 abbrev pub EachAnswers : WebDirectory → List Happened → (old new : KeeperSeen) → Type 0
 EachAnswers names [] old new = (new.held ≡ old.held) × (new.calls ≡ old.calls)
 EachAnswers names (one ∷ happened) old new = (between : KeeperSeen) × AnswersOne names one old between × EachAnswers names happened between new
@@ -246,11 +246,11 @@ AnswersAll happened server old new =
     Serves directory token loaded earlier server → IsShortRun directory token loaded (earlier ++ happened) →
     EachAnswers directory.names happened old new
 
--- with these uploads put over the sheets, and these rows behind the others
+-- with these uploads put over the sheets, and these CDRs after the others
 abbrev pub with_all : Texts → List Row → Held → Held
 with_all uploads rows held = record { sheets = put_each uploads held.sheets; rows = held.rows ++ rows }
 
--- where the keeper tells what it holds, each upload that was kept was put over it, in their order, the rows that were filed in these events stand behind those that it
+-- where the keeper exposes its contents, each upload that was stored was put over them, in their order, the CDRs that were filed in these events come after those that it
 -- held, and nothing else changed
 abbrev pub HoldsUploads : List Happened → Server → (old new : Option Held) → Type 0
 HoldsUploads happened server old new =
@@ -260,7 +260,7 @@ HoldsUploads happened server old new =
     (rows : List Row) × ((world_after directory token loaded fuel (earlier ++ happened)).filed ≡ (world_after directory token loaded fuel earlier).filed ++ rows)
     × (new ≡ option_map (with_all (uploads_of directory.names happened) rows) old)
 
--- its count of faults rose in an event in which its call failed, and where it did not take the rows at the end, and stood otherwise
+-- its count of faults rose in an event in which its call failed, and where it did not accept the CDRs at the end, and is unchanged otherwise
 pub record CountedOne (one : Happened) (old new : ℕ) : Type 0 where
   pub between : ℕ
   pub counted : Counted one.kept old between
@@ -270,10 +270,10 @@ abbrev pub EachCounted : List Happened → (old new : ℕ) → Type 0
 EachCounted [] old new = new ≡ old
 EachCounted (one ∷ happened) old new = (between : ℕ) × CountedOne one old between × EachCounted happened between new
 
--- ---- the same where memory ran out, in the last of these events or behind it
+-- ---- the same where memory ran out, in the last of these events or after it
 
--- of the last one, if memory ran out in it: what the keeper answered is the answer of the call that the event asks for; the rows that waited then may have been handed to
--- it, and it took none of them
+-- for the last one, if memory ran out in it: the keeper's results are those of the call that the event asks for; the CDRs that waited then may have been handed to
+-- it, and it accepted none of them
 abbrev pub LastAnswers : WebDirectory → List Happened → (old new : KeeperSeen) → Type 0
 LastAnswers names [] old new = (new.held ≡ old.held) × (new.calls ≡ old.calls)
 LastAnswers names (one ∷ []) old new =
@@ -281,7 +281,7 @@ LastAnswers names (one ∷ []) old new =
     × (Answers (call_of names one.event) one.kept one.rows old.held new.held old.calls asked × MayBeCalled asked new.calls)
 LastAnswers names (one ∷ other ∷ happened) old new = ⊥
 
--- and of all before it as above
+-- and for all before it as above
 pub record EachAnswersButLast (names : WebDirectory) (happened : List Happened) (old new : KeeperSeen) : Type 0 where
   pub done : List Happened
   pub last : List Happened
@@ -296,7 +296,7 @@ AnswersButLast happened server old new =
     Serves directory token loaded earlier server → IsShortRun directory token loaded (earlier ++ happened) →
     EachAnswersButLast directory.names happened old new
 
--- the count of faults rose in it where its call failed, and stood otherwise
+-- the count of faults rose in it where its call failed, and is unchanged otherwise
 abbrev pub LastCounted : List Happened → (old new : ℕ) → Type 0
 LastCounted [] old new = new ≡ old
 LastCounted (one ∷ []) old new = Counted one.kept old new
@@ -310,7 +310,7 @@ pub record EachCountedButLast (happened : List Happened) (old new : ℕ) : Type 
   pub each : EachCounted done old between
   pub rest : LastCounted last between new
 
--- ---- by the answer
+-- ---- by the result of `drive`
 
 abbrev pub AnsweredAll : List Happened → Server → (old new : KeeperSeen) → Result Bool DriveFault → Type 0
 AnsweredAll happened server old new (Ok closed) = AnswersAll happened server old new
@@ -322,7 +322,7 @@ CountedAll happened old new (Ok closed) = EachCounted happened old new
 CountedAll happened old new (Err LinkFault) = EachCounted happened old new
 CountedAll happened old new (Err NoMemory) = EachCountedButLast happened old new
 
--- what the keeper tells and counts
+-- what the keeper exposes and counts
 pub record KeeperWentOn (happened : List Happened) (server : Server) (old new : KeeperSeen) (result : Result Bool DriveFault) : Type 0 where
   pub answers : AnsweredAll happened server old new result
   pub sheets : HoldsUploads happened server old.held new.held
@@ -330,45 +330,45 @@ pub record KeeperWentOn (happened : List Happened) (server : Server) (old new : 
 
 -- ---- the whole
 
--- what was made of these events in so many turns, but for what was offered
+-- the effect of these events in so many turns, but for the outputs
 pub record MadeOf (happened : List Happened) (turns : ℕ) (old new : ServingState) (result : Result Bool DriveFault) : Type 0 where
-  -- they are those that the link heard, where it tells it,
+  -- they are those that the link received, where it exposes its input,
   pub told : HeardMore old.link.ear new.link.ear (events_in happened)
-  -- one a turn,
+  -- one per turn,
   pub ends : EndsAfter turns new.link.ear (length happened) result
-  -- the keeper was asked what they ask, and keeps what they say,
+  -- the keeper was called as they ask, and stores what they contain,
   pub keeper : KeeperWentOn happened old.server old.keeper new.keeper result
-  -- the charging rows that it took in the whole run, and behind them those that wait, are all that were closed in it, in their order,
+  -- the CDRs that it accepted in the whole run, and then those that wait, are all that were closed in it, in their order,
   pub charged : Charged happened old.server
-  -- each call comes to its outcome, each seat that was left was charged once, and what is offered has its own lines
+  -- each call has its outcome, each participant that left was charged once, and what is sent has no injected header fields
   pub outcome : CameToOutcome happened old.server
   pub seats : ChargedSeats happened old.server
   pub clean : SentClean happened old.server
 
--- what was made of a link and of a keeper in so many turns, with what the server offered before and now
+-- the effect on a link and on a keeper in so many turns, with the outputs before and now
 pub record Driven (turns : ℕ) (old new : ServingState) (out now : List Offer) (result : Result Bool DriveFault) : Type 0 where
-  -- there are events that came, each with what the keeper answered in it,
+  -- there are events that came, each with the keeper's results in it,
   pub happened : List Happened
   pub made : MadeOf happened turns old new result
-  -- the web connections among them read out,
+  -- the web connections among them were read to the end,
   pub read : ReadAll old.link new.link result
-  -- the server did them all,
+  -- the server processed them all,
   pub did : DidAll happened old.server out new.server now result
-  -- and the secret was kept
+  -- and noninterference holds
   pub kept : KeptAll happened old.server out now result
 
--- the count of taking in rose at a link's fault, and is as before at every other answer
+-- the count of arrival faults rose at a link's fault, and is unchanged at every other result
 abbrev pub HasDriveCause : {T : Type 0} → ℕ → ℕ → Result T DriveFault → Type 0
 HasDriveCause before now (Ok x) = now ≡ before
 HasDriveCause before now (Err LinkFault) = Rose before now
 HasDriveCause before now (Err NoMemory) = now ≡ before
 
--- where the link tells its calls, the last of them has the number of one that fails
+-- where the link exposes its calls, the last of them has the number of one that fails
 abbrev pub LastFailed : Option LinkCalls → Type 0
 LastFailed None = ⊤
 LastFailed (Some calls) = (before : LinkCalls) × (calls ≡ called before) × (fails_next before ≡ true)
 
--- so it is at a link's fault
+-- this holds at a link's fault
 abbrev pub HasFailedByNumber : {T : Type 0} → Option LinkCalls → Result T DriveFault → Type 0
 HasFailedByNumber calls (Ok x) = ⊤
 HasFailedByNumber calls (Err LinkFault) = LastFailed calls

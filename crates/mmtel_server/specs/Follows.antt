@@ -1,4 +1,4 @@
--- What a deed of the server does, whatever it stood for.
+-- The effect of an operation of the server, whichever state it represents.
 use Rattle.std.specs.Prelude.{◌≡◌, ◌≤◌, ℕ, List, ◌∷◌, ◌++◌, ⊤, length}
 use Rattle.mmtel_b2bua.specs.Histories.{Deed, Drops, Finishes, Hears, finished_by, hears_after}
 use Rattle.mmtel_b2bua.specs.declared.signals.Signal.{Signal}
@@ -22,32 +22,32 @@ use Rattle.mmtel_types.specs.declared.numbers.CallNo.{CallNo}
 use Rattle.mmtel_server.specs.Stands.{Did, IsCut}
 use Rattle.mmtel_server.specs.declared.servers.Server.{Server}
 
--- ---- calls and rooms
+-- ---- calls and conferences
 
--- whatever is done on them, no number is drawn back
+-- whatever is done on them, the count of drawn numbers never decreases
 pub record AllDrawOn : Type 0 where
   pub calls : CallsDrawOn
   pub ends : CallsEndOn
   pub rooms : RoomsDrawOn
 
--- this was done on the calls, and its rows were taken from them; nothing of what came of it is emitted yet
+-- the state after this operation on the calls, with its CDRs removed from them; none of its commands is executed yet
 abbrev pub brought_in : Deed → Desk → World → World
 brought_in deed desk world = record world { deeds = Drops (length desk.rows) ∷ deed ∷ world.deeds; drawn = desk.tokens.drawn; waiting = world.waiting ++ desk.rows }
 
--- the same of the rooms, by a deed by which no number was drawn, and by one by which so many were
+-- the same for the conferences, for an operation that draws no number, and for one that draws some
 abbrev pub lodged_in : rooms.Deed → Desk → World → World
 lodged_in deed desk world = record world { rooms = rooms.Drops (length desk.rows) ∷ deed ∷ world.rooms; waiting = world.waiting ++ desk.rows }
 
 abbrev pub housed_in : rooms.Deed → Desk → World → World
 housed_in deed desk world = lodged_in deed desk (record world { drawn = desk.tokens.drawn })
 
--- whatever it stood for, it stands for what is there now, and these are to be emitted
+-- whichever state it represented, it represents the state after, and these commands are to be executed
 abbrev pub HasDone : Server → Server → (desk : Directory → List ℕ → World → Desk) → (there : Directory → List ℕ → World → World) → List Emit → Type 0
 HasDone old new desk there emits =
     (directory : Directory) (token : List ℕ) (before out : List Offer) (world : World) → Did directory token before old out world →
     (emits ≡ (desk directory token world).out) × Did directory token before new out (there directory token world)
 
--- what comes of a signal that the calls hear, and of the end of a call whose leg is away
+-- the output for a signal that the calls receive, and for the end of a call whose leg is detached
 abbrev pub desk_of : Directory → (token : List ℕ) → ℕ → Signal → World → Desk
 desk_of directory token at signal world = (hears_after (site_of directory) world.deeds (heard_now token at signal world)).desk
 
@@ -63,7 +63,7 @@ CallEnds old new at call emits =
     HasDone old new (λ d token. desk_at_end d token at call)
     (λ d token world. brought_in (Finishes call.0 at (tokens_now token world)) (desk_at_end d token at call world) world) emits
 
--- a deed on the rooms, by which no number was drawn, or some may have been
+-- an operation on the conferences that draws no number, or one that may draw some
 abbrev pub RoomsOpen : Server → Server → (Directory → List ℕ → World → rooms.Deed) → List Emit → Type 0
 RoomsOpen old new deed emits =
     HasDone old new (λ d token world. comes_of d (deed d token world) world) (λ d token world. lodged_in (deed d token world) (comes_of d (deed d token world) world) world) emits
@@ -72,21 +72,21 @@ abbrev pub RoomsDo : Server → Server → (Directory → List ℕ → World →
 RoomsDo old new deed emits =
     HasDone old new (λ d token world. comes_of d (deed d token world) world) (λ d token world. housed_in (deed d token world) (comes_of d (deed d token world) world) world) emits
 
--- ---- deeds
+-- ---- operations
 
--- it stands for that and this deed
+-- it represents the state after this operation
 abbrev pub Follows : Server → List Offer → Server → List Offer → (Directory → List ℕ → World → World) → Type 0
 Follows old out new now deed =
     (directory : Directory) (token : List ℕ) (before : List Offer) (world : World) →
     Did directory token before old out world → IsShort (deed directory token world) → Did directory token before new now (deed directory token world)
 
--- of what the deed offers a front was added
+-- a prefix of the outputs of the operation was added
 abbrev pub Breaks : Server → List Offer → List Offer → (Directory → List ℕ → World → World) → Type 0
 Breaks old out now deed =
     (directory : Directory) (token : List ℕ) (before : List Offer) (world : World) →
     Did directory token before old out world → IsShort (deed directory token world) → IsCut out now (before ++ (deed directory token world).offers)
 
--- the same, of worlds of which so much is true
+-- the same, for states of which this is true
 abbrev pub FollowsTo : Server → List Offer → Server → List Offer → (Directory → List ℕ → World → Type 0) → (Directory → List ℕ → World → World) → Type 0
 FollowsTo old out new now P deed =
     (directory : Directory) (token : List ℕ) (before : List Offer) (world : World) →
@@ -97,7 +97,7 @@ BreaksTo old out now P deed =
     (directory : Directory) (token : List ℕ) (before : List Offer) (world : World) →
     Did directory token before old out world → P directory token world → IsShort (deed directory token world) → IsCut out now (before ++ (deed directory token world).offers)
 
--- so many firings of deadlines are enough until a moment
+-- so many firings of timers are enough until a moment
 abbrev pub IsSettledBy : ℕ → ℕ → Directory → List ℕ → World → Type 0
 IsSettledBy fuel now directory token world = IsSettled directory token fuel now world
 
@@ -105,18 +105,18 @@ IsSettledBy fuel now directory token world = IsSettled directory token fuel now 
 abbrev pub IsReady : ℕ → Happened → Directory → List ℕ → World → Type 0
 IsReady fuel one directory token world = IsSettled directory token fuel (clock_at world (moment_of one.event)) world
 
--- the deadlines that are due by it, and what happened then
+-- the timers that are due by it, and then the event
 abbrev pub going : ℕ → Happened → Directory → List ℕ → World → World
 going fuel one directory token world = one_more directory token fuel (notice_of directory one) world
 
--- the moment of what a deadline of a message brings is not past this one
+-- the moment of what a timer of a transaction causes is not after this one
 abbrev pub IsBy : ℕ → Due → Type 0
 IsBy now (due.Again peer at text) = ⊤
 IsBy now (due.Silent key branch method at) = at ≤ now
 IsBy now (due.Over key at) = at ≤ now
 IsBy now due.Nothing = ⊤
 
--- what the transactions say of a message: it is handed back where more is done with it
+-- how the transactions classify a message: the message is returned where more is done with it
 abbrev pub IsTaken : Message Start → Heard → Type 0
 IsTaken message (heard.Fresh key given) = given ≡ message
 IsTaken message (heard.Answer key given) = given ≡ message

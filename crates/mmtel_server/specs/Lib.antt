@@ -5,7 +5,7 @@ pub mod Seen
 pub mod Stepped
 pub mod Driven
 pub mod Laws
--- What private functions alone cite, but for `AllDrawOn` of `Follows`, which is one of the laws of runs.
+-- What private functions alone cite, but for `AllDrawOn` of `Follows`, which is one of the theorems about runs.
 pub mod Follows
 pub mod Calling
 pub mod Turns

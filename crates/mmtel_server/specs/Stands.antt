@@ -1,4 +1,4 @@
--- The server that stands for what was done in a run.
+-- The server that represents the state of a run.
 use Rattle.std.specs.Prelude.{◌≡◌, ℕ, false, List, [], ◌∷◌, ◌++◌}
 use Rattle.mmtel_b2bua.specs.Histories.{CallsView}
 use Rattle.mmtel_directory.specs.declared.directories.Directory.{Directory}
@@ -30,7 +30,7 @@ calls_of directory world = record {
   has_failed = false;
 }
 
--- and its rooms
+-- and its conferences
 abbrev pub rooms_of : Directory → World → RoomsView
 rooms_of directory world = record {
   sip = directory.sip;
@@ -44,7 +44,7 @@ rooms_of directory world = record {
 abbrev pub boxes_of : Directory → World → BoxesView
 boxes_of directory world = record { sip = directory.sip; table = boxes_in world }
 
--- what a server keeps of what was done; one that has failed for want of memory stands for nothing
+-- what a server stores of its run; one that has failed since memory ran out represents no state
 pub record Stands (directory : Directory) (token : List ℕ) (server : Server) (world : World) : Type 0 where
   pub directory_same : server.directory ≡ directory
   pub tokens : server.tokens ≡ record { token = token; drawn = world.drawn }
@@ -54,66 +54,66 @@ pub record Stands (directory : Directory) (token : List ℕ) (server : Server) (
   -- the records in force, and the registrations
   pub texts : server.records.texts.texts ≡ world.texts
   pub registered : IsRegisteredBy server.records world.registrations
-  -- the calls and the rooms, as they stand after what was done on them
+  -- the calls and the conferences, in the state after the operations on them
   pub calls : server.calls ≡ calls_of directory world
   pub rooms : server.rooms ≡ rooms_of directory world
-  -- what was said of mailboxes, and who subscribes to them
+  -- the counts of mailboxes, and the subscriptions to them
   pub boxes : server.boxes ≡ boxes_of directory world
-  -- their deadlines
+  -- their timers
   pub armed : queue_of server.armed ≡ world.armed
-  -- the rows that wait: each was taken from the calls or the rooms as soon as it was closed
+  -- the CDRs that wait: each was removed from the calls or the conferences as soon as it was closed
   pub waiting : server.waiting ≡ world.waiting
   pub drained : (calls_in directory world).rows ≡ []
   pub cleared : (rooms_in directory world).rows ≡ []
   pub whole : server.failed ≡ false
 
--- it stands for that, and this was offered behind what stood there before
+-- it represents that state, and these outputs come after what was in the list before
 pub record Did (directory : Directory) (token : List ℕ) (before : List Offer) (server : Server) (out : List Offer) (world : World) : Type 0 where
   pub stands : Stands directory token server world
   pub offered : out ≡ before ++ world.offers
 
--- it went through the run in which this happened, over the texts that were loaded, in which every deadline that was due has fired, and what it offered stands behind what
--- stood there before
+-- it went through the run with these events, over the texts that were loaded, in which every timer that was due has fired, and its outputs come after what was in
+-- the list before
 pub record Went (directory : Directory) (token : List ℕ) (loaded : Texts) (happened : List Happened) (before : List Offer) (server : Server) (out : List Offer) : Type 0 where
   pub fuel : ℕ
   pub enough : IsEnough directory token loaded fuel happened
   pub did : Did directory token before server out (world_after directory token loaded fuel happened)
 
--- it serves in that run, whatever became of what it offered
+-- it serves in that run, wherever its outputs went
 pub record Serves (directory : Directory) (token : List ℕ) (loaded : Texts) (happened : List Happened) (server : Server) : Type 0 where
   pub fuel : ℕ
   pub enough : IsEnough directory token loaded fuel happened
   pub stands : Stands directory token server (world_after directory token loaded fuel happened)
 
--- the front of a list
+-- a prefix of a list
 abbrev pub IsPrefixOf : List Offer → List Offer → Type 0
 IsPrefixOf front whole = (rest : List Offer) × (front ++ rest ≡ whole)
 
--- what stood there stands there still, and what stands there now is a front of what was to stand there
+-- what was in the list is in it still, and its contents are a prefix of what was to be in it
 abbrev pub IsCut : (old now whole : List Offer) → Type 0
 IsCut old now whole = IsPrefixOf old now × IsPrefixOf now whole
 
--- whatever run it went through, it has gone through this more
+-- whatever run it went through, it has gone through this further event
 abbrev pub GoesOn : Server → List Offer → Server → List Offer → Happened → Type 0
 GoesOn old out new now one =
     (directory : Directory) (token : List ℕ) (loaded : Texts) (happened : List Happened) (before : List Offer) →
     Went directory token loaded happened before old out → IsShortRun directory token loaded (happened ++ one ∷ []) →
     Went directory token loaded (happened ++ one ∷ []) before new now
 
--- what an event more adds to the offers of a run was added behind what stood there
+-- what a further event adds to the outputs of a run was appended to the list
 abbrev pub HasAdded : Directory → (token : List ℕ) → (loaded : Texts) → List Happened → Happened → (out now : List Offer) → Type 0
 HasAdded directory token loaded happened one out now =
     (fuel : ℕ) → IsEnough directory token loaded fuel (happened ++ one ∷ []) →
     (added : List Offer) × (now ≡ out ++ added) × (gives directory token loaded fuel (happened ++ one ∷ []) ≡ gives directory token loaded fuel happened ++ added)
 
--- whatever run it serves in, it serves in this more, and what this adds to the offers of the run was added
+-- whatever run it serves in, it serves in that with this further event, and what this adds to the outputs of the run was added
 abbrev pub AddsOn : Server → List Offer → Server → List Offer → Happened → Type 0
 AddsOn old out new now one =
     (directory : Directory) (token : List ℕ) (loaded : Texts) (happened : List Happened) →
     Serves directory token loaded happened old → IsShortRun directory token loaded (happened ++ one ∷ []) →
     Serves directory token loaded (happened ++ one ∷ []) new × HasAdded directory token loaded happened one out now
 
--- whatever run it went through, of what this more makes it offer a front was added
+-- whatever run it went through, a prefix of the outputs for this further event was added
 abbrev pub BreaksOff : Server → List Offer → List Offer → Happened → Type 0
 BreaksOff old out now one =
     (directory : Directory) (token : List ℕ) (loaded : Texts) (happened : List Happened) (before : List Offer) (fuel : ℕ) →
@@ -121,7 +121,7 @@ BreaksOff old out now one =
     IsEnough directory token loaded fuel (happened ++ one ∷ []) →
     IsCut out now (before ++ gives directory token loaded fuel (happened ++ one ∷ []))
 
--- whatever run it serves in, of what this more adds to the offers of the run a front was added
+-- whatever run it serves in, a prefix of what this further event adds to the outputs of the run was added
 abbrev pub AddsFront : Server → List Offer → List Offer → Happened → Type 0
 AddsFront old out now one =
     (directory : Directory) (token : List ℕ) (loaded : Texts) (happened : List Happened) (fuel : ℕ) →

@@ -1,4 +1,4 @@
--- What one event made of a server and of a keeper.
+-- The effect of one event on a server and on a keeper.
 use Rattle.std.specs.Prelude.{◌≡◌, ◌++◌, ◌∷◌, [], ℕ, Bool, List}
 use Rattle.mmtel_charging.specs.declared.rows.Row.{Row}
 use Rattle.mmtel_directory.specs.declared.directories.Directory.{Directory}
@@ -22,24 +22,24 @@ use Rattle.mmtel_server.specs.Seen.{KeeperSeen, StepState}
 use Rattle.mmtel_server.specs.Stands.{AddsFront, AddsOn, BreaksOff, Did, GoesOn, Serves}
 use Rattle.mmtel_server.specs.declared.servers.Server.{Server}
 
--- which call of the keeper an event asks for
+-- the call of the keeper that an event asks for
 abbrev pub call_of : WebDirectory → Event → Call
 call_of names (event.Datagram from at bytes) = none
 call_of names (event.Web at bytes) = call_in names (request_of bytes)
 call_of names (event.Quiet at) = none
 
--- what happened: the event, what the keeper answered to it, and whether it took the rows that waited at its end
+-- the record of an event: the event, the keeper's results in it, and whether the keeper accepted the CDRs that waited at its end
 abbrev pub happened_in : Event → Kept → List Row → (took : Bool) → Happened
 happened_in event kept rows took = record { event = event; kept = kept; rows = rows; took = took }
 
--- whatever run the server serves in, the keeper answered what the event asks in it, and nothing else was asked of it until its end
+-- whatever run the server serves in, the keeper's results are those of the call that the event asks for, and it was not called otherwise until the end of the event
 abbrev pub AskedIn : Server → Happened → (old new : KeeperSeen) → Type 0
 AskedIn server one old new =
     (directory : Directory) (token : List ℕ) (loaded : Texts) (happened : List Happened) →
     Serves directory token loaded happened server → IsShortRun directory token loaded (happened ++ one ∷ []) →
     Answers (call_of directory.names one.event) one.kept one.rows old.held new.held old.calls new.calls
 
--- whatever run it serves in, so many rows waited at the end of the event: they were filed, or wait still
+-- whatever run it serves in, these CDRs waited at the end of the event: they were filed, or still wait
 abbrev pub WaitedIn : Server → Happened → List Row → Type 0
 WaitedIn server one waiting =
     (directory : Directory) (token : List ℕ) (loaded : Texts) (happened : List Happened) (fuel : ℕ) →
@@ -49,60 +49,60 @@ WaitedIn server one waiting =
     let new : World = world_after directory token loaded fuel (happened ++ one ∷ []) in
     (new.filed ≡ old.filed ++ taken_of one.took waiting) × (new.waiting ≡ left_of one.took waiting)
 
--- what one event made of the server, of what it offered and of the keeper
+-- the effect of one event on the server, on its outputs and on the keeper
 pub record Stepped (event : Event) (old new : StepState) : Type 0 where
-  -- there is an answer of the keeper, and rows that waited at the end, which it took or not,
+  -- there are results of the keeper, and CDRs that waited at the end, which it accepted or not,
   pub kept : Kept
   pub rows : List Row
   pub waiting : List Row
   pub took : Bool
-  -- by which the server has gone on;
+  -- with which the server has gone through the further event;
   pub went : GoesOn old.server old.offers new.server new.offers (happened_in event kept rows took)
-  -- and has added what that adds to the offers of the run, whatever became of those before;
+  -- and has added what that adds to the outputs of the run, wherever those before went;
   pub adds : AddsOn old.server old.offers new.server new.offers (happened_in event kept rows took)
-  -- the keeper was seen so in between:
+  -- there is a state of the keeper in between:
   pub between : KeeperSeen
-  -- its answer is that of the call that the event asks for, and nothing else was asked of it,
+  -- its results are those of the call that the event asks for, and it was not called otherwise,
   pub asked : AskedIn old.server (happened_in event kept rows took) old.keeper between
-  -- and the count of its faults rose exactly where that failed;
+  -- and the count of its faults rose exactly where that call failed;
   pub counted : Counted kept old.keeper.faults between.faults
-  -- then the rows that waited were handed to it, where there were any,
+  -- then the CDRs that waited were handed to it, where there were any,
   pub waited : WaitedIn old.server (happened_in event kept rows took) waiting
   pub handed : Handed took waiting between.held new.keeper.held between.calls new.keeper.calls
-  -- and the count rose exactly where it did not take them;
+  -- and the count rose exactly where it did not accept them;
   pub handed_counted : HandedCounted took between.faults new.keeper.faults
-  -- so those that it took in the whole run, and behind them those that wait, are all that were closed in it
+  -- so those that it accepted in the whole run, and then those that wait, are all that were closed in it
   pub charged : Charged (happened_in event kept rows took ∷ []) old.server
 
--- the offers and the keeper where memory ran out in an event: there is an answer that the keeper gave, at most one,
+-- the outputs and the keeper where memory ran out in an event: there are results of the keeper, of at most one call,
 pub record StoppedAt (Broke : Kept → List Row → Type 0) (Asked : Kept → List Row → KeeperSeen → Type 0) (old new : KeeperSeen) : Type 0 where
   pub kept : Kept
   pub rows : List Row
-  -- by which a front of what the event makes the server offer was added;
+  -- with which a prefix of the outputs for the event was added;
   pub broke : Broke kept rows
-  -- it is that of the call that the event asks for,
+  -- they are those of the call that the event asks for,
   pub between : KeeperSeen
   pub asked : Asked kept rows between
-  -- and the count of its faults rose exactly where that failed;
+  -- and the count of its faults rose exactly where that call failed;
   pub counted : Counted kept old.faults between.faults
-  -- then memory may have run out over the rows that waited, and they wait still
+  -- then memory may have run out while the CDRs that waited were handed over, and they still wait
   pub handed : StoppedHanding between.held new.held between.calls new.calls between.faults new.faults
 
--- so it is of a server, and of what was added to a list
+-- the same for a server, and for what was added to a list
 abbrev pub Stopped : Event → StepState → (offers : List Offer) → (keeper : KeeperSeen) → Type 0
 Stopped event old offers keeper =
     StoppedAt (λ kept rows. (took : Bool) →
     BreaksOff old.server old.offers offers (happened_in event kept rows took) × AddsFront old.server old.offers offers (happened_in event kept rows took))
     (λ kept rows between. (took : Bool) → AskedIn old.server (happened_in event kept rows took) old.keeper between) old.keeper keeper
 
--- used between the functions of this crate alone: where the deadlines before an event leave the configuration as it is, the keeper answers what the event asks
+-- used between the functions of this crate alone: where the timers before an event do not change the configuration, the keeper's results are those that the event asks for
 abbrev pub AskedAfter : StepState → Happened → (keeper : KeeperSeen) → Type 0
 AskedAfter old one keeper =
     (directory : Directory) (token : List ℕ) (before : List Offer) (world : World) (fuel : ℕ) →
     Did directory token before old.server old.offers world → IsReady fuel one directory token world → IsShort (going fuel one directory token world) →
     Answers (call_of directory.names one.event) one.kept one.rows old.keeper.held keeper.held old.keeper.calls keeper.calls
 
--- and the rows that wait at its end are these
+-- and the CDRs that wait at its end are these
 abbrev pub WaitedAfter : Server → List Offer → Happened → List Row → Type 0
 WaitedAfter server out one waiting =
     (directory : Directory) (token : List ℕ) (before : List Offer) (world : World) (fuel : ℕ) →
@@ -110,7 +110,7 @@ WaitedAfter server out one waiting =
     let new : World = going fuel one directory token world in
     (new.filed ≡ world.filed ++ taken_of one.took waiting) × (new.waiting ≡ left_of one.took waiting)
 
--- what this gave, where the clock stands so: the server stands for it
+-- the effect of this event at this moment of the clock: the server represents the state after it
 pub record Came (at : ℕ) (one : Happened) (old new : StepState) : Type 0 where
   pub went : Follows old.server old.offers new.server new.offers (λ d token. came d token at (digest_event d one.event one.kept one.rows) one.took)
   pub waiting : List Row
@@ -124,7 +124,7 @@ pub record Came (at : ℕ) (one : Happened) (old new : StepState) : Type 0 where
   pub handed : Handed one.took waiting between.held new.keeper.held between.calls new.keeper.calls
   pub handed_counted : HandedCounted one.took between.faults new.keeper.faults
 
--- and what became of the keeper in an event, where the deadlines before it leave the configuration as it is
+-- and the effect on the keeper in an event, where the timers before it do not change the configuration
 pub record KeeperWent (one : Happened) (old : StepState) (keeper : KeeperSeen) : Type 0 where
   pub waiting : List Row
   pub between : KeeperSeen

@@ -1,4 +1,4 @@
--- What the turns of `drive` so far took of a link and made of it.
+-- What the turns of `drive` so far received from a link and did with it.
 use Rattle.std.specs.Prelude.{◌≡◌, ◌⊎◌, ◌+◌, ◌<◌, ◌≤◌, ℕ, Bool, true, false, List, [], ◌∷◌, ◌++◌, length, take, Option, Some, None, Result, Ok, Err}
 use Rattle.mmtel_http.specs.Requests.{Request, unfinished, bad, large, asked}
 use Rattle.mmtel_link.specs.Told.{Ear, coming, web_bytes}
@@ -11,14 +11,14 @@ use Rattle.mmtel_server.specs.Seen.{ServingState}
 
 -- ---- one connection
 
--- whether more bytes can make a request
+-- whether more bytes can complete it to a request
 abbrev pub is_unfinished : Request → Bool
 is_unfinished unfinished = true
 is_unfinished bad = false
 is_unfinished large = false
 is_unfinished (asked a) = false
 
--- it came behind what the ear had heard, and so many of its bytes were read; reading has ended before their end, or not
+-- the connection came after the link's earlier input, and so many of its bytes were read; reading has ended before their end, or not
 abbrev pub read_to : Ear → ℕ → Bool → Ear
 read_to ear count over = record ear { reads = ear.reads ++ count ∷ []; over = over }
 
@@ -35,7 +35,7 @@ HasRead (Some ear) later giving gave (Ok bytes) =
     × ((IsReadOut (length bytes) (web_bytes (coming ear)) × (gave ≡ giving)) ⊎ Rose giving gave)
 HasRead (Some ear) later giving gave (Err e) = (over : Bool) × (count : ℕ) × (later ≡ Some (read_to ear count over))
 
--- what a read adds: some bytes and no more than it takes, or none
+-- what a read adds: at least one byte and at most its maximum, or none
 abbrev pub Grows : List ℕ → List ℕ → Bool → Type 0
 Grows bytes more true = (length bytes < length more) × (length more ≤ length bytes + most_read) × (take (length bytes) more ≡ bytes)
 Grows bytes more false = more ≡ bytes
@@ -48,7 +48,7 @@ ReadsOn ear later giving gave bytes (Err e) = HasRead ear later giving gave (Err
 
 -- ---- all turns
 
--- so many events came, and were done: what was made of them, but for what was offered
+-- so many events came, and were processed: their effect, but for the outputs
 pub record MadeSoFar (happened : List Happened) (turns : ℕ) (old new : ServingState) : Type 0 where
   pub told : HeardMore old.link.ear new.link.ear (events_in happened)
   pub each : length happened ≡ turns
@@ -57,7 +57,7 @@ pub record MadeSoFar (happened : List Happened) (turns : ℕ) (old new : Serving
   pub sheets : HoldsUploads happened old.server old.keeper.held new.keeper.held
   pub counted : EachCounted happened old.keeper.faults new.keeper.faults
 
--- and what was offered, for `drive`
+-- and the outputs, for `drive`
 pub record Drove (turns : ℕ) (old new : ServingState) (out now : List Offer) : Type 0 where
   pub happened : List Happened
   pub made : MadeSoFar happened turns old new

@@ -21,17 +21,17 @@ use mmtel_types::Failed;
 use std::alloc::Global;
 use std::sync::ledger::Ledger;
 
-/// How many bytes one read takes at most.
+/// The maximum number of bytes of one read.
 const ROOM: usize = 4096;
 
-/// How often one connection is read at most: each read but the last gives a byte of a request that is not whole yet, and such a one is no longer than the greatest head and
-/// the greatest body.
+/// The maximum number of reads of one connection: each read but the last returns a byte of a request that is not complete yet, and such a request is no longer than the maximum
+/// head and the maximum body.
 const READS: u64 = 8192 + 65_536 + 1;
 
-/// Why driving ended before its turns were made and before the link was closed.
+/// Why driving ended before its turns were done and before the link was closed.
 #[derive(Clone, Copy, Debug, PartialEq, Eq)]
 pub enum DriveFault {
-    /// The link could not take in what comes next. It was counted there.
+    /// The link failed to receive the next event. The fault was counted there.
     LinkFault,
     /// Memory ran out, in the link, in reading a connection or in a step of the server.
     NoMemory,
@@ -47,7 +47,7 @@ impl From<NoMemory> for DriveFault {
     }
 }
 
-/// Reads once of the connection that came last, behind what was read of it. False at its end, and where the read fails, which ends it too.
+/// Reads once from the connection that came last, and appends the bytes. False at its end, and where the read fails, which ends it too.
 fn read_more<N: Link>(alloc: Global, link: &mut N, bytes: &mut Text) -> Result<bool, NoMemory>
     ensures read { (ear : Option Ear) → IsReading ear (N.ear link.old) bytes.old →
         ReadsOn ear (N.ear link.new) (N.giving link.old) (N.giving link.new) bytes.new result }
@@ -69,14 +69,14 @@ fn read_more<N: Link>(alloc: Global, link: &mut N, bytes: &mut Text) -> Result<b
     }
 }
 
-/// Whether more bytes can make a request of these.
+/// Whether more bytes can complete these to a request.
 fn is_unfinished(bytes: &[u8]) -> bool
     ensures { result ≡ is_unfinished (request_of bytes.now) }
 {
     matches!(whole(bytes), Whole::More)
 }
 
-/// Reads the connection that came last: until its bytes are a request, or can be none, or it is at its end, or a read fails (RFC 9112 §6.3); and no further.
+/// Reads the connection that came last: until its bytes are a request, or cannot become one, or it is at its end, or a read fails (RFC 9112 §6.3); and no further.
 fn read_request<N: Link>(alloc: Global, link: &mut N) -> Result<Text, NoMemory>
     ensures needed { IfOk result (λ bytes. IsNeeded (length bytes) bytes) }
     ensures read { (ear : Option Ear) → IsReading ear (N.ear link.old) [] →
@@ -99,7 +99,7 @@ fn read_request<N: Link>(alloc: Global, link: &mut N) -> Result<Text, NoMemory>
     Ok(bytes)
 }
 
-/// The event that an arrival is, if it is one. Of a web connection it has the bytes that are read.
+/// The event that an arrival is, if it is one. That of a web connection has the bytes that are read.
 fn event_of<N: Link>(
     alloc: Global,
     link: &mut N,
@@ -125,13 +125,13 @@ fn event_of<N: Link>(
     }
 }
 
-/// The event that comes next, of a web connection with the bytes that are read of it until they are a request, or can be none, or there are no more of them (RFC 9112
+/// The next event, that of a web connection with the bytes that are read from it until they are a request, or cannot become one, or there are no more of them (RFC 9112
 /// §6.3); None where the link is closed.
 ///
 /// # Errors
 ///
-/// `LinkFault` only where the link's count of taking in rose. `NoMemory` where memory ran out in the link or in reading a connection; the event is lost then. A read that
-/// fails is no error: it ends its connection, of which the bytes before it count.
+/// `LinkFault` only where the link's count of arrival faults rose. `NoMemory` where memory ran out in the link or in reading a connection; the event is lost then. A read that
+/// fails is no error: it ends its connection, of which the bytes before it are used.
 pub fn next_event<N: Link>(alloc: Global, link: &mut N) -> Result<Option<Event>, DriveFault>
     ensures heard { Takes (N.ear link.old) (N.ear link.new) (N.giving link.old) (N.giving link.new) result }
     ensures giving { StandsOrRose (N.giving link.old) (N.giving link.new) }
@@ -146,7 +146,7 @@ pub fn next_event<N: Link>(alloc: Global, link: &mut N) -> Result<Option<Event>,
     }
 }
 
-/// Does an event.
+/// Processes an event.
 fn meet<K: Keeper, L: Ledger>(
     alloc: Global,
     server: &mut Server,
@@ -165,15 +165,15 @@ fn meet<K: Keeper, L: Ledger>(
     done
 }
 
-/// Takes events of a link and does each of them, until the link is closed or so many turns were made; a turn is one call of the link's `next`, and of a web connection the
-/// reads until its request is whole. What the server offers, replies on web connections among it, is added behind what stands in `out`; nothing is sent. Records are kept
-/// by the keeper. What is looked at of the transactions is added to the counter. True exactly where the link is closed, and false exactly where each turn took an event.
+/// Receives events from a link and processes each of them, until the link is closed or so many turns were done; a turn is one call of the link's `next`, and for a web connection
+/// the reads until its request is complete. The outputs of the server, its replies on web connections among them, are appended to `out`; nothing is sent. Records are stored
+/// by the keeper. The steps of searching the transactions are added to the counter. True exactly where the link is closed, and false exactly where each turn received an event.
 ///
 /// # Errors
 ///
-/// `LinkFault` only where the link's count of taking in rose: the first `next` that fails ends it, and the server, the keeper and the offers stand as after the events that
-/// were taken before. `NoMemory` where memory ran out in the link, in reading a connection or in a step; a front of the last event's offers may then have been added, and
-/// its record kept. A read that fails is no error: it ends its connection, of which the bytes before it count.
+/// `LinkFault` only where the link's count of arrival faults rose: the first `next` that fails ends it, and the server, the keeper and the outputs are as after the events that
+/// came before. `NoMemory` where memory ran out in the link, in reading a connection or in a step; a prefix of the last event's outputs may then have been appended, and
+/// its record stored. A read that fails is no error: it ends its connection, of which the bytes before it are used.
 pub fn drive<N: Link, K: Keeper, L: Ledger>(
     alloc: Global,
     server: &mut Server,

@@ -1,4 +1,4 @@
-//! Laws of what a server went through: each is the contract of a function that does nothing.
+//! Theorems about the run of a server: each is the contract of a function that does nothing.
 ghost use Rattle.mmtel_server.specs.Follows.{AllDrawOn};
 ghost use Rattle.mmtel_server.specs.Laws.{ReadOutSaysAll, RunLaws, UnfailedAreReadOut, WentGives, WentSeesAlike};
 
@@ -9,8 +9,8 @@ use mmtel_run_laws::{
     seats_of_runs_are_charged_once,
 };
 
-/// Whatever a server went through from its beginning, it offered exactly what the run gives.
-/// Of that an untrusted peer sees what it would see of any other run that is equal without its private places (RFC 3323, RFC 3325 §7).
+/// Whatever run a server went through from its beginning, its outputs are exactly those of the run.
+/// Of these an untrusted peer observes what it would observe of any other run that is equal without its private places (RFC 3323, RFC 3325 §7).
 pub fn servers_offer_what_runs_give()
     ensures exact { WentGives }
     ensures secret { WentSeesAlike }
@@ -18,7 +18,7 @@ pub fn servers_offer_what_runs_give()
     runs_keep_the_secret();
 }
 
-/// Where no read of a link failed, each web connection was read out; and what was not read of one that was read out changes nothing of what is asked.
+/// Where no read of a link failed, each web connection was read to the end of its request; and bytes beyond that do not change the request.
 pub fn connections_are_read_out()
     ensures unfailed { UnfailedAreReadOut }
     ensures all { ReadOutSaysAll }
@@ -26,8 +26,8 @@ pub fn connections_are_read_out()
     whole_requests_stand();
 }
 
-/// The laws of runs by which what a server did follows: what calls come to, which seats are charged and what is sent; that no number is drawn back, that deadlines come to an
-/// end, and that rows are filed.
+/// The theorems about runs from which the claims about a server follow: the outcome of calls, which participants are charged and what is sent; that the count of drawn numbers
+/// never decreases, that timers come to an end, and that CDRs are filed.
 pub fn laws_of_runs_hold()
     ensures { RunLaws }
 {
@@ -39,7 +39,7 @@ pub fn laws_of_runs_hold()
     runs_send_clean_messages();
 }
 
-/// Whatever is done on calls and rooms, no number is drawn back.
+/// Whatever is done on calls and conferences, the count of drawn numbers never decreases.
 pub(crate) fn numbers_are_drawn_on()
     ensures { AllDrawOn }
 {

@@ -1,4 +1,4 @@
-//! The server: what each event of a run makes it offer.
+//! The server: what it outputs for each event of a run.
 #![tactic(auto)]
 
 mod driving;

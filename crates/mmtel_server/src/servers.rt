@@ -24,16 +24,16 @@ use mmtel_transaction::{Tokens, Transactions};
 use mmtel_types::Moment;
 use std::alloc::Global;
 
-/// What each deed of a step reads beside the server.
+/// What each operation of a step reads beside the server.
 #[derive(Clone, Copy)]
 struct Context {
     /// The allocator.
     alloc: Global,
-    /// The moment at which it is done.
+    /// The moment of the operation.
     at: Moment,
 }
 
-/// A server, which stands for what was done in its run. It must be spent, by `Server::give_up`.
+/// A server, whose fields represent the state of its run. It is linear: `Server::give_up` releases it.
 pub struct Server {
     /// Its configuration.
     directory: Directory,
@@ -43,19 +43,19 @@ pub struct Server {
     transactions: Transactions,
     /// The calls.
     calls: Calls,
-    /// The conference rooms.
+    /// The conferences.
     rooms: Rooms,
-    /// What was said of mailboxes, and who subscribes to them.
+    /// The counts of the mailboxes, and the subscriptions to them.
     boxes: Boxes,
-    /// The deadlines of calls, of seats and of subscriptions that did not fire.
+    /// The timers of calls, of participants and of subscriptions that did not fire.
     armed: Alarms,
-    /// The charging rows that wait for the keeper, in the order in which they were closed: each is taken from the calls or the rooms as soon as they have closed it.
+    /// The CDRs that wait for the keeper, in the order in which they were closed: each is removed from the calls or the conferences as soon as they have closed it.
     waiting: List<Row>,
     /// The records in force, and the registrations.
     records: Records,
     /// The greatest moment so far.
     clock: Moment,
-    /// How many events came and deadlines fired.
+    /// How many events came and timers fired.
     steps: u64,
     /// Memory ran out in a step: nothing is done from then on.
     failed: bool,

@@ -1,4 +1,4 @@
--- Which deadline comes first: that of a call or a seat is the one that was chosen, and is due.
+-- Which timer comes first: that of a call or a participant is the one that was chosen, and is due.
 use Rattle.std.proofs.Common.{◌≡◌, ℕ, ◌≤◌, List, [], ◌∷◌, refl, sym, Option, Some, None, IfSome}
 use Rattle.std.specs.Prelude.{Bool, true, false, nat_le, if◌then◌else◌}
 use Rattle.std.specs.Option.{option_map}
@@ -10,7 +10,7 @@ use Rattle.mmtel_run.specs.Deadlines.{Armed, Chosen, Deadline, OfAlarm, OfMessag
 use Rattle.mmtel_server_decisions.specs.declared.deadlines.Deadline as deadlines
 use Rattle.mmtel_server_decisions.specs.declared.deadlines.Deadline.TheVariants as deadline
 
--- the code's deadline is one
+-- the code's timer is one
 pub kind_is : (o : Option Deadline) (x : deadlines.Deadline) → Some x ≡ option_map kind_of o → (first : Deadline) × (o ≡ Some first) × (kind_of first ≡ x)
 kind_is None x e = absurd (none-some x (sym e))
 kind_is (Some first) x e = (first, refl, same_Some (kind_of first) x (sym e))
@@ -19,17 +19,17 @@ pub unkind : (o : Option Deadline) → None ≡ option_map kind_of o → o ≡ N
 unkind None e = refl
 unkind (Some first) e = absurd (none-some (kind_of first) e)
 
--- of messages
+-- of a transaction
 pub of_message : (first : Deadline) → kind_of first ≡ deadline.OfMessage → OfMessage ≡ first
 of_message OfMessage e = refl
 of_message (OfAlarm armed others) e = absurd (let f : deadline.OfAlarm ≡ deadline.OfMessage = e in cc)
 
--- of a call or a seat
+-- of a call or a participant
 pub of_alarm : (first : Deadline) (chosen : Option Chosen) → kind_of first ≡ deadline.OfAlarm → IsChosen chosen first → (call : Chosen) × (chosen ≡ Some call) × (OfAlarm call.first call.others ≡ first)
 of_alarm OfMessage chosen e is = absurd (let f : deadline.OfMessage ≡ deadline.OfAlarm = e in cc)
 of_alarm (OfAlarm armed others) chosen e is = (choose armed others, is, refl)
 
--- that of a call or a seat is the one that was chosen
+-- that of a call or a participant is the one that was chosen
 pub is_chosen : (o : Option Next) (call : Option Chosen) → IfSome (first_of o call) (IsChosen call)
 is_chosen None None = tt
 is_chosen (Some next) None = tt

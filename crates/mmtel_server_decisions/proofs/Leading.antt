@@ -1,4 +1,4 @@
--- The one that comes first of some of those that are kept: of one rank it is the one whose deadline is the soonest, and of two ranks the sooner of both.
+-- The first of some of the timers that are stored: of one rank it is the one with the soonest deadline, and of two ranks the sooner of both.
 use Rattle.std.proofs.Common.{◌≡◌, ℕ, ◌≤◌, ◌<◌, ◌⊎◌, inl, inr, Bool, true, false, cond, List, [], ◌∷◌, map, Option, Some, None, refl, sym, ap, ◌∙◌, subst, arith}
 use Rattle.std.specs.Prelude.{◌==◌, nat_lt}
 use Rattle.std.specs.BTreeMap.{is_at}
@@ -18,7 +18,7 @@ use Rattle.mmtel_server_decisions.specs.Queue.{Follow, Numbered, armed_at, deadl
 use Rattle.mmtel_server_decisions.specs.declared.armed.Armed.{Armed}
 use Rattle.mmtel_server_decisions.proofs.Sooner.{Comes, NotBehind, is_late, is_soon, late, not_earlier, on, soon, strictly, weaker}
 
--- ---- facts of all
+-- ---- facts about all of a list
 
 pub all_weaken : {X : Type 0} (P Q : X → Type 0) → ((x : X) → P x → Q x) → (xs : List X) → AllByRecursion P xs → AllByRecursion Q xs
 all_weaken P Q f [] all = tt
@@ -51,7 +51,7 @@ other_number n m not = by_test (is_number n m) refl
     by_test true e = absurd (not (same_number n m e))
     by_test false e = refl
 
--- what was found stands among those of greater numbers
+-- what was found is among those of greater numbers
 pub found_number : (m n : ℕ) (a : Armed) (es : List Numbered) → lookup (is_number n) es ≡ Some a → AllByRecursion (λ e. m < e.0) es → m < n
 found_number m n a [] f all = absurd (none-some a f)
 found_number m n a (x ∷ xs) f all = by_test (is_number n x.0) refl (λ g. found_number m n a xs g all.1) f
@@ -60,7 +60,7 @@ found_number m n a (x ∷ xs) f all = by_test (is_number n x.0) refl (λ g. foun
     by_test true e later g = let s : n ≡ x.0 = same_number n x.0 e in let l : m < x.0 = all.0 in omega (arith, s, l)
     by_test false e later g = later g
 
--- ---- one leads others
+-- ---- one precedes others
 
 -- the other is not sooner, and is later where it was armed before
 abbrev pub Beats : Numbered → Numbered → Type 0

@@ -1,4 +1,4 @@
--- The deadlines as they are kept: the foremost one is the one that is chosen, one that is armed stands behind the others, and one that is taken out leaves the others as they stood.
+-- The timers as they are stored: the foremost one is the one that is chosen, one that is armed comes after the others, and one that is removed leaves the order of the others unchanged.
 use Rattle.std.proofs.Common.{◌≡◌, ℕ, ◌+◌, ◌≤◌, ◌<◌, ◌⊎◌, inl, inr, Bool, true, false, cond, not, List, [], ◌∷◌, ◌++◌, append-nil, map, Option, Some, None, refl, sym, ap, ◌∙◌, subst, arith}
 use Rattle.std.specs.Prelude.{◌==◌, nat_le}
 use Rattle.std.specs.BTreeMap.{insert_entry, is_at}
@@ -27,7 +27,7 @@ use Rattle.mmtel_server_decisions.proofs.Sooner.{behind_one, in_front, is_late, 
 abbrev pub runs : List Numbered → List run.Armed
 runs es = queue_of (values_of es)
 
--- ---- the one that leads all is chosen
+-- ---- the one that precedes all is chosen
 
 abbrev without_number : ℕ → List Numbered → List Numbered
 without_number n = remove_entry (is_number n)
@@ -60,7 +60,7 @@ module _ (now : ℕ) (q : Numbered) where
       none_due now (runs es) (all_runs (λ (a : run.Armed). now < a.at) es (all_weaken (Beats q) (λ e. now < e.1.at) (λ e b.
       let l : q.1.at ≤ e.1.at = not_earlier (run_of q) (run_of e) (is_late (run_of q) (run_of e) b.0) in omega (arith, late, l)) es beats))
 
--- ---- the foremost one leads all
+-- ---- the foremost one precedes all
 
 module _ (next step : ℕ) (ranks : Ranks) (es : List Numbered) (are : AreKept next step ranks es) where
   abbrev UpTo1 : Numbered → Type 0
@@ -125,7 +125,7 @@ module _ (next step : ℕ) (ranks : Ranks) (es : List Numbered) (are : AreKept n
   none_kept [] all = refl
   none_kept (x ∷ xs) all = absurd (all.0 (any_rank x))
 
-  -- what is said of the one that is due
+  -- the statement about the one that is due
   abbrev Says : ℕ → Option Numbered → Type 0
   Says now None = first_armed now (runs es) ≡ None
   Says now (Some q) = (first_armed now (runs es) ≡ Some (choose (run_of q) (runs (without_number q.0 es)))) × (lookup (is_number q.0) es ≡ Some q.1)
@@ -154,7 +154,7 @@ module _ (next step : ℕ) (ranks : Ranks) (es : List Numbered) (are : AreKept n
   pub taken_out : (now : ℕ) (q : Numbered) → Some q ≡ due_by now (foremost ranks es) → Some (choose (run_of q) (runs (without_number q.0 es))) ≡ first_armed now (runs es)
   taken_out now q e = let said : Says now (Some q) = subst (Says now) (sym e) (says now) in sym said.0
 
--- ---- those of a rank once one is armed or taken out
+-- ---- those of a rank once one is armed or removed
 
 all_last : {X : Type 0} (P : X → Type 0) (xs : List X) (x : X) → AllByRecursion P xs → P x → AllByRecursion P (xs ++ x ∷ [])
 all_last P [] x all one = (one, tt)
@@ -233,7 +233,7 @@ module _ (r n : ℕ) where
       by_test true = refl
       by_test false = refl
 
--- ---- one is taken out
+-- ---- one is removed
 
 follow_out : (n : ℕ) (es : List Numbered) → Follow es → Follow (without_number n es)
 follow_out n [] follow = tt
@@ -254,7 +254,7 @@ kept_out next step ranks es n are = record {
   expiries = ap (without (key_of n)) are.expiries ∙ sym (of_rank_out 4 n es are.in_order);
 }
 
--- ---- one more
+-- ---- one more is armed
 
 one_more : (n : ℕ) (a : Armed) (es : List Numbered) → AllByRecursion (λ e. e.0 < n) es → insert_entry nat_cmp es n a ≡ es ++ (n, a) ∷ []
 one_more n a [] all = refl
@@ -286,7 +286,7 @@ module _ (next step : ℕ) (ranks : Ranks) (es : List Numbered) (are : AreKept n
   pub seen_more : values_of (insert_entry nat_cmp es next a) ≡ values_of es ++ a ∷ []
   seen_more = ap values_of (one_more next a es numbers) ∙ map-append (λ e. e.1) es (new ∷ [])
 
-  -- those of its rank have it behind them, and those of other ranks stay
+  -- those of its rank have it after them, and those of other ranks are unchanged
   ranked_more : (k r : ℕ) (l : List Deadline) → k ≡ rank_of new → l ≡ of_rank r es → cond (k == r) (armed_last a.at (key_of next) l) l ≡ of_rank r (es ++ new ∷ [])
   ranked_more k r l is e =
       ap (λ (l : List Deadline). cond (k == r) (armed_last a.at (key_of next) l) l) e

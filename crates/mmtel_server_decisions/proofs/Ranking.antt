@@ -1,4 +1,4 @@
--- The ranks of deadlines: there are five.
+-- The ranks of timers: there are five.
 use Rattle.std.proofs.Common.{◌≡◌, ◌⊎◌, inl, inr, refl}
 use Rattle.mmtel_run.specs.Deadlines.{Alarm, OfBox, OfCall, OfSeat, rank}
 use Rattle.mmtel_transaction.specs.declared.words.DueWord.TheVariants as due

@@ -1,4 +1,4 @@
--- Which of two deadlines of calls and of seats is sooner, and the one that is chosen of a queue.
+-- Which of two timers of calls and of participants is sooner, and the one that is chosen from a queue.
 use Rattle.std.proofs.Common.{◌≡◌, ℕ, ◌≤◌, ◌<◌, ◌⊎◌, inl, inr, Bool, true, false, List, [], ◌∷◌, Option, Some, None, IfSome, refl, sym, ap, ◌∙◌, arith}
 use Rattle.std.specs.Prelude.{◌==◌, ◌&&◌, ◌||◌, nat_le, nat_lt, if◌then◌else◌}
 use Rattle.std.specs.List.{AllByRecursion}
@@ -30,7 +30,7 @@ module _ (a s r b t u : ℕ) where
   soon_rank : a ≡ b → s ≡ t → r < u → sooner_by a s r b t u ≡ true
   soon_rank e f l = grind (arith, nat_tests)
 
--- ---- one comes before another, or not behind it
+-- ---- one comes before another, or not after it
 
 abbrev pub rank_in : Armed → ℕ
 rank_in x = rank x.alarm
@@ -101,7 +101,7 @@ strictly x y (inr (e, inr (f, l))) n = inr (
 
 -- ---- the one that is chosen
 
--- what holds of all holds of it
+-- what holds for all holds for it
 first_is : (P : Armed → Type 0) (now : ℕ) (queue : List Armed) → AllByRecursion P queue → IfSome (first_armed now queue) (λ c. P c.first)
 first_is P now [] all = tt
 first_is P now (x ∷ others) all = go (nat_le x.at now) (first_armed now others) (first_is P now others all.1)

@@ -1,4 +1,4 @@
--- The deadlines of calls and of seats of rooms, as the server keeps them.
+-- The timers of calls, of participants of conferences and of subscriptions, as the server stores them.
 use Rattle.std.specs.Prelude.{◌≡◌, ◌==◌, ◌&&◌, ◌||◌, nat_lt, nat_le, Bool, ℕ, ⊤, List, map, Option, Some}
 use Rattle.std.specs.Option.{option_map}
 use Rattle.mmtel_run.specs.Deadlines.{Alarm, Armed, Chosen, Deadline, OfAlarm, OfBox, OfCall, OfMessage, OfSeat, choose}
@@ -20,26 +20,26 @@ armed_in armed = record { alarm = alarm_in armed.alarm; at = armed.at; step = ar
 abbrev pub queue_of : List declared.Armed → List Armed
 queue_of armed = map (λ a. armed_in a) armed
 
--- the one that comes first, of those that are due
+-- the first of those that are due
 abbrev pub first_in : Option Chosen → Option Armed
 first_in chosen = option_map (λ c. c.first) chosen
 
--- one that was taken out, and the others
+-- one that was removed, and the others
 abbrev pub chosen_of : Option declared.Armed → (others : List Armed) → Option Chosen
 chosen_of taken others = option_map (λ a. choose (armed_in a) others) taken
 
--- which of both comes first
+-- which of the two comes first
 abbrev pub kind_of : Deadline → deadlines.Deadline
 kind_of OfMessage = deadline.OfMessage
 kind_of (OfAlarm armed others) = deadline.OfAlarm
 
 -- ---- what private functions alone cite
 
--- a deadline of a message, of this moment and step, comes before one of a call or a seat
+-- a timer of a transaction, of this moment and step, comes before one of a call, participant or subscription
 abbrev pub is_before : (at step : ℕ) → Armed → Bool
 is_before at step armed = nat_lt at armed.at || (at == armed.at && nat_le step armed.step)
 
--- that of a call or a seat is the one that was chosen
+-- that of a call, participant or subscription is the one that was chosen
 abbrev pub IsChosen : Option Chosen → Deadline → Type 0
 IsChosen chosen OfMessage = ⊤
 IsChosen chosen (OfAlarm armed others) = chosen ≡ Some (choose armed others)

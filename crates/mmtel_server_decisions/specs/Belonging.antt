@@ -1,4 +1,4 @@
--- Whose a request of the server's is, in the words of a run.
+-- The owner of a request of the server, as a value of the definitions of a run.
 use Rattle.mmtel_run.specs.Rooms.{OfBoxes, OfCalls, OfRooms, Whose}
 use Rattle.mmtel_server_decisions.specs.declared.belonging.Whose as declared
 use Rattle.mmtel_server_decisions.specs.declared.belonging.Whose.TheVariants as whose

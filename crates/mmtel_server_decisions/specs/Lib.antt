@@ -1,6 +1,6 @@
--- What public clauses cite: deadlines of calls and of seats, whose a request is, and the rows that wait.
+-- What public clauses cite: timers of calls, participants and subscriptions, the owner of a request, and the CDRs that wait.
 pub mod Arming
 pub mod Belonging
 pub mod Handed
--- What private functions alone cite: the deadlines as they are kept.
+-- What private functions alone cite: the timers as they are stored.
 pub mod Queue

@@ -1,4 +1,4 @@
--- The deadlines of calls and of seats of rooms as they are kept: by the number of their arming, and their moments by rank.
+-- The timers of calls, of participants and of subscriptions as they are stored: by the number of their arming, and their moments by rank.
 use Rattle.std.specs.Prelude.{ℕ, ◌≡◌, ◌<◌, ◌≤◌, ◌==◌, nat_le, if◌then◌else◌, List, [], ◌∷◌, map, Option, Some, None}
 use Rattle.std.specs.BTreeMap.{is_at}
 use Rattle.std.specs.List.{AllByRecursion, filter}
@@ -13,7 +13,7 @@ use Rattle.mmtel_server_decisions.specs.Arming.{alarm_in, armed_in}
 use Rattle.mmtel_server_decisions.specs.declared.armed.Armed.{Armed}
 use Rattle.mmtel_server_decisions.specs.declared.ranks.Ranks.{Ranks}
 
--- one that is armed, with the number of its arming
+-- a timer that is armed, with the number of its arming
 abbrev pub Numbered : Type 0
 Numbered = ℕ × Armed
 
@@ -25,7 +25,7 @@ rank_of e = rank (alarm_in e.1.alarm)
 
 -- ---- those of one rank
 
--- a number as it is armed
+-- a number as a key
 abbrev pub key_of : ℕ → Key
 key_of number = record { 0 = number }
 
@@ -35,7 +35,7 @@ deadline_of e = (e.1.at, key_of e.0)
 abbrev pub of_rank : ℕ → List Numbered → List Deadline
 of_rank r entries = map (λ e. deadline_of e) (filter (λ e. rank_of e == r) entries)
 
--- the deadlines of one rank are changed, and those of the others stay
+-- the deadlines of one rank are changed, and those of the others are kept
 abbrev pub in_rank : ℕ → (List Deadline → List Deadline) → Ranks → Ranks
 in_rank r change ranks =
     if r == 0 then record ranks { no_replies = change ranks.no_replies }
@@ -54,9 +54,9 @@ in_ranks change ranks = record {
   expiries = change ranks.expiries;
 }
 
--- ---- the first one
+-- ---- the first timer
 
--- the one whose deadline this is
+-- the timer with this deadline
 abbrev pub armed_at : Option Deadline → List Numbered → Option Numbered
 armed_at None entries = None
 armed_at (Some deadline) entries = option_map (λ a. (deadline.1.0, a)) (lookup (is_at (nat_cmp deadline.1.0)) entries)
@@ -71,27 +71,27 @@ sooner_of (Some one) (Some other) = if is_sooner (run_of other) (run_of one) the
 abbrev pub soonest_in : List Deadline → List Numbered → Option Numbered
 soonest_in deadlines entries = armed_at (soonest deadlines) entries
 
--- of those of calls that ring, and of invitations that do
+-- the first of ranks 0 to 2: those of calls that are offered, and of participants that are invited
 abbrev pub ringing : Ranks → List Numbered → Option Numbered
 ringing ranks entries = sooner_of (sooner_of (soonest_in ranks.no_replies entries) (soonest_in ranks.no_pracks entries)) (soonest_in ranks.caps entries)
 
--- of the first ones of each rank, the one that comes first
+-- the first timer among the first ones of each rank
 abbrev pub foremost : Ranks → List Numbered → Option Numbered
 foremost ranks entries = sooner_of (sooner_of (ringing ranks entries) (soonest_in ranks.no_acks entries)) (soonest_in ranks.expiries entries)
 
--- one that is due
+-- a timer, where it is due
 abbrev pub due_by : ℕ → Option Numbered → Option Numbered
 due_by now None = None
 due_by now (Some e) = if nat_le e.1.at now then Some e else None
 
--- ---- what is kept
+-- ---- the invariant
 
--- numbers rise, and steps do not fall
+-- numbers increase, and steps do not decrease
 abbrev pub Follow : List Numbered → Type 0
 Follow [] = Unit {0}
 Follow (e ∷ es) = AllByRecursion (λ x. (e.0 < x.0) × (e.1.step ≤ x.1.step)) es × Follow es
 
--- each was armed before the next one and in no later step than the last one, and each stands among those of its rank
+-- each was armed before the next one and in no later step than the last one, and each is among those of its rank
 pub record AreKept (next step : ℕ) (ranks : Ranks) (entries : List Numbered) : Type 0 where
   pub in_order : Follow entries
   pub before : AllByRecursion (λ e. (e.0 < next) × (e.1.step ≤ step)) entries

@@ -1,4 +1,4 @@
-//! The deadlines of calls and of seats of rooms that did not fire, in the order in which they fire.
+//! The timers of calls, of participants of conferences and of subscriptions that did not fire, in the order in which they fire.
 ghost use Rattle.std.specs.Prelude.{◌≡◌, ◌++◌, ◌∷◌, [], OnErr, OnOk, IfNone};
 ghost use Rattle.std.specs.Option.{option_map};
 ghost use Rattle.mmtel_run.specs.Deadlines.{first_armed};
@@ -14,7 +14,7 @@ use std::collections::BTreeMap;
 use std::marker::Model;
 use std::sync::ledger::Ledger;
 
-/// The deadlines that did not fire, which contracts see in the order in which they were armed.
+/// The timers that did not fire, in contracts in the order in which they were armed.
 #[derive(Drop)]
 pub struct Alarms {
     alloc: Global,
@@ -38,7 +38,7 @@ impl Model for Alarms {
 }
 
 impl Alarms {
-    /// None yet. It takes no memory.
+    /// None yet. It allocates nothing.
     pub fn new(alloc: Global) -> Alarms
         ensures { result ≡ [] }
     {
@@ -51,11 +51,11 @@ impl Alarms {
         }
     }
 
-    /// Arms a deadline, behind the others, without a step.
+    /// Arms a timer, after the others, without a counted step.
     ///
     /// # Errors
     ///
-    /// Want of memory alone, or that of numbers: 2^64 - 1 are armed in all, and steps do not fall from one that is armed to the next. The deadlines are then as before.
+    /// Out of memory only, or of numbers: 2^64 - 1 timers are armed in all, and the steps of those that are armed do not decrease. The timers are then unchanged.
     pub fn arm<L: Ledger>(&mut self, armed: Armed, steps: &mut Steps<L>) -> Result<(), NoMemory>
         ensures ok { OnOk result (self.new ≡ self.old ++ armed ∷ []) }
         ensures err { OnErr result (self.new ≡ self.old) }
@@ -87,7 +87,7 @@ impl Alarms {
         Ok(())
     }
 
-    /// The one that comes first of those that are due by a moment, and of equal ones the one that was armed first; None where none is due.
+    /// The first of those that are due by a moment, and of equal ones the one that was armed first; None where none is due.
     pub fn first(&self, now: u64) -> Option<Armed>
         ensures { option_map (λ a. armed_in a) result ≡ first_in (first_armed now (queue_of self.now)) }
     {
@@ -97,7 +97,7 @@ impl Alarms {
         }
     }
 
-    /// Takes that one out, without a step; the others stand as they stood.
+    /// Removes that one, without a counted step; the others keep their order.
     pub fn take<L: Ledger>(&mut self, now: u64, steps: &mut Steps<L>) -> Option<Armed>
         ensures first { chosen_of result (queue_of self.new) ≡ first_armed now (queue_of self.old) }
         ensures none { IfNone result (self.new ≡ self.old) }

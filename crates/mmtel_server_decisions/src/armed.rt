@@ -1,4 +1,4 @@
-//! The deadlines of calls, of seats of rooms and of subscriptions (RFC 3261 §13.3.1.4, TS 24.604 §4.8, RFC 3515 §2.4.5, RFC 6665 §4.2.2).
+//! The timers of calls, of participants of conferences and of subscriptions (RFC 3261 §13.3.1.4, TS 24.604 §4.8, RFC 3515 §2.4.5, RFC 6665 §4.2.2).
 ghost use Rattle.std.specs.Prelude.{◌≡◌};
 ghost use Rattle.mmtel_run.specs.Deadlines.{is_sooner, rank};
 ghost use Rattle.mmtel_server_decisions.specs.Arming.{alarm_in, armed_in};
@@ -6,38 +6,38 @@ ghost use Rattle.mmtel_server_decisions.specs.Arming.{alarm_in, armed_in};
 use mmtel_transaction::{DueWord, RoomWord};
 use mmtel_types::{CallNo, RoomNo, SubNo};
 
-/// What is due.
+/// What a timer is for.
 #[derive(Clone, Copy)]
 pub enum Alarm {
     /// Of a call.
     OfCall {
         /// The call.
         call: CallNo,
-        /// What it is.
+        /// Which timer of the call.
         what: DueWord,
     },
-    /// Of a seat of a conference room.
+    /// Of a participant of a conference.
     OfSeat {
-        /// The room.
+        /// The conference.
         room: RoomNo,
-        /// The number of the seat.
+        /// The number of the participant.
         seat: u64,
-        /// What it is.
+        /// Which timer of the participant.
         what: RoomWord,
     },
-    /// That the time of a subscription to a mailbox is over.
+    /// The expiration of a subscription to a mailbox.
     OfBox {
         /// The subscription.
         sub: SubNo,
-        /// The number of the SUBSCRIBE, among its own from 1, that set it.
+        /// The number, counted from 1 within the subscription, of the SUBSCRIBE that set it.
         set: u64,
     },
 }
 
-/// A deadline of a call, of a seat or of a subscription that did not fire.
+/// A timer of a call, of a participant or of a subscription that did not fire.
 #[derive(Clone, Copy)]
 pub struct Armed {
-    /// What is due.
+    /// What it is for.
     pub alarm: Alarm,
     /// Its moment, in milliseconds since 1970-01-01T00:00:00Z.
     pub at: u64,
@@ -58,7 +58,7 @@ impl Armed {
     }
 }
 
-/// The order of those that were armed in one step for one moment.
+/// The order of timers that were armed in one step for one moment.
 pub(crate) fn rank(alarm: Alarm) -> u64
     ensures { result ≡ rank (alarm_in alarm) }
 {

@@ -1,4 +1,4 @@
-//! Whose a message is.
+//! To which table a message belongs.
 ghost use Rattle.std.specs.Prelude.{◌≡◌};
 ghost use Rattle.std.specs.Option.{option_copied};
 ghost use Rattle.mmtel_run.specs.Rooms.{is_of_boxes, is_with, whose_branch, whose_key};
@@ -9,18 +9,18 @@ use mmtel_mwi::Boxes;
 use mmtel_transaction::TKey;
 use mmtel_types::{Account, Peer};
 
-/// Whose a request is that the server sent: its answer, its silence and the end of its transaction are theirs.
+/// The owner of a request that the server sent: it receives the response, the timeout and the end of the transaction.
 #[derive(Clone, Copy)]
 pub enum Whose {
-    /// The calls'.
+    /// The calls.
     Calls,
-    /// The mailboxes': it is a NOTIFY of a subscription.
+    /// The subscriptions: it is a NOTIFY of one.
     Boxes,
-    /// The conference rooms'.
+    /// The conferences.
     Rooms,
 }
 
-/// Whether a NOTIFY of a subscription with this branch waits for its answer.
+/// Whether a NOTIFY of a subscription with this branch awaits its response.
 fn is_of_boxes(boxes: &Boxes, branch: Option<&[u8]>) -> bool
     ensures { result ≡ is_of_boxes (option_copied branch.entry) boxes.now.table }
 {
@@ -30,8 +30,8 @@ fn is_of_boxes(boxes: &Boxes, branch: Option<&[u8]>) -> bool
     }
 }
 
-/// Whose the request is that was sent with this branch: the calls' where an INVITE of one has it, by the branch of an INVITE; the mailboxes' where a NOTIFY of a subscription has
-/// it; and else the rooms' (RFC 3261 §17.1.3).
+/// The owner of the request that was sent with this branch: the calls where an INVITE of one has it, by the branch of an INVITE; the subscriptions where a NOTIFY of one has it;
+/// and else the conferences (RFC 3261 §17.1.3).
 pub fn whose_branch(
     calls: &Calls,
     boxes: &Boxes,
@@ -49,7 +49,7 @@ pub fn whose_branch(
     }
 }
 
-/// Whose the request is that was answered in this client transaction: the calls' where that was an INVITE of one, and else the rooms'.
+/// The owner of the request that got its response in this client transaction: the calls where that was an INVITE of one, and else the conferences.
 pub fn whose_key(calls: &Calls, key: TKey) -> Whose
     ensures { whose_in result ≡ whose_key key calls.now.table.entries }
 {
@@ -60,7 +60,7 @@ pub fn whose_key(calls: &Calls, key: TKey) -> Whose
     }
 }
 
-/// Whether a leg, of whom this is known, is of the peer that asks: a dialog is replaced for no other (RFC 3891 §3).
+/// Whether a leg, with this peer and account, is with the peer that asks: a dialog is replaced for no other (RFC 3891 §3).
 pub fn is_with(peer: Peer, party: Option<(Peer, Option<Account>)>) -> bool
     ensures { result ≡ is_with peer party }
 {

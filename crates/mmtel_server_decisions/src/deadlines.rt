@@ -1,4 +1,4 @@
-//! The deadlines of messages beside those of calls and of seats: which comes first, and at which moment it fires (RFC 3261 §17).
+//! The timers of transactions and those of calls, participants and subscriptions: which comes first, and at which moment it fires (RFC 3261 §17).
 ghost use Rattle.std.specs.Prelude.{◌≡◌, ◌≤◌, Option};
 ghost use Rattle.std.specs.Option.{option_map};
 ghost use Rattle.mmtel_run.specs.Deadlines.{Chosen, first_of};
@@ -8,22 +8,22 @@ ghost use Rattle.mmtel_transaction.specs.Answers.{Next, upcoming_of};
 use crate::armed::Armed;
 use mmtel_types::Moment;
 
-/// Which deadline comes first of those that are due.
+/// Which timer comes first of those that are due.
 pub enum Deadline {
-    /// One of a message.
+    /// One of a transaction.
     OfMessage,
-    /// One of a call or of a seat.
+    /// One of a call, of a participant or of a subscription.
     OfAlarm,
 }
 
-/// Whether a deadline of a message, of this moment and step, comes before one of a call or a seat: unless its moment is later, or of one moment its step.
+/// Whether a timer of a transaction, of this moment and step, comes before one of a call, participant or subscription: unless its moment is later, or for one moment its step.
 fn comes_before(at: u64, step: u64, armed: &Armed) -> bool
     ensures { result ≡ is_before at step (armed_in armed.now) }
 {
     at < armed.at || (at == armed.at && step <= armed.step)
 }
 
-/// Which comes first: the first deadline of messages, by its moment and its step, or the first one of calls and seats.
+/// Which comes first: the first timer of the transactions, by its moment and its step, or the first one of calls, participants and subscriptions.
 pub fn first_of(next: Option<(u64, u64)>, alarm: Option<Armed>) -> Option<Deadline>
     ensures { (message : Option Next) (chosen : Option Chosen) → next ≡ upcoming_of message → option_map (λ a. armed_in a) alarm ≡ first_in chosen →
         result ≡ option_map kind_of (first_of message chosen) }
@@ -42,7 +42,7 @@ pub fn first_of(next: Option<(u64, u64)>, alarm: Option<Armed>) -> Option<Deadli
     }
 }
 
-/// The moment of a deadline, in milliseconds, that fires by another moment: its own, not that of the clock.
+/// The moment at which a timer fires that is due by another moment, in milliseconds: its own, not that of the clock.
 pub fn moment_by(at: u64, now: Moment) -> Moment
     ensures { at ≤ now → result ≡ at }
 {

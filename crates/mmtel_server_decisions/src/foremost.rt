@@ -1,4 +1,4 @@
-//! Which of the deadlines of calls and of seats comes first.
+//! Which of the timers of calls, participants and subscriptions comes first.
 ghost use Rattle.std.specs.Prelude.{◌≡◌};
 ghost use Rattle.mmtel_server_decisions.specs.Queue.{armed_at, due_by, foremost, sooner_of};
 
@@ -7,7 +7,7 @@ use crate::ranks::Ranks;
 use mmtel_timers::Key;
 use std::collections::BTreeMap;
 
-/// One that is armed, with the number of its arming.
+/// A timer that is armed, with the number of its arming.
 type Numbered = (u64, Armed);
 
 /// The second where that is sooner, and else the first.
@@ -27,7 +27,7 @@ fn sooner_of(one: Option<Numbered>, other: Option<Numbered>) -> Option<Numbered>
     }
 }
 
-/// The one whose deadline this is.
+/// The timer with this deadline.
 fn armed_at(armed: &BTreeMap<u64, Armed>, deadline: Option<(u64, Key)>) -> Option<Numbered>
     ensures { result ≡ armed_at deadline armed.now.entries }
 {
@@ -40,7 +40,7 @@ fn armed_at(armed: &BTreeMap<u64, Armed>, deadline: Option<(u64, Key)>) -> Optio
     }
 }
 
-/// The one that comes first of all, due or not.
+/// The first of all, due or not.
 pub fn foremost(ranks: &Ranks, armed: &BTreeMap<u64, Armed>) -> Option<Numbered>
     ensures { result ≡ foremost ranks.now armed.now.entries }
 {
@@ -53,7 +53,7 @@ pub fn foremost(ranks: &Ranks, armed: &BTreeMap<u64, Armed>) -> Option<Numbered>
     sooner_of(sooner_of(ringing, no_ack), expiry)
 }
 
-/// The one, where it is due by a moment.
+/// This timer, where it is due by a moment.
 pub fn due_by(first: Option<Numbered>, now: u64) -> Option<Numbered>
     ensures { result ≡ due_by now first }
 {

@@ -1,4 +1,4 @@
-//! What the server decides in a step: which deadline comes first, whose a message is, and what becomes of the charging rows that wait.
+//! The server's decisions in a step: which timer comes first, to which table a message belongs, and the handing over of the CDRs that wait.
 #![tactic(auto)]
 
 mod alarms;

@@ -1,4 +1,4 @@
-//! The moments of the deadlines of calls and of seats, by rank: of one rank they fire in the order of moments, and of one moment in the order of arming.
+//! The moments of the timers of calls, participants and subscriptions, by rank: those of one rank fire in the order of moments, and those of one moment in the order of arming.
 ghost use Rattle.std.specs.Prelude.{◌≡◌, [], OnErr, OnOk};
 ghost use Rattle.mmtel_timers.specs.Deadlines.{armed_last, without};
 ghost use Rattle.mmtel_server_decisions.specs.Queue.{in_rank, in_ranks, key_of};
@@ -7,23 +7,23 @@ use mmtel_timers::{Deadlines, Key, NoMemory, Steps};
 use std::alloc::Global;
 use std::sync::ledger::Ledger;
 
-/// The moments of each rank, by the numbers of those that are armed.
+/// The moments of each rank, with the numbers of the timers that are armed.
 #[derive(Drop)]
 pub struct Ranks {
-    /// Rank 0: that there is no reply, and that the time of a subscription is over.
+    /// Rank 0: no reply, and the expiration of a subscription.
     pub no_replies: Deadlines,
-    /// Rank 1: that a PRACK is missing.
+    /// Rank 1: a missing PRACK.
     pub no_pracks: Deadlines,
-    /// Rank 2: that the longest time is over.
+    /// Rank 2: the longest time of an attempt.
     pub caps: Deadlines,
-    /// Rank 3: that an ACK is missing.
+    /// Rank 3: a missing ACK.
     pub no_acks: Deadlines,
-    /// Rank 4: that a session was not refreshed.
+    /// Rank 4: the expiration of a session.
     pub expiries: Deadlines,
 }
 
 impl Ranks {
-    /// None of any rank. It takes no memory.
+    /// None of any rank. It allocates nothing.
     pub fn new() -> Ranks
         ensures { result ≡ record { no_replies = []; no_pracks = []; caps = []; no_acks = []; expiries = [] } }
     {
@@ -36,11 +36,11 @@ impl Ranks {
         }
     }
 
-    /// Arms a number of a rank, behind the others, without a step.
+    /// Arms the timer of a number and a rank, after the others, without a counted step.
     ///
     /// # Errors
     ///
-    /// Want of memory alone; all is then as before.
+    /// Out of memory only; nothing is changed then.
     pub fn arm<L: Ledger>(
         &mut self,
         alloc: Global,
@@ -62,7 +62,7 @@ impl Ranks {
         }
     }
 
-    /// Disarms a number, of whatever rank it is, without a step.
+    /// Disarms the timer of a number, of whatever rank it is, without a counted step.
     pub fn disarm<L: Ledger>(&mut self, number: u64, steps: &mut Steps<L>)
         ensures rest { self.new ≡ in_ranks (without (key_of number)) self.old }
         ensures cost { steps.new ≡ steps.old }

@@ -1,4 +1,4 @@
-//! The charging rows that wait at the end of a step (TS 32.260 §5).
+//! The CDRs that wait at the end of a step (TS 32.260 §5).
 ghost use Rattle.std.specs.Prelude.{◌≡◌, IfOk, OnErr};
 ghost use Rattle.mmtel_server_decisions.specs.Handed.{Handed, HandedCounted, StoppedHanding, left_of};
 
@@ -7,11 +7,11 @@ use mmtel_keeper::{KeepFault, Keeper};
 use mmtel_scan::{List, NoMemory};
 use std::alloc::Global;
 
-/// Hands the rows that wait to the keeper, which takes all of them or none. True where none waits from then on. Where none waited the keeper is not called.
+/// Hands the CDRs that wait to the keeper, which accepts all of them or none. True where none waits from then on. Where none waited the keeper is not called.
 ///
 /// # Errors
 ///
-/// Want of memory alone; each of them waits still.
+/// Out of memory only; all of them still wait then.
 pub fn hand_rows<K: Keeper>(
     alloc: Global,
     waiting: &mut List<Row>,

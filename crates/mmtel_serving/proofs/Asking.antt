@@ -1,4 +1,4 @@
--- What a request asks of the keeper rests on no text that is in force, and want of memory is answered alike whatever was asked.
+-- The call of the keeper that a request requires does not depend on the texts in force, and the result where memory runs out is the same for every call.
 use Rattle.std.proofs.Common.{◌≡◌, ◌∙◌, ℕ, List, [], Option, None, Result, Ok, Err, refl, sym, ap, inl}
 use Rattle.std.specs.Prelude.{OnErr}
 use Rattle.mmtel_charging.specs.declared.rows.Row.{Row}
@@ -16,7 +16,7 @@ use Rattle.mmtel_web.specs.Uploads.{OnlyRepliesSeeTexts, UploadsSayTheirText, un
 use Rattle.mmtel_web.specs.declared.answers.Web.{Web}
 use Rattle.mmtel_web.specs.declared.answers.Web.TheVariants as web
 
--- want of memory
+-- out of memory
 pub memory_reply : (rows : List Row) (w : Web) → reply_to no_memory rows w ≡ reply_of 507 []
 memory_reply rows (web.Read text) = refl
 memory_reply rows (web.Store account sheet text reply) = refl
@@ -41,14 +41,14 @@ memory_answers none rows held calls = (λ e. absurd (apart e), (refl, refl))
 memory_answers (stores account text) rows held calls = (refl, inl refl)
 memory_answers asks rows held calls = (refl, inl refl)
 
--- what is to be put in force is what its text says
+-- the sheet that is to be put in force is that of its text
 pub says_its_text : (d : WebDirectory) (texts : List (Account × List ℕ)) (request : Request) (w : Web) → UploadsSayTheirText → w ≡ web_of d texts request → SaysItsText w
 says_its_text d texts request (web.Read text) law is = tt
 says_its_text d texts request (web.Store account sheet text reply) law is = law d texts request account sheet text reply (sym is)
 says_its_text d texts request web.Charges law is = tt
 says_its_text d texts request (web.Mailbox account body) law is = tt
 
--- what is asked of the keeper
+-- the call of the keeper
 call_unsaid : (w : Web) → call_by w ≡ call_by (unsaid w)
 call_unsaid (web.Read text) = refl
 call_unsaid (web.Store account sheet text reply) = refl

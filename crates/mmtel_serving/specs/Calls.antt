@@ -1,4 +1,4 @@
--- Which call of the keeper a web request asks for, and what the keeper made of it.
+-- Which call of the keeper a web request requires, and the result of the call.
 use Rattle.std.specs.Prelude.{◌≡◌, ◌≢◌, ◌⊎◌, ℕ, Bool, true, false, List, [], IfSome, Option, Some, None}
 use Rattle.std.specs.Option.{option_map}
 use Rattle.mmtel_charging.specs.declared.rows.Row.{Row}
@@ -17,9 +17,9 @@ use Rattle.mmtel_web.specs.declared.answers.Web.TheVariants as web
 pub data Call : Type 0 where
   -- none
   none : Call
-  -- that this text be stored as the account's record
+  -- to store this text as the account's record
   stores : (account : Account) → (text : List ℕ) → Call
-  -- that the charging rows be told
+  -- to return the charging rows
   asks : Call
 
 abbrev pub call_by : Web → Call
@@ -28,25 +28,25 @@ call_by (web.Store account sheet text reply) = stores account text
 call_by web.Charges = asks
 call_by (web.Mailbox account body) = none
 
--- it does not rest on what texts there are, so it is asked without any
+-- it does not depend on the texts in force, so it is defined without any
 abbrev pub call_in : WebDirectory → Request → Call
 call_in d request = call_by (web_of d [] request)
 
--- a record that is to be put in force is what its text says
+-- the sheet that is to be put in force is that of its text
 abbrev pub SaysItsText : Web → Type 0
 SaysItsText (web.Read text) = Unit {0}
 SaysItsText (web.Store account sheet text reply) = sheet ≡ kept_sheet text
 SaysItsText web.Charges = Unit {0}
 SaysItsText (web.Mailbox account body) = Unit {0}
 
--- ---- what the keeper made of it, where it tells
+-- ---- the result of the call, where the keeper's contents and calls are known
 
 -- it was called, and failed or not by the number of the call
 abbrev pub WasCalled : (fails : Bool) → Option KeeperCalls → Option KeeperCalls → Type 0
 WasCalled fails None after = after ≡ None
 WasCalled fails (Some calls) after = (after ≡ Some (called calls)) × (fails_next calls ≡ fails)
 
--- memory ran out before it was called, in it, or behind it
+-- memory ran out before the call, in it, or after it
 abbrev pub MayBeCalled : Option KeeperCalls → Option KeeperCalls → Type 0
 MayBeCalled calls after = (after ≡ calls) ⊎ WasCalled false calls after
 
@@ -56,13 +56,13 @@ Stored account text made held later calls after = (later ≡ option_map (with_sh
 Stored account text failed held later calls after = (later ≡ held) × WasCalled true calls after
 Stored account text no_memory held later calls after = (later ≡ held) × MayBeCalled calls after
 
--- the rows that are held are told exactly where the call was made
+-- the rows that the keeper holds are returned exactly where the call was made
 abbrev pub Told : Kept → List Row → Option Held → Option Held → Option KeeperCalls → Option KeeperCalls → Type 0
 Told made rows held later calls after = (later ≡ held) × (IfSome held (λ h. rows ≡ h.rows) × WasCalled false calls after)
 Told failed rows held later calls after = (later ≡ held) × WasCalled true calls after
 Told no_memory rows held later calls after = (later ≡ held) × MayBeCalled calls after
 
--- by the call that a request asks for, what became of it, and the rows that came of it
+-- by the call that a request requires, its result, and the rows that it returned
 abbrev pub Answers : Call → Kept → List Row → Option Held → Option Held → Option KeeperCalls → Option KeeperCalls → Type 0
 Answers none kept rows held later calls after = (kept ≢ failed) × ((later ≡ held) × (after ≡ calls))
 Answers (stores account text) kept rows held later calls after = Stored account text kept held later calls after
@@ -74,7 +74,7 @@ Counted made before now = now ≡ before
 Counted failed before now = Rose before now
 Counted no_memory before now = now ≡ before
 
--- where memory runs out over a request: its call was made, and answered so, or not made at all
+-- where memory runs out during a request: its call was made, with such a result, or not made at all
 pub record Met (call : Call) (held later : Option Held) (calls after : Option KeeperCalls) (faults count : ℕ) : Type 0 where
   pub kept : Kept
   pub rows : List Row

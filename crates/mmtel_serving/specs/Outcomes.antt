@@ -1,4 +1,4 @@
--- What the code says of a keeper's call, as the word of the definitions.
+-- The result of a keeper's call in the program, as the value of the definitions.
 use Rattle.mmtel_serving.specs.declared.outcomes.Outcome.{Outcome}
 use Rattle.mmtel_serving.specs.declared.outcomes.Outcome.TheVariants as outcome
 use Rattle.mmtel_web.specs.Answers.{Kept, made, failed, no_memory}

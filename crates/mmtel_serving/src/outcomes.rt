@@ -1,4 +1,4 @@
-//! What becomes of the calls of a keeper.
+//! The results of the calls of a keeper.
 ghost use Rattle.std.specs.Prelude.{◌≡◌, []};
 ghost use Rattle.mmtel_serving.specs.Calls.{Counted, Stored, Told};
 ghost use Rattle.mmtel_serving.specs.Outcomes.{kept_in};
@@ -10,12 +10,12 @@ use mmtel_scan::{List, Text};
 use mmtel_types::Account;
 use std::alloc::Global;
 
-/// What became of the keeper's call that a request asks for; of one that asks for none, that it was answered.
+/// The result of the keeper's call that a request requires; `Made` for a request that requires none.
 #[derive(Clone, Copy, Debug, PartialEq, Eq)]
 pub enum Outcome {
     /// It was made.
     Made,
-    /// The keeper could not. Nothing has changed.
+    /// The keeper failed. Nothing has changed.
     Failed,
     /// Memory ran out, and nothing has changed.
     NoMemory,
@@ -33,16 +33,16 @@ pub fn store<K: Keeper>(alloc: Global, keeper: &mut K, account: Account, text: &
     }
 }
 
-/// The charging rows, where the keeper gave them.
+/// The charging rows, where the keeper returned them.
 #[derive(Drop)]
 pub struct Charges {
-    /// What became of its call.
+    /// The result of its call.
     pub kept: Outcome,
-    /// The rows that it gave.
+    /// The rows that it returned.
     pub rows: List<Row>,
 }
 
-/// Asks for the charging rows.
+/// Requests the charging rows.
 pub fn ask_rows<K: Keeper>(alloc: Global, keeper: &mut K) -> Charges
     ensures told { Told (kept_in result.kept) result.rows (K.held keeper.old) (K.held keeper.new) (K.calls keeper.old) (K.calls keeper.new) }
     ensures counted { Counted (kept_in result.kept) (K.faults keeper.old) (K.faults keeper.new) }
@@ -63,7 +63,7 @@ pub fn ask_rows<K: Keeper>(alloc: Global, keeper: &mut K) -> Charges
     }
 }
 
-/// The replies that may be due where the keeper is called. They are made before it is, so that what it does is always answered.
+/// The replies for each result of the keeper's call. They are made before the call, so that a reply to its result is always available.
 #[derive(Drop)]
 pub struct Replies {
     /// Where its call was made.
@@ -75,7 +75,7 @@ pub struct Replies {
 }
 
 impl Replies {
-    /// The reply that is due, by what became of the call.
+    /// The reply for this result of the call.
     pub fn after_call(self, kept: Outcome) -> Text
         requires failed { self.failed ≡ reply_of 503 [] }
         requires no_memory { self.no_memory ≡ reply_of 507 [] }

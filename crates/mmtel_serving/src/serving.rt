@@ -30,16 +30,16 @@ use mmtel_web::laws::uploads_are_what_they_say;
 use mmtel_web::{Web, WebDirectory, answer, fault_reply, reply};
 use std::alloc::Global;
 
-/// What came of a request.
+/// The result of a request.
 #[derive(Drop)]
 pub struct Served {
     /// The reply.
     pub reply: Text,
-    /// What became of the keeper's call, where one was due.
+    /// The result of the keeper's call, where one was due.
     pub kept: Outcome,
-    /// The charging rows that the keeper gave.
+    /// The charging rows that the keeper returned.
     pub rows: List<Row>,
-    /// How many messages wait in the mailbox of an account, where the request says so and is accepted.
+    /// The counts of the mailbox of an account, where the request sets them and is accepted.
     pub put: Option<(Account, Counts)>,
 }
 
@@ -54,7 +54,7 @@ struct Upload {
     text: Text,
 }
 
-/// Keeps a record and puts it in force: room is made first, then the keeper stores it, and only then, without memory, it is put in force.
+/// Stores a record and puts it in force: space is reserved first, then the keeper stores it, and only then, without allocation, it is put in force.
 fn keep<K: Keeper>(alloc: Global, records: &mut Records, keeper: &mut K, upload: Upload) -> Outcome
     requires its { upload.sheet ≡ kept_sheet upload.text }
     ensures texts { records.new.texts.texts
@@ -80,7 +80,7 @@ fn keep<K: Keeper>(alloc: Global, records: &mut Records, keeper: &mut K, upload:
     kept
 }
 
-/// Answers for want of memory: this reply, which was made before.
+/// Replies where memory runs out: with this reply, which was made before.
 fn without_memory(sorry: Text, rows: List<Row>) -> Served
     requires { sorry ≡ reply_of 507 [] }
     ensures { result ≡ record { reply = reply_of 507 []; kept = Outcome.NoMemory; rows = rows; put = None } }
@@ -93,7 +93,7 @@ fn without_memory(sorry: Text, rows: List<Row>) -> Served
     }
 }
 
-/// Does what an upload asks. The reply to each outcome is there before the keeper is called.
+/// Does what an upload requests. The reply for each result is made before the keeper is called.
 fn serve_upload<K: Keeper>(
     alloc: Global,
     records: &mut Records,
@@ -139,7 +139,7 @@ fn rows_reply(alloc: Global, rows: &[Row]) -> Result<Text, NoMemory>
     reply(alloc, 200, text.bytes())
 }
 
-/// Answers with the charging rows.
+/// Replies with the charging rows.
 fn with_rows(alloc: Global, rows: List<Row>, sorry: Text) -> Served
     requires { sorry ≡ reply_of 507 [] }
     ensures reply { result.reply ≡ reply_to (kept_in result.kept) result.rows web.Charges }
@@ -158,7 +158,7 @@ fn with_rows(alloc: Global, rows: List<Row>, sorry: Text) -> Served
     }
 }
 
-/// Tells the charging rows. The reply to a failure is there before the keeper is called.
+/// Returns the charging rows. The reply for a failure is made before the keeper is called.
 fn serve_charges<K: Keeper>(alloc: Global, keeper: &mut K, sorry: Text) -> Served
     requires { sorry ≡ reply_of 507 [] }
     ensures reply { result.reply ≡ reply_to (kept_in result.kept) result.rows web.Charges }
@@ -183,7 +183,7 @@ fn serve_charges<K: Keeper>(alloc: Global, keeper: &mut K, sorry: Text) -> Serve
     }
 }
 
-/// The reply to a document that says how many messages wait in a mailbox, where this was read of it.
+/// The reply to a document with the counts of a mailbox, where this was read of it.
 fn counts_reply(alloc: Global, read: &Result<Counts, SheetFault>) -> Result<Text, NoMemory>
     ensures said { (wanted : Read Counts) → TellsCounts wanted read.now → IfOk result (λ said. said ≡ counts_reply wanted) }
     ensures read { IfOk result (λ _. read.now ≢ Err fault.NoMemory) }
@@ -194,7 +194,7 @@ fn counts_reply(alloc: Global, read: &Result<Counts, SheetFault>) -> Result<Text
     }
 }
 
-/// What is put, where this was read of a document of a mailbox.
+/// The counts that are set, where this was read of a document of a mailbox.
 fn accepted(account: Account, read: Result<Counts, SheetFault>) -> Option<(Account, Counts)>
     ensures { (wanted : Read Counts) → TellsCounts wanted read → read ≢ Err fault.NoMemory → result ≡ accepted made account wanted }
 {
@@ -204,7 +204,7 @@ fn accepted(account: Account, read: Result<Counts, SheetFault>) -> Option<(Accou
     }
 }
 
-/// Reads how many messages wait in a mailbox, and replies; the keeper is not called.
+/// Reads the counts of a mailbox, and replies; the keeper is not called.
 fn serve_mailbox(alloc: Global, account: Account, body: &[u8], sorry: Text) -> Served
     requires { sorry ≡ reply_of 507 [] }
     ensures reply { result.reply ≡ reply_to (kept_in result.kept) result.rows (web.Mailbox account body.now) }
@@ -270,7 +270,7 @@ fn serve_web<K: Keeper>(
     }
 }
 
-/// Does what the bytes ask, once there is a reply to want of memory.
+/// Does what the bytes request, once there is a reply for out of memory.
 fn serve_bytes<K: Keeper>(
     alloc: Global,
     names: &WebDirectory,
@@ -296,15 +296,15 @@ fn serve_bytes<K: Keeper>(
     }
 }
 
-/// Does what the bytes of a web connection ask, over the records in force and a keeper: the reply, what became of the keeper's call where one was due, and the rows that it
-/// gave (3GPP TS 24.623 §5; RFC 9110 §15).
+/// Does what the bytes of a web connection request, over the records in force and a keeper: the reply, the result of the keeper's call where one was due, and the rows that it
+/// returned (3GPP TS 24.623 §5; RFC 9110 §15).
 ///
-/// A record is put in force exactly where the keeper stored it. Where the keeper could not, the reply is 503, and for want of memory it is 507; nothing has then changed,
-/// neither here nor there.
+/// A record is put in force exactly where the keeper stored it. Where the keeper failed, the reply is 503, and where memory runs out it is 507; then nothing has changed, neither
+/// here nor in the keeper.
 ///
 /// # Errors
 ///
-/// Want of memory alone, before the request is looked at: not even the reply to want of memory was to be had. Nothing has changed, and the keeper was not called.
+/// Out of memory only before the request is processed: not even the reply for out of memory could be allocated. Nothing has changed, and the keeper was not called.
 pub fn serve<K: Keeper>(
     alloc: Global,
     names: &WebDirectory,
@@ -312,23 +312,23 @@ pub fn serve<K: Keeper>(
     keeper: &mut K,
     bytes: &[u8],
 ) -> Result<Served, NoMemory>
-    // The reply is that of the definitions, by what became of the keeper's call.
+    // The reply is that of the definitions, by the result of the keeper's call.
     ensures reply { IfOk result (λ served. served.reply ≡ web_reply names.now records.old.texts.texts (request_of bytes.now) (kept_in served.kept) served.rows) }
-    // The texts in force are those before, and over them the one that was kept.
+    // The texts in force are those before, and over them the one that was stored.
     ensures texts { IfOk result (λ served. records.new.texts.texts
         ≡ put_kept (kept_upload (kept_in served.kept) (upload_in names.now (request_of bytes.now))) records.old.texts.texts) }
     ensures registered { (registrations : Registrations) → IsRegisteredBy records.old registrations → IsRegisteredBy records.new registrations }
-    // The keeper was called as the request asks, and what it holds has changed by that alone.
+    // The keeper was called as the request requires, and its contents changed by that call alone.
     ensures keeper { IfOk result (λ served.
         Answers (call_in names.now (request_of bytes.now)) (kept_in served.kept) served.rows (K.held keeper.old) (K.held keeper.new) (K.calls keeper.old) (K.calls keeper.new)) }
     // Its count of faults rose exactly where its call failed.
     ensures counted { IfOk result (λ served. Counted (kept_in served.kept) (K.faults keeper.old) (K.faults keeper.new)) }
-    // What the request says of a mailbox is told where it was accepted.
+    // The counts of a mailbox in the request are returned where the request was accepted.
     ensures put { IfOk result (λ served. served.put ≡ put_in names.now (request_of bytes.now) (kept_in served.kept)) }
-    // Want of memory that is not answered came before anything was done: no record has changed, and the keeper was not called.
+    // Out of memory without a reply came before anything was done: no record has changed, and the keeper was not called.
     ensures unchanged { OnErr result (records.new ≡ records.old) }
     ensures uncalled { OnErr result (keeper.new ≡ keeper.old) }
-    // So it meets what is asked of a keeper's call over a request, as the callers say it.
+    // So it satisfies the condition on a keeper's call during a request, in the form that the callers use.
     ensures met { OnErr result (Met (call_in names.now (request_of bytes.now)) (K.held keeper.old) (K.held keeper.new) (K.calls keeper.old) (K.calls keeper.new)
         (K.faults keeper.old) (K.faults keeper.new)) }
 {

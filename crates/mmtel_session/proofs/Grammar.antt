@@ -55,7 +55,7 @@ again s session is =
     let params : params_of (params_text is.params) ≡ Some is.params = whole_params_again (params_text is.params) is.params (record { whole = refl; params_in = is.params_in }) in
     rw (front, back, number, params, is.refresher) refl
 
--- ---- what is answered
+-- ---- the result of the reader
 
 found_by : (s : List ℕ) (read : Option SessionExpires) → session_of s ≡ read → IfOk (ok_or read lex.Malformed) (λ session. IsSession s session)
 found_by s None e = tt

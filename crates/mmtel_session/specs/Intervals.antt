@@ -1,11 +1,11 @@
--- The interval that a request asks for (RFC 4028 §5, §6, §7.1), and when the session of a 2xx expires (§10), by the values of Session-Expires, a line each.
+-- The interval that a request asks for (RFC 4028 §5, §6, §7.1), and when the session of a 2xx expires (§10), by the values of Session-Expires, one per line.
 use Rattle.std.specs.Prelude.{ℕ, ◌*◌, max, nat_lt, if◌then◌else◌, List, [], ◌∷◌, Option, Some, None, Result, Ok, Err}
 use Rattle.mmtel_session.specs.SessionExpires.{session_of}
 use Rattle.mmtel_session.specs.declared.intervals.SessionFault.{SessionFault}
 use Rattle.mmtel_session.specs.declared.intervals.SessionFault.TheVariants.{Malformed, Small}
 use Rattle.mmtel_session.specs.declared.values.SessionExpires.{SessionExpires}
 
--- the least interval that is taken, in seconds (§5: the default of Min-SE)
+-- the least interval that is accepted, in seconds (§5: the default of Min-SE)
 abbrev pub least_interval : ℕ
 least_interval = 90
 

@@ -12,16 +12,16 @@ use Rattle.mmtel_lex.specs.Reading.{params_of}
 use Rattle.mmtel_lex.specs.declared.values.Param.{Param}
 use Rattle.mmtel_session.specs.declared.values.SessionExpires.{SessionExpires}
 
--- whether the side that sends the request refreshes, by a word; None where it is no word of `refresher`
+-- whether the side that sends the request is the refresher, by a word; None where it is no word of `refresher`
 abbrev pub refresher_of : List ℕ → Option Bool
 refresher_of word = if bytes_eq word (codes "uac") then Some true else if bytes_eq word (codes "uas") then Some false else None
 
--- by the value of a parameter `refresher`, which has to be there
+-- by the value of a parameter `refresher`, which has to be present
 abbrev pub refresher_by : Option (List ℕ) → Option (Option Bool)
 refresher_by None = None
 refresher_by (Some word) = refresher_of word >>= λ caller. Some (Some caller)
 
--- by the first parameter `refresher`; without one nothing is said of it
+-- by the first parameter `refresher`; without one the refresher is left open
 abbrev pub refresher_in : List Param → Option (Option Bool)
 refresher_in params = if has_param (codes "refresher") params then refresher_by (param_value (codes "refresher") params) else Some None
 
@@ -33,7 +33,7 @@ session_of s = do
   refresher ← refresher_in params
   Some (record { interval = interval; caller_refreshes = refresher })
 
--- the bytes are of the grammar, and this is what they say: digits, and parameters behind them
+-- the bytes are of the grammar, and this is what they say: digits, and parameters after them
 pub record IsSession (s : List ℕ) (session : SessionExpires) : Type 0 where
   pub digits : List ℕ
   pub params : List Param

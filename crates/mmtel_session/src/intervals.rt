@@ -6,13 +6,13 @@ ghost use Rattle.mmtel_session.specs.Intervals.{check, expiry_after};
 use crate::values::read_session;
 use mmtel_message::Msg;
 
-/// The least interval of a session that is taken, in seconds (RFC 4028 §5: the default of Min-SE).
+/// The least interval of a session that is accepted, in seconds (RFC 4028 §5: the default of Min-SE).
 pub const LEAST_INTERVAL: u32 = 90;
 
 /// Why the session that a request asks for is refused.
 #[derive(Clone, Copy, Debug, PartialEq, Eq)]
 pub enum SessionFault {
-    /// There is more than one line Session-Expires, or the one cannot be read.
+    /// There is more than one Session-Expires line, or the only one cannot be read.
     Malformed,
     /// The interval is below `LEAST_INTERVAL` (RFC 4028 §6).
     Small {
@@ -21,11 +21,11 @@ pub enum SessionFault {
     },
 }
 
-/// The interval of the session that a request asks for, in seconds; None where it asks for none, that is has no line Session-Expires. It takes no memory.
+/// The interval of the session that a request asks for, in seconds; None where it asks for none, that is, has no Session-Expires line. It allocates nothing.
 ///
 /// # Errors
 ///
-/// 1. `Malformed` exactly where there is a second line, or the one cannot be read.
+/// 1. `Malformed` exactly where there is a second line, or the only one cannot be read.
 /// 2. `Small` exactly where the interval is below `LEAST_INTERVAL`.
 pub fn check(m: &Msg) -> Result<Option<u32>, SessionFault>
     ensures exact { result ≡ check (line_texts (codes "Session-Expires") m.now.lines) }
@@ -48,8 +48,8 @@ pub fn check(m: &Msg) -> Result<Option<u32>, SessionFault>
     Ok(Some(interval))
 }
 
-/// How long after a 2xx its session expires, unless another 2xx refreshes it before (RFC 4028 §10), in milliseconds: the interval of the first line Session-Expires, or
-/// `LEAST_INTERVAL` where that is more. None where there is no such line, or the first cannot be read. It takes no memory.
+/// How long after a 2xx its session expires, unless another 2xx refreshes it before (RFC 4028 §10), in milliseconds: the interval of the first Session-Expires line, or
+/// `LEAST_INTERVAL` where that is more. None where there is no such line, or the first cannot be read. It allocates nothing.
 pub fn expiry_after(m: &Msg) -> Option<u64>
     ensures exact { result ≡ expiry_after (line_texts (codes "Session-Expires") m.now.lines) }
     ensures least { IfSome result (λ time. 90000 ≤ time) }

@@ -1,4 +1,4 @@
-//! Session timers (RFC 4028): what a Session-Expires header field says, whether a request may ask for it, and when the session of a 2xx expires. Its calls take no memory.
+//! Session timers (RFC 4028): what a Session-Expires header field says, whether a request may ask for it, and when the session of a 2xx expires. Its functions allocate nothing.
 #![tactic(auto)]
 
 mod intervals;

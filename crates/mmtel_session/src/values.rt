@@ -16,11 +16,11 @@ const GREATEST_INTERVAL: u64 = 2_147_483_647;
 pub struct SessionExpires {
     /// The interval of the session in seconds, below 2^31.
     pub interval: u32,
-    /// Whether the side that sends the request refreshes the session (`uac`), or the one that answers it (`uas`); None where the value leaves that open.
+    /// Whether the side that sends the request refreshes the session (`uac`), or the one that responds to it (`uas`); None where the value leaves that open.
     pub caller_refreshes: Option<bool>,
 }
 
-/// Whether the side that sends the request refreshes, by a word, which is compared byte for byte; None where it is none of the two.
+/// Whether the side that sends the request is the refresher, by a word, which is compared byte for byte; None where it is neither of the two.
 fn refresher_of(word: &[u8]) -> Option<bool>
     ensures { result ≡ refresher_of word.now }
 {
@@ -33,7 +33,7 @@ fn refresher_of(word: &[u8]) -> Option<bool>
     None
 }
 
-/// The same by the value of a parameter `refresher`, which has to be there.
+/// The same by the value of a parameter `refresher`, which has to be present.
 fn refresher_by(word: Option<&[u8]>) -> Option<Option<bool>>
     ensures { result ≡ refresher_by (option_copied word.entry) }
 {
@@ -41,7 +41,7 @@ fn refresher_by(word: Option<&[u8]>) -> Option<Option<bool>>
     Some(Some(caller))
 }
 
-/// The same by the first parameter `refresher`; None in it where there is none.
+/// The same by the first parameter `refresher`; the inner value is None where there is none.
 fn refresher_in(params: &ParamsRef<'_>) -> Option<Option<bool>>
     ensures { result ≡ refresher_in params.now }
 {
@@ -70,13 +70,13 @@ fn session(bytes: &[u8]) -> Result<SessionExpires, LexFault>
     })
 }
 
-/// Reads a value of Session-Expires (RFC 4028 §4): a number of seconds, and parameters behind it. It takes no memory.
+/// Reads a value of Session-Expires (RFC 4028 §4): a number of seconds, and parameters after it. It allocates nothing.
 ///
 /// # Errors
 ///
-/// `Malformed` exactly where the bytes are not a number below 2^31 with parameters behind it, or where their first `refresher` is neither `uac` nor `uas`.
+/// `Malformed` exactly where the bytes are not a number below 2^31 with parameters after it, or where their first `refresher` is neither `uac` nor `uas`.
 pub fn read_session(bytes: &[u8]) -> Result<SessionExpires, LexFault>
-    // The answer is that of the total reading function.
+    // The result is that of the total reading function.
     ensures exact { result ≡ ok_or (session_of bytes.now) lex.Malformed }
     // What is read is what the bytes say.
     ensures found { IfOk result (λ session. IsSession bytes.now session) }

@@ -1,4 +1,4 @@
--- What a reader of a part of a record answers: the value of the definition, or its fault, unless memory ran out.
+-- The result of reading a part of a record: the value of the definition, or its fault, unless memory ran out.
 use Rattle.std.specs.Prelude.{◌≡◌, ℕ, List, Result, Ok, Err, Option, Some, None}
 use Rattle.mmtel_sheet_grammar.specs.declared.faults.SheetFault.{SheetFault}
 use Rattle.mmtel_sheet_grammar.specs.declared.faults.SheetFault.TheVariants.{NotToml, Unknown, Wrong, Many, NoMemory}
@@ -8,7 +8,7 @@ abbrev pub Read : Type 0 → Type 0
 Read A = Result A SheetFault
 
 module _ {A B : Type 0} where
-  -- the first, and then the second of what the first gave
+  -- the first, and then the second on what the first returned
   abbrev pub then_do : Read A → (A → Read B) → Read B
   then_do (Ok a) next = next a
   then_do (Err e) next = Err e

@@ -1,4 +1,4 @@
--- The values at the keys of a record: what is read of a TOML value, or that it is wrong at its key.
+-- The values at the keys of a record: what is read of a TOML value, or the fault that it is wrong at its key.
 use Rattle.std.specs.Prelude.{◌≡◌, ℕ, ◌+◌, ◌*◌, ◌==◌, ℤ, pos, negsuc, int_le, List, [], ◌∷◌, ◌++◌, Bool, true, false, ◌&&◌, ◌||◌, not, nat_le}
 use Rattle.std.specs.Prelude.{Option, Some, None, Result, Ok, Err, if◌then◌else◌, codes, length, slice_index_or, slice_set}
 use Rattle.std.specs.List.{list_all, list_any}
@@ -49,7 +49,7 @@ abbrev pub is_international : List ℕ → Bool
 is_international [] = false
 is_international (b ∷ s) = bytes_eq (b ∷ []) (codes "+") && is_digits s
 
--- a URI that calls may be diverted to: a sip URI, or tel:+ and digits
+-- a URI to which calls may be diverted: a sip URI, or tel:+ and digits
 abbrev pub is_target : Uri → Bool
 is_target (Sip user host port params headers) = true
 is_target (Tel number params) = is_international number && nat_le (length params) 0
@@ -80,7 +80,7 @@ abbrev pub time_at : List ℕ → Data → Read ℤ
 time_at at d = then_do (text_at at d) (λ s. or_wrong at (moment_of_text s))
 
 module _ {A : Type 0} where
-  -- items, each read, behind those that were read before
+  -- items, each read, after those that were read before
   abbrev pub items_from : (Data → Read A) → List A → Items → Read (List A)
   items_from read done no_items = Ok done
   items_from read done (item d ds) = then_do (read d) (λ a. items_from read (done ++ a ∷ []) ds)
@@ -95,7 +95,7 @@ tokens_at at d = then_do (or_wrong at (as_array d)) (λ ds. items_from (token_at
 
 -- ---- hours of the week
 
--- the place of a day in the week, from Monday on
+-- the index of a day in the week, from Monday on
 unfoldable pub day_of : List ℕ → Option ℕ
 day_of s =
     if bytes_eq s (codes "mon") then Some 0

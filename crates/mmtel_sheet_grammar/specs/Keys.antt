@@ -22,7 +22,7 @@ event_of k =
     else if bytes_eq k (codes "not-registered") then Some event.NotRegistered
     else None
 
--- what a diversion tells, and to whom
+-- what a diversion reveals, and to whom
 unfoldable pub notice_of : List ℕ → Option Notice
 notice_of k =
     if bytes_eq k (codes "notify-caller") then Some notice.NotifyCaller
@@ -31,7 +31,7 @@ notice_of k =
     else if bytes_eq k (codes "reveal-identity-to-target") then Some notice.RevealToTarget
     else None
 
--- the keys that say whom a rule is about
+-- the keys that say to which identities a rule applies
 unfoldable pub identity_key_of : List ℕ → Option RuleKey
 identity_key_of k =
     if bytes_eq k (codes "anonymous") then Some key.Anonymous
@@ -74,7 +74,7 @@ abbrev pub event_or : Option EventWord → Option RuleKey → Option RuleKey
 event_or None other = other
 event_or (Some e) other = Some (key.Event e)
 
--- the key of a name: no name is of two
+-- the key of a name: each name is that of one key only
 abbrev pub rule_key_of : List ℕ → Option RuleKey
 rule_key_of k = event_or (event_of k) (notice_or (notice_of k) (key_or (identity_key_of k) (key_or (second_key_of k) (other_key_of k))))
 
@@ -90,13 +90,13 @@ is_barring Diversion = false
 is_barring Incoming = true
 is_barring Outgoing = true
 
--- all but outgoing barring have it: who calls is known there
+-- all but outgoing barring have it: the caller is known there
 abbrev pub meets_callers : Service → Bool
 meets_callers Diversion = true
 meets_callers Incoming = true
 meets_callers Outgoing = false
 
--- only outgoing barring has it: where a call goes is asked there
+-- only outgoing barring has it: the destination of a call is tested there
 abbrev pub is_outgoing : Service → Bool
 is_outgoing Diversion = false
 is_outgoing Incoming = false

@@ -1,4 +1,4 @@
--- What public clauses cite, which a user of the crate has to believe.
+-- Definitions that public contracts cite: a user of the crate has to trust them.
 pub mod Answers
 pub mod Elements
 pub mod Keys
@@ -9,4 +9,4 @@ pub mod Sound
 pub mod Texts
 pub mod Walk
 
--- What private functions alone cite: nothing.
+-- Definitions that only private functions cite: none.

@@ -1,4 +1,4 @@
--- Which sheets a record can say: the types, texts, ranges, limits and partners of the grammar, and each part only where the grammar lists its key.
+-- Which sheets a record can express: the types, texts, ranges, limits and partner keys of the grammar, and each part only where the grammar lists its key.
 use Rattle.std.specs.Prelude.{◌≡◌, ◌≤◌, ◌<◌, ◌+◌, ℕ, ℤ, pos, ◌≤ℤ◌, int_lt, List, [], Bool, true, None, Ok, length, IfSome, IsUtf8}
 use Rattle.std.specs.List.{AllByRecursion}
 use Rattle.mmtel_lex.specs.Grammar.{uri_text}
@@ -31,7 +31,7 @@ pub record IsTarget (u : Uri) : Type 0 where
   pub kind : is_target u ≡ true
   pub short : length (uri_text u) ≤ 256
 
--- the identities that are meant and those that are not, which stand beside a domain alone, are at most 64 together
+-- the identities that are meant and those that are excepted, which are present with a domain alone, are at most 64 together
 pub record IsWho (w : Who) : Type 0 where
   pub one : AllByRecursion IsUriOfText w.one
   pub many : IfSome w.many (λ domain. is_domain domain ≡ true)
@@ -47,7 +47,7 @@ last_moment = pos 253_402_207_200_999
 abbrev pub IsMoment : ℤ → Type 0
 IsMoment m = (first_moment ≤ℤ m) × (m ≤ℤ last_moment)
 
--- a window that ends behind its start
+-- a window that ends after its start
 pub record IsWindow (w : Window) : Type 0 where
   pub from : IsMoment w.from
   pub until : IsMoment w.until
@@ -61,7 +61,7 @@ pub record IsWeekly (w : Weekly) : Type 0 where
   pub within : w.until ≤ 1_440
   pub offset : is_offset w.offset ≡ true
 
--- what a rule of the service can ask
+-- the condition that a rule of the service can have
 pub record IsCondition (s : Service) (c : Condition) : Type 0 where
   pub identity : IfSome c.identity IsWho
   pub anonymous : c.anonymous ≡ true → meets_callers s ≡ true
@@ -72,7 +72,7 @@ pub record IsCondition (s : Service) (c : Condition) : Type 0 where
   pub abroad : c.abroad ≡ true → is_outgoing s ≡ true
   pub weekly : IfSome c.weekly IsWeekly
 
--- what a rule of the service can do
+-- the action that a rule of the service can have
 abbrev pub IsAction : Service → Action → Type 0
 IsAction s (Forward f) = (is_diversion s ≡ true) × IsTarget f.target
 IsAction s (Allow b) = is_barring s ≡ true
@@ -102,11 +102,11 @@ pub record IsBar (s : Service) (p : BarPart) : Type 0 where
   pub rules : AreRules s p.rules
   pub rejection : CanReject s p.reject_anonymous
 
--- calls that a user may have at once
+-- the number of calls that a user may have at the same time
 abbrev pub IsWaiting : ℕ → Type 0
 IsWaiting calls = (2 ≤ calls) × (calls ≤ 8)
 
--- a sheet that a record can say
+-- a sheet that a record can express
 pub record IsPrintable (s : Sheet) : Type 0 where
   pub diversion : IfSome s.diversion IsDiversion
   pub incoming : IfSome s.incoming (IsBar service.Incoming)

@@ -35,7 +35,7 @@ module _ {A : Type 0} where
 abbrev pub has_key : List ℕ → Members → Bool
 has_key k ms = is_some (get_member k ms)
 
--- before any key: a diversion tells all of it
+-- before any key: a diversion reveals all of it
 abbrev pub all_told : Notices
 all_told = record { notify_caller = true; reveal_to_caller = true; reveal_served_to_caller = true; reveal_to_target = true }
 
@@ -65,7 +65,7 @@ with_notice notice.RevealToCaller b n = record n { reveal_to_caller = b }
 with_notice notice.RevealServedToCaller b n = record n { reveal_served_to_caller = b }
 with_notice notice.RevealToTarget b n = record n { reveal_to_target = b }
 
--- an event that is true: one alone may be
+-- an event that is true: only one may be
 abbrev pub with_event : List ℕ → EventWord → RuleDraft → Option EventWord → Read RuleDraft
 with_event at e r None = Ok (record r { event = Some e })
 with_event at e r (Some f) = Err (Wrong at)
@@ -75,14 +75,14 @@ abbrev pub event_read : List ℕ → EventWord → RuleDraft → Bool → Read R
 event_read at e r true = with_event at e r r.event
 event_read at e r false = Ok r
 
--- identities that are not meant: beside many alone, and at most 64, which are counted at the later of except and one
+-- identities that are excepted: with `many` alone, and at most 64, which are counted at the later of `except` and `one`
 abbrev pub except_read : List ℕ → RuleDraft → Members → List Uri → Read RuleDraft
 except_read at r ms uris =
     if has_key (codes "many") ms then
     (if nat_lt 64 (length uris) && not (has_key (codes "one") ms) then Err (Many at 64) else Ok (record r { except = uris }))
     else Err (Wrong at)
 
--- identities that are meant: with those of except at most 64
+-- identities that are meant: with those of `except` at most 64
 abbrev pub one_read : List ℕ → RuleDraft → List Uri → Read RuleDraft
 one_read at r uris = if nat_lt 64 (length uris + length r.except) then Err (Many at 64) else Ok (record r { one = Some uris })
 
@@ -90,7 +90,7 @@ one_read at r uris = if nat_lt 64 (length uris + length r.except) then Err (Many
 abbrev pub from_read : List ℕ → RuleDraft → Members → ℤ → Read RuleDraft
 from_read at r ms t = if has_key (codes "until") ms then Ok (record r { from = Some t }) else Err (Wrong at)
 
--- the end of a window: behind its start, which comes first in byte order
+-- the end of a window: after its start, which comes first in byte order
 abbrev pub until_read : List ℕ → RuleDraft → ℤ → Option ℤ → Read RuleDraft
 until_read at r t None = Err (Wrong at)
 until_read at r t (Some f) = if int_lt f t then Ok (record r { window = Some (record { from = f; until = t }) }) else Err (Wrong at)
@@ -99,7 +99,7 @@ until_read at r t (Some f) = if int_lt f t then Ok (record r { window = Some (re
 abbrev pub day_from_read : List ℕ → RuleDraft → Members → ℕ → Read RuleDraft
 day_from_read at r ms n = if has_key (codes "day-until") ms && has_key (codes "days") ms then Ok (record r { day_from = Some n }) else Err (Wrong at)
 
--- their end: behind their start, which comes first in byte order
+-- their end: after their start, which comes first in byte order
 abbrev pub day_until_read : List ℕ → RuleDraft → ℕ → Option ℕ → Read RuleDraft
 day_until_read at r n None = Err (Wrong at)
 day_until_read at r n (Some f) = if nat_lt f n then Ok (record r { hours = Some (record { from = f; until = n }) }) else Err (Wrong at)
@@ -150,7 +150,7 @@ rule_key_read s ms at r k d = listed_read ms at r (listed s (rule_key_of k)) d
 
 -- ---- the rule of a table
 
--- who is meant, where a key says so
+-- the identities that are meant, where a key names them
 abbrev pub who_of : Option (List Uri) → Option (List ℕ) → List Uri → Option Who
 who_of None None except = None
 who_of None (Some domain) except = Some (record { one = []; many = Some domain; except = except })
@@ -185,7 +185,7 @@ abbrev pub allow_read : List ℕ → Option Bool → Read Action
 allow_read path None = Err (Wrong (dotted path (codes "allow")))
 allow_read path (Some b) = Ok (Allow b)
 
--- what the rule does: the key that says it is required
+-- the action of the rule: the key that sets it is required
 abbrev pub action_of : Service → List ℕ → Option Uri → Notices → Option Bool → Read Action
 action_of service.Diversion path target notices allow = forward_read path target notices
 action_of service.Incoming path target notices allow = allow_read path allow
@@ -194,7 +194,7 @@ action_of service.Outgoing path target notices allow = allow_read path allow
 abbrev pub rule_from : RuleDraft → Action → Rule
 rule_from r a = record { condition = condition_of r; action = a }
 
--- keys of the table of these members, one after another, behind those that were read before
+-- keys of the table of these members, one after another, after those that were read before
 abbrev pub keys_from : Schema → Members → List ℕ → RuleDraft → Members → Read RuleDraft
 keys_from s ms path r rest = members_from path (λ at d k v. rule_key_read s ms at d k v) r rest
 
@@ -215,7 +215,7 @@ abbrev pub items_count : Items → ℕ
 items_count no_items = 0
 items_count (item d ds) = items_count ds + 1
 
--- rules behind those that were read before, numbered from 0
+-- rules after those that were read before, numbered from 0
 abbrev pub rules_from : Schema → List ℕ → List Rule → Items → Read (List Rule)
 rules_from s path done no_items = Ok done
 rules_from s path done (item d ds) =

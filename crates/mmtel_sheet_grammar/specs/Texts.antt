@@ -1,4 +1,4 @@
--- What the text of a service record says, as one function of its bytes (3GPP TS 24.623 §5).
+-- The content of the text of a service record, as one function of its bytes (3GPP TS 24.623 §5).
 use Rattle.std.specs.Prelude.{◌≡◌, ℕ, List, Option, Some, None, Ok, Err, if◌then◌else◌}
 use Rattle.std.specs.Str.{is_utf8}
 use Rattle.toml.specs.Parse.{parse_document}
@@ -27,7 +27,7 @@ TellsFault wanted (Wrong key) = wanted ≡ Err (Wrong key)
 TellsFault wanted (Many key limit) = wanted ≡ Err (Many key limit)
 TellsFault wanted NoMemory = Unit {0}
 
--- this is answered, but for want of memory
+-- this is returned, unless memory runs out
 abbrev pub TellsRead : Read Sheet → Read Sheet → Type 0
 TellsRead wanted (Ok s) = wanted ≡ Ok s
 TellsRead wanted (Err e) = TellsFault wanted e
@@ -36,7 +36,7 @@ abbrev pub sheet_or_empty : Read Sheet → Sheet
 sheet_or_empty (Ok s) = s
 sheet_or_empty (Err e) = empty_sheet
 
--- the sheet of a text that was kept: where it is no record, that of an account which never said anything
+-- the sheet of a text that was stored: where it is no record, that of an account without a record
 abbrev pub kept_sheet : List ℕ → Sheet
 kept_sheet bytes = sheet_or_empty (sheet_read bytes)
 
@@ -54,6 +54,6 @@ where_first (Ok version.One) (Err e) = None
 where_first (Ok version.Two) read = None
 where_first (Err e) read = None
 
--- the sheet of a record of the first version; none of a later one, and of a text that is no record
+-- the sheet of a record of the first version; None of a later one, and of a text that is no record
 abbrev pub old_sheet : List ℕ → Option Sheet
 old_sheet bytes = where_first (version_read bytes) (sheet_read bytes)

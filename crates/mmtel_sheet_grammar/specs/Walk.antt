@@ -31,7 +31,7 @@ schema v s = record { service = s; version = v }
 
 -- ---- communication diversion
 
--- a table that is there is active where it does not say otherwise
+-- a table that is present is active where it does not say otherwise
 abbrev pub no_diversion_keys : DiversionDraft
 no_diversion_keys = record { active = true; bound = None; deflection = false; no_reply = 20; rules = [] }
 
@@ -49,7 +49,7 @@ diversion_key v at r k d =
     else if bytes_eq k (codes "rule") then then_do (rules_at (schema v service.Diversion) at d) (λ rs. Ok (record r { rules = rs }))
     else Err (Unknown at)
 
--- a table that is not active leaves nothing
+-- a table that is not active gives nothing
 abbrev pub diversion_part : DiversionDraft → Option DiversionPart
 diversion_part r = if r.active then Some (record { rules = r.rules; no_reply = r.no_reply; deflection = r.deflection; bound = r.bound }) else None
 
@@ -164,11 +164,11 @@ abbrev pub version_or_first : Option Data → Read Version
 version_or_first None = Ok version.One
 version_or_first (Some d) = version_at (codes "version") d
 
--- the version of a document, which is looked at before all else
+-- the version of a document, which is read before all else
 abbrev pub version_of : Members → Read Version
 version_of ms = version_or_first (get_member (codes "version") ms)
 
--- one more name of the document: the version says nothing of the sheet
+-- one more name of the document: the version adds nothing to the sheet
 abbrev pub name_read : Version → List ℕ → Sheet → Data → Read Sheet
 name_read v k s d = if bytes_eq k (codes "version") then then_do (version_at k d) (λ w. Ok s) else named_read v k s (table_key_of k) d
 
@@ -181,7 +181,7 @@ sheet_from v s (member k d ms) = then_do (name_read v k s d) (λ t. sheet_from v
 abbrev pub sheet_of : Members → Read Sheet
 sheet_of ms = then_do (version_of ms) (λ v. sheet_from v empty_sheet ms)
 
--- the bytes are a document that reads so
+-- the bytes are a document, with this sheet or first fault
 abbrev pub Documents : List ℕ → Read Sheet → Type 0
 Documents bytes read = (IsUtf8 bytes) × (ms : Members) × (parse_document bytes ≡ Some ms) × (sheet_of ms ≡ read)
 
@@ -192,7 +192,7 @@ IsRefused bytes (Wrong k) = Documents bytes (Err (Wrong k))
 IsRefused bytes (Many k limit) = Documents bytes (Err (Many k limit))
 IsRefused bytes NoMemory = Unit {0}
 
--- what reading the bytes answers: the sheet or the first fault of the document that they are, or that they are none
+-- the result of reading the bytes: the sheet or the first fault of the document that they are, or that they are none
 abbrev pub IsRead : List ℕ → Read Sheet → Type 0
 IsRead bytes (Ok s) = Documents bytes (Ok s)
 IsRead bytes (Err e) = IsRefused bytes e

@@ -1,18 +1,18 @@
-//! What the keys of a table said so far, while it is read.
+//! The values of the keys of a table so far, while it is read.
 
 use mmtel_lex::{List, Text, Uri};
 use mmtel_sheet_values::{EventWord, Rule, Weekly, Window};
 
-/// Who is told what of a diversion.
+/// Who is notified of what about a diversion.
 #[derive(Clone, Copy, Debug, PartialEq, Eq)]
 pub struct Notices {
-    /// The caller is told that the call is diverted.
+    /// The caller is notified that the call is diverted.
     pub notify_caller: bool,
-    /// The caller is told where it goes.
+    /// The diverted-to identity is revealed to the caller.
     pub reveal_to_caller: bool,
-    /// The caller is told who diverted it.
+    /// The identity of the diverting user is revealed to the caller.
     pub reveal_served_to_caller: bool,
-    /// The target is told who diverted the call.
+    /// The identity of the diverting user is revealed to the target.
     pub reveal_to_target: bool,
 }
 
@@ -25,7 +25,7 @@ pub struct Hours {
     pub until: u16,
 }
 
-/// What the keys of a rule said so far.
+/// The values of the keys of a rule so far.
 #[derive(Drop)]
 pub struct RuleDraft {
     /// `international`
@@ -50,7 +50,7 @@ pub struct RuleDraft {
     pub many: Option<Text>,
     /// `media`
     pub media: Option<List<Text>>,
-    /// The keys that say who is told what.
+    /// The keys that set who is notified of what.
     pub notices: Notices,
     /// `one`
     pub one: Option<List<Uri>>,
@@ -62,7 +62,7 @@ pub struct RuleDraft {
     pub window: Option<Window>,
 }
 
-/// What the keys of the diversion table said so far.
+/// The values of the keys of the diversion table so far.
 #[derive(Drop)]
 pub struct DiversionDraft {
     /// `active`
@@ -77,7 +77,7 @@ pub struct DiversionDraft {
     pub rules: List<Rule>,
 }
 
-/// What the keys of a barring table said so far.
+/// The values of the keys of a barring table so far.
 #[derive(Drop)]
 pub struct BarDraft {
     /// `active`
@@ -88,7 +88,7 @@ pub struct BarDraft {
     pub rules: List<Rule>,
 }
 
-/// What the keys of the waiting table said so far.
+/// The values of the keys of the waiting table so far.
 #[derive(Clone, Copy, Debug, PartialEq, Eq)]
 pub struct WaitingDraft {
     /// `active`

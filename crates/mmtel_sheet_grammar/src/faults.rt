@@ -5,18 +5,18 @@ ghost use Rattle.mmtel_sheet_grammar.specs.declared.faults.SheetFault.TheVariant
 use mmtel_lex::{NoMemory, Text};
 use std::alloc::AllocError;
 
-/// Why the bytes are no service record. Where there are several faults, the first of the walk is told: tables in byte order of their names, keys in byte order, rules and
-/// items of an array in their order.
+/// Why the bytes are no service record. Where there are several faults, the first of the walk is reported: tables in byte order of their names, keys in byte order, rules and items
+/// of an array in their order.
 #[derive(Debug, Drop)]
 pub enum SheetFault {
     /// The bytes are not UTF-8, or no TOML.
     NotToml,
-    /// The key is nowhere listed.
+    /// The key is not listed in the grammar.
     Unknown {
         /// `table`, `table.key` or `table.rule.N.key`.
         key: Text,
     },
-    /// The value is of another type, range or text than the key's, or the key lacks its partner, or a required key is absent.
+    /// The value is not of the type, range or text of the key, or the key lacks its partner, or a required key is absent.
     Wrong {
         /// `table`, `table.key` or `table.rule.N.key`.
         key: Text,
@@ -40,7 +40,7 @@ impl From<NoMemory> for SheetFault {
     }
 }
 
-/// What a refused `List::push` hands back is let go, so that `?` works on it.
+/// The item that a refused `List::push` returns is dropped, so that `?` works on it.
 impl<T: Drop> From<(T, NoMemory)> for SheetFault {
     ghost from_gives = { λ _ e. e ≡ fault.NoMemory };
 

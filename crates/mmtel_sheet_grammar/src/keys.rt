@@ -13,7 +13,7 @@ pub enum Service {
     Outgoing,
 }
 
-/// The versions of records. The second has keys more.
+/// The versions of records. The second has additional keys.
 #[derive(Clone, Copy, Debug, PartialEq, Eq)]
 pub enum Version {
     /// A record that names no version, or 1.
@@ -31,7 +31,7 @@ pub struct Schema {
     pub version: Version,
 }
 
-/// What a diversion tells, and to whom.
+/// What a diversion reveals, and to whom.
 #[derive(Clone, Copy, Debug, PartialEq, Eq)]
 pub enum Notice {
     /// `notify-caller`

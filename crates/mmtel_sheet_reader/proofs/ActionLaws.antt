@@ -1,4 +1,4 @@
--- The rules of a sheet do what their service does: by recursion on the document that it is read of.
+-- The actions of the rules of a sheet are those of their service: by recursion on the document that it is read of.
 use Rattle.std.proofs.Common.{◌≡◌, ℕ, List, [], ◌∷◌, ◌++◌, Bool, true, false, Option, Some, None, Ok, Err, refl, subst, length, codes}
 use Rattle.std.specs.Prelude.{if◌then◌else◌, nat_lt}
 use Rattle.std.specs.List.{list_all}
@@ -30,7 +30,7 @@ use Rattle.mmtel_sheet_values.specs.declared.values.Sheet.{Sheet}
 use Rattle.mmtel_sheet_values.specs.Sheets.{empty_sheet}
 use Rattle.mmtel_sheet_reader.specs.Actions.{is_forward, is_allowance, all_allow, Diverts, Bars}
 
--- ---- what holds of a first answer holds along the reading
+-- ---- what holds of a first result holds along the reading
 
 kept : {A B : Type 0} (r : Read A) (next : A → Read B) (P : A → Type 0) (Q : B → Type 0) → IfOk r P → ((a : A) → P a → IfOk (next a) Q) → IfOk (then_do r next) Q
 kept (Ok a) next P Q p f = f a p

@@ -1,4 +1,4 @@
--- The days of an array, read one after another: where the walk stands, its next step, its refusal and its end.
+-- The days of an array, read one after another: the state of the walk, its next step, its refusal and its end.
 use Rattle.std.proofs.Common.{◌≡◌, ℕ, ◌+◌, ◌<◌, ◌≤◌, Bool, List, length, get_or, drop, Ok, Err, refl, sym, ap, subst, ◌∙◌}
 use Rattle.std.proofs.lemmas.List.{drop_all}
 use Rattle.toml.specs.declared.value.Value.{Value}
@@ -10,7 +10,7 @@ use Rattle.mmtel_sheet_grammar.specs.declared.faults.SheetFault.{SheetFault}
 use Rattle.mmtel_sheet_reader.proofs.Items.{first_left, refuses_both}
 
 module _ (at : List ℕ) (vs : List Value) where
-  -- those before the index are named: the others are read beside them as all are, and all are sound where the others are
+  -- those before the index are named: the result of reading the others after them is that of reading all, and all are sound where the others are
   pub record AreNamedTo (i : ℕ) (days : List Bool) : Type 0 where
     pub same : days_from at days (items_view (drop i vs)) ≡ days_from at no_days (items_view vs)
     pub sound : IsSoundArray (items_view (drop i vs)) → IsSoundArray (items_view vs)

@@ -1,4 +1,4 @@
--- What the sheet of a document says of the bytes that it was read from.
+-- The sheet of a document is that of the bytes that it was read from.
 use Rattle.std.proofs.Common.{◌≡◌, ℕ, List, Some, Ok, Err}
 use Rattle.std.specs.Prelude.{IsUtf8}
 use Rattle.toml.specs.Parse.{parse_document}

@@ -1,4 +1,4 @@
--- What holds of each value that a reading gives.
+-- What holds of each value that a reading returns.
 use Rattle.std.proofs.Common.{◌≡◌, ℕ, Bool, true, false, cond, List, Option, Some, None, Ok, Err, refl}
 use Rattle.std.specs.Prelude.{IfOk, IfSome}
 use Rattle.mmtel_sheet_grammar.specs.Answers.{Read, then_do, or_wrong}

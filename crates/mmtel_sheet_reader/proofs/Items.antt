@@ -1,4 +1,4 @@
--- The items of an array, read one after another: where the walk stands, its next step, its refusal and its end.
+-- The items of an array, read one after another: the state of the walk, its next step, its refusal and its end.
 use Rattle.std.proofs.Common.{◌≡◌, ℕ, ◌+◌, ◌<◌, ◌≤◌, List, [], ◌∷◌, ◌++◌, length, get_or, drop, Ok, Err, refl, sym, ap, subst, ◌∙◌}
 use Rattle.std.proofs.lemmas.List.{drop_all}
 use Rattle.std.specs.Prelude.{IsErr}
@@ -29,13 +29,13 @@ module _ {A B : Type 0} where
   refused_still at (Err (Many k n)) next refused answered = absurd cc
   refused_still at (Err NoMemory) next refused answered = tt
 
--- the item at an index, before those behind it
+-- the item at an index, before those after it
 pub first_left : (vs : List Value) (i : ℕ) (v : Value) → i < length vs → v ≡ get_or vs i v → items_view (drop i vs) ≡ item (view v) (items_view (drop (i + 1) vs))
 first_left vs i v within at = items_view-drop vs i v within ∙ ap (λ (x : Value). item (view x) (items_view (drop (i + 1) vs))) (sym at)
 
--- a walk over the items, behind what was read before
+-- a walk over the items, after what was read before
 module _ {A : Type 0} (walk : List A → Items → Read (List A)) (vs : List Value) where
-  -- those before the index are read: the others are read behind them as all are, and all are sound where the others are
+  -- those before the index are read: the result of reading the others after them is that of reading all, and all are sound where the others are
   pub record IsReadTo (i : ℕ) (done : List A) : Type 0 where
     pub same : walk done (items_view (drop i vs)) ≡ walk [] (items_view vs)
     pub sound : IsSoundArray (items_view (drop i vs)) → IsSoundArray (items_view vs)

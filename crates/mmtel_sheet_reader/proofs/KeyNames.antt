@@ -1,4 +1,4 @@
--- The names of the keys that say whom a rule is about.
+-- The names of the keys that say to which identities a rule applies.
 use Rattle.std.proofs.Common.{◌≡◌, ℕ, Bool, true, false, cond, List, Option, Some, None, refl, sym, ◌∙◌, codes}
 use Rattle.std.proofs.lemmas.Slice.Eq.{bytes_eq-Decides}
 use Rattle.std.proofs.lemmas.Map.Text.{is_eq-slice_cmp}
@@ -11,7 +11,7 @@ use Rattle.mmtel_sheet_grammar.specs.declared.keys.RuleKey.{RuleKey}
 use Rattle.mmtel_sheet_grammar.specs.declared.keys.RuleKey.TheVariants as key
 use Rattle.mmtel_sheet_values.specs.declared.values.EventWord.{EventWord}
 
--- what the name of a key is, where it is one of except, many and one
+-- the key of a name, where it is one of except, many and one
 abbrev pub IsNamedAs : List ℕ → RuleKey → Type 0
 IsNamedAs k key.Allow = Unit {0}
 IsNamedAs k key.Anonymous = Unit {0}

@@ -1,4 +1,4 @@
--- What the look-up of a key and the number of an array's items say of the document.
+-- The results of looking up a key and of counting the items of an array, as facts about the document.
 use Rattle.std.proofs.Common.{◌≡◌, List, [], ◌∷◌, length, Option, Some, None, refl, arith}
 use Rattle.std.specs.Option.{is_some, option_map}
 use Rattle.toml.specs.declared.value.Value.{Value}

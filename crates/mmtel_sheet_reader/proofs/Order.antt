@@ -1,4 +1,4 @@
--- Keys in byte order: what comes before a key comes before those behind it.
+-- Keys in byte order: what comes before a key comes before those after it.
 use Rattle.std.proofs.Common.{◌≡◌, ℕ, true, List, Ordering, Less, Equal, Greater, nat_cmp, refl}
 use Rattle.std.proofs.lemmas.Cmp.{nat_list_cmp_total}
 use Rattle.std.specs.BTreeMap.Comparable.{le_lt_trans}

@@ -111,7 +111,7 @@ tokens_ok at (table ms) text = tt
 
 -- ---- hours of the week
 
--- which days of the week are there, and that one is
+-- which days of the week are present, and that one is
 pub record IsDays (days : List Bool) : Type 0 where
   pub whole : length days ≡ 7
   pub some : has_day days ≡ true

@@ -27,7 +27,7 @@ pub record IsHours (h : Hours) : Type 0 where
   pub order : h.from < h.until
   pub within : h.until ≤ 1_440
 
--- what the keys of a rule said so far can be printed
+-- the values of the keys of a rule so far can be printed
 pub record IsKept (s : Schema) (d : RuleDraft) : Type 0 where
   pub abroad : d.abroad ≡ true → is_outgoing s.service ≡ true
   pub diverted : d.diverted ≡ true → meets_callers s.service ≡ true

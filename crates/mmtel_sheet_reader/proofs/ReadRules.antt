@@ -1,4 +1,4 @@
--- What is read of a rule can be printed: whom it is about, and what it does.
+-- What is read of a rule can be printed: its identities and its action.
 use Rattle.std.proofs.Common.{◌≡◌, ℕ, ℤ, ◌+◌, ◌≤◌, Bool, true, false, cond, ◌&&◌, not, nat_lt, int_lt, List, [], length, Option, Some, None, Ok, Ordering, Less, Equal, Greater, nat_cmp, is_eq, refl, sym, ap, subst, ◌∙◌, ◌⊎◌, inl, inr, arith, codes}
 use Rattle.std.proofs.lemmas.Bool.{false≢true}
 use Rattle.std.proofs.lemmas.Bool.Decides.{nat_tests}
@@ -26,7 +26,7 @@ use Rattle.mmtel_sheet_reader.proofs.Granted.{then_all, then_any, where_ok, unle
 use Rattle.mmtel_sheet_reader.proofs.KeyNames.{IsNamedAs, named, one_key}
 use Rattle.mmtel_sheet_reader.proofs.Order.{before_members}
 
--- the keys that say nothing of whom a rule is about, in this way
+-- the keys that do not change the identities of a rule, in this way
 abbrev IsOther : RuleKey → Type 0
 IsOther key.Allow = Unit {0}
 IsOther key.Anonymous = Unit {0}
@@ -98,11 +98,11 @@ module _ (ms : Members) (at : List ℕ) (d : RuleDraft) where
   other_same key.Target v o = then_any (target_at at v) _ (IsSame d) (λ u. record { except = refl; many = refl; one = refl })
   other_same key.Until v o = then_any (time_at at v) _ (IsSame d) (λ t. until_same t d.from)
 
--- a key that is seen: its value is there, or it is still to come where the rule has it
+-- a key that is looked up: its value is present, or it is still to come where the rule has it
 abbrev IsSeen : {A : Type 0} → List ℕ → Members → Members → Option A → Type 0
 IsSeen k ms rest o = (is_some o ≡ true) ⊎ (has_key k rest ≡ has_key k ms)
 
--- what except, many and one said so far, before the rest of the keys
+-- the values of except, many and one so far, before the rest of the keys
 pub record IsCounted (ms rest : Members) (except : List Uri) (many : Option (List ℕ)) (one : Option (List Uri)) : Type 0 where
   pub partner : (except ≡ []) ⊎ (has_key (codes "many") ms ≡ true)
   pub alone : (length except ≤ 64) ⊎ (has_key (codes "one") ms ≡ true)
@@ -250,7 +250,7 @@ keys_counted s ms path d (member k v rest) c sound =
 pub nothing_counted : (ms : Members) → IsCounted ms ms [] None None
 nothing_counted ms = record { partner = inl refl; alone = inl (omega arith); few = tt; behind = tt; many_seen = inr refl; one_seen = inr refl }
 
--- whom the rule is about
+-- the identities of the rule
 absent : (b : Bool) → b ≡ true → (false ≡ true) ⊎ (false ≡ b) → ⊥
 absent b e (inl bad) = false≢true bad
 absent b e (inr is) = false≢true (is ∙ e)

@@ -170,7 +170,7 @@ pub record IsBarDraft (s : Service) (r : BarDraft) : Type 0 where
   pub rules : AreRules s r.rules
   pub rejection : CanReject s r.reject_anonymous
 
--- the keys of a barring table behind those of its truth values
+-- the keys of a barring table after those of its truth values
 abbrev bar_rest : Schema → List ℕ → BarDraft → List ℕ → Data → Read BarDraft
 bar_rest s at r k d = cond (bytes_eq k (codes "rule")) (then_do (rules_at s at d) (λ rs. Ok (record r { rules = rs }))) (Err (Unknown at))
 
@@ -255,7 +255,7 @@ document_ok ms sound =
 pub read_printable : (ms : Members) (s : Sheet) → IsSoundTable ms → sheet_of ms ≡ Ok s → IsPrintable s
 read_printable ms s sound e = at_ok (sheet_of ms) s IsPrintable (document_ok ms sound) e
 
--- what the reader answers of a sound document
+-- the result of the reader for a sound document
 pub answered : (ms : Members) (r : Read Sheet) → Answers (sheet_of ms) r → IfOk r (λ _. IsSoundTable ms) → IfOk r IsPrintable
 answered ms (Ok s) a sound = read_printable ms s sound a
 answered ms (Err e) a sound = tt

@@ -17,7 +17,7 @@ module _ {A B C : Type 0} where
   then_then (Ok a) f g = refl
   then_then (Err e) f g = refl
 
--- the rule of one more item, behind those before it
+-- the rule of one more item, after those before it
 abbrev pub next_rule : Schema → List ℕ → List Rule → Data → Read Rule
 next_rule s path done d = then_do (or_wrong path (as_table d)) (λ ms. rule_of s (rule_path path (length done)) ms)
 

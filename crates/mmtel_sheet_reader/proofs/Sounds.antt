@@ -12,7 +12,7 @@ use Rattle.mmtel_sheet_grammar.specs.Sound.{IsSound, IsSoundTable}
 pub text_sound : (v : Value) (s : String Global) → v ≡ StringValue s → IsSound (view v)
 text_sound v s e = rw (e, view-String s) (IsUtf8-string_bytes s)
 
--- ---- over the members of a table: their keys ascend, and the table is sound where the members that are left are
+-- ---- over the members of a table: their keys ascend, and the table is sound where the remaining members are
 
 pub record IsLeft (all rest : List Entry) : Type 0 where
   pub ascend : IsStrictlySortedBy string_cmp (keys_of rest)

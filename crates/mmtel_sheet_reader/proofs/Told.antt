@@ -1,4 +1,4 @@
--- What the document of bytes says is what the bytes say, as one function of them.
+-- The content of the document of bytes is that of the bytes, as one function of them.
 use Rattle.std.proofs.Common.{◌≡◌, ℕ, List, Option, Some, None, Result, Ok, Err, IfOk, refl, inl, inr, IsUtf8, sym, ◌∙◌}
 use Rattle.std.proofs.lemmas.Bool.{cases_Bool}
 use Rattle.std.proofs.lemmas.Str.{IsUtf8-from_is_utf8, is_utf8-from_IsUtf8}

@@ -7,7 +7,7 @@ use Rattle.mmtel_sheet_grammar.specs.Answers.{Read, then_do, Answers}
 use Rattle.mmtel_sheet_grammar.specs.declared.faults.SheetFault.{SheetFault}
 use Rattle.mmtel_sheet_reader.proofs.Items.{refuses_both}
 
--- a walk that reads each member by a step, from what stood at first
+-- a walk that reads each member by a step, from the initial value
 module _ {A : Type 0} (walk : A → Members → Read A) (step : A → List ℕ → Data → Read A)
     (goes : (a : A) (k : List ℕ) (d : Data) (ms : Members) → walk a (member k d ms) ≡ then_do (step a k d) (λ b. walk b ms)) (begin : A) (all : List Entry) where
   one_member : (from rest : List Entry) (e : Entry) (a : A) → from ≡ e ∷ rest → walk a (members_view from) ≡ walk begin (members_view all)

@@ -1,4 +1,4 @@
--- What the rules of a sheet do: those of a diversion divert, those of barring allow or bar (TS 24.604 §4.9.1.4, TS 24.611 §4.9.1.4).
+-- The actions of the rules of a sheet: those of a diversion divert, those of barring allow or bar (TS 24.604 §4.9.1.4, TS 24.611 §4.9.1.4).
 use Rattle.std.specs.Prelude.{◌≡◌, Bool, true, false, List, Option, Some, None}
 use Rattle.std.specs.List.{list_all}
 use Rattle.mmtel_sheet_values.specs.declared.values.Action.{Action}
@@ -12,7 +12,7 @@ abbrev pub is_forward : Action → Bool
 is_forward (Forward f) = true
 is_forward (Allow b) = false
 
--- the call is let through, or barred
+-- the call is allowed, or barred
 abbrev pub is_allowance : Action → Bool
 is_allowance (Forward f) = false
 is_allowance (Allow b) = true

@@ -1,4 +1,4 @@
--- What is kept of a reading: the value, or that it was refused, unless memory ran out.
+-- The part of a reading that is kept: the value, or that it was refused, unless memory ran out.
 use Rattle.std.specs.Prelude.{◌≡◌, Option, Some, None, Result, Ok, Err}
 use Rattle.mmtel_scan.specs.declared.memory.NoMemory.{NoMemory}
 use Rattle.mmtel_sheet_grammar.specs.Answers.{Read}

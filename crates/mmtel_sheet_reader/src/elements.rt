@@ -97,7 +97,7 @@ fn is_target(uri: &Uri) -> bool
     }
 }
 
-/// A URI that calls may be diverted to, of at most 256 bytes.
+/// A URI to which calls may be diverted, of at most 256 bytes.
 pub fn target(alloc: Global, at: &[u8], value: &Value) -> Result<Uri, SheetFault>
     ensures exact { Answers (target_at at.now (view value.now)) result }
     ensures sound { IfOk result (λ _. IsSound (view value.now)) }
@@ -213,7 +213,7 @@ pub fn tokens(alloc: Global, at: &[u8], value: &Value) -> Result<List<Text>, She
     }
 }
 
-/// The place of a day in the week, from Monday on.
+/// The index of a day in the week, from Monday on.
 #[tactic(auto, unfolding(mmtel_sheet_grammar::specs::Elements::day_of))]
 fn day_of(word: &str) -> Option<usize>
     ensures exact { result ≡ day_of word.now }

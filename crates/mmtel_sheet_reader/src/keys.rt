@@ -124,7 +124,7 @@ fn is_second(version: Version) -> bool
     }
 }
 
-/// Whether who calls is known where the rules of the service are asked.
+/// Whether the caller is known where the rules of the service are evaluated.
 fn meets_callers(service: Service) -> bool
     ensures { result ≡ meets_callers service }
 {
@@ -134,7 +134,7 @@ fn meets_callers(service: Service) -> bool
     }
 }
 
-/// Whether where a call goes is asked by the rules of the service.
+/// Whether the rules of the service test where a call goes.
 fn is_outgoing(service: Service) -> bool
     ensures { result ≡ is_outgoing service }
 {

@@ -1,4 +1,4 @@
-//! Laws of the definitions that the reader's contract cites: each is the contract of a function that does nothing.
+//! Theorems about the definitions that the reader's contract cites: each is the contract of a function that does nothing.
 ghost use Rattle.std.specs.Prelude.{◌≡◌, ◌≤◌, ℕ, ℤ, List, Ok, Some, true, IsUtf8, length};
 ghost use Rattle.toml.specs.Data.{Members};
 ghost use Rattle.mmtel_lex.specs.Reading.{uri_of};

@@ -1,4 +1,4 @@
-//! Reading service records: the bytes of a TOML document to the sheet that they say, or to their first fault.
+//! Reading service records: from the bytes of a TOML document to its sheet, or to its first fault.
 #![tactic(auto)]
 
 mod elements;

@@ -18,9 +18,9 @@ use toml::Table;
 ///
 /// # Errors
 ///
-/// `NotToml` exactly where the bytes are not UTF-8 or no TOML. Else the first fault of the walk over the document, which takes tables in byte order of their names, keys in
-/// byte order, rules and items in their order: `Unknown` where a key is nowhere listed, `Wrong` where its value is not of the key's type, range or text or where its
-/// partner is absent, `Many` where an array is too long. `NoMemory` where memory ran out.
+/// `NotToml` exactly where the bytes are not UTF-8 or no TOML. Else the first fault of the walk over the document, which visits tables in byte order of their names, keys in byte
+/// order, rules and items in their order: `Unknown` where a key is not listed, `Wrong` where its value is not of the key's type, range or text or where its partner is absent,
+/// `Many` where an array is too long. `NoMemory` where memory ran out.
 #[tactic(auto, using(crate::proofs::Documents::documented, crate::proofs::Told::told, crate::proofs::Told::told_nothing, crate::proofs::ReadTables::answered))]
 pub fn read_sheet(alloc: Global, bytes: &[u8]) -> Result<Sheet, SheetFault>
     ensures exact { IsRead bytes.now result }
@@ -38,7 +38,7 @@ pub fn read_sheet(alloc: Global, bytes: &[u8]) -> Result<Sheet, SheetFault>
     }
 }
 
-/// What is read, unless it is refused; want of memory is no refusal.
+/// The result of the reading, unless it is refused; out of memory is no refusal.
 fn unless_refused<T>(read: Result<T, SheetFault>) -> Result<Option<T>, NoMemory>
     ensures { Kept read result }
 {
@@ -65,7 +65,7 @@ fn sheet_of_first(alloc: Global, table: &Table) -> Result<Option<Sheet>, NoMemor
 ///
 /// # Errors
 ///
-/// Want of memory alone.
+/// Out of memory only.
 #[tactic(auto, using(crate::proofs::Told::none_old))]
 pub fn read_old_sheet(alloc: Global, bytes: &[u8]) -> Result<Option<Sheet>, NoMemory>
     ensures exact { IfOk result (λ o. o ≡ old_sheet bytes.now) }

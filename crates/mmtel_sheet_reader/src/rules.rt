@@ -73,7 +73,7 @@ fn with_notice(notice: Notice, told: bool, notices: Notices) -> Notices
     }
 }
 
-/// An event key: one alone may be true.
+/// An event key: only one may be true.
 fn read_event(
     alloc: Global,
     at: &[u8],
@@ -108,7 +108,7 @@ fn is_over(count: usize) -> bool
     count > 64
 }
 
-/// More of them in `except` than may be, and no `one` comes behind it.
+/// More of them in `except` than allowed, where no `one` comes after it.
 fn is_last_and_long(count: usize, table: &Table) -> bool
     ensures { result ≡ (nat_lt 64 count && not (has_key (codes "one") (table_view table.now))) }
 {
@@ -118,7 +118,7 @@ fn is_last_and_long(count: usize, table: &Table) -> bool
     !has_key(table, "one")
 }
 
-/// The identities that are not meant.
+/// The identities that are excepted.
 fn read_except(
     alloc: Global,
     at: &[u8],
@@ -430,7 +430,7 @@ fn allowance(alloc: Global, path: &[u8], allow: Option<bool>) -> Result<Action, 
     }
 }
 
-/// What the rule does, which a required key says.
+/// The action of the rule, which a required key sets.
 fn action(
     alloc: Global,
     service: Service,
@@ -500,7 +500,7 @@ fn are_tables(items: &Array) -> bool
     true
 }
 
-/// The rule of one more item, behind those before it.
+/// The rule of one more item, after those before it.
 fn next_rule(
     alloc: Global,
     schema: Schema,

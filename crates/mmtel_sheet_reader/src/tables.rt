@@ -415,7 +415,7 @@ fn read_table(
     }
 }
 
-/// The table of a name, or of no name that a record has.
+/// The table of a name, or of a name that no table of a record has.
 fn read_named(
     alloc: Global,
     version: Version,

@@ -1,4 +1,4 @@
--- A sheet is put where its account stands first, or behind the others.
+-- A sheet is put at the first index of its account, or after the others.
 use Rattle.std.proofs.Common.{◌≡◌, Bool, ℕ, zero, suc, ◌+◌, ◌==◌, List, [], ◌∷◌, ◌++◌, Option, Some, None, refl, ap, subst, slice_set, get_or, arith, inl, inr}
 use Rattle.std.proofs.lemmas.Bool.{cases_Bool}
 use Rattle.std.specs.Prelude.{position}

@@ -1,4 +1,4 @@
-//! The texts of service records by account, as they are kept and handed out.
+//! The texts of service records by account, as they are stored and returned.
 #![tactic(auto)]
 
 pub mod laws;

@@ -11,7 +11,7 @@ use std::marker::Model;
 
 /// The text of each account that has one.
 ///
-/// Contracts see the accounts with their texts, in the order in which each account first had one, and for how many further accounts there is room.
+/// In contracts it is seen as the accounts with their texts, in the order in which the accounts first had a text, and for how many further accounts there is reserved space.
 #[derive(Drop)]
 pub struct SheetTexts {
     kept: Option<Vec<(Account, Text)>>,
@@ -31,7 +31,7 @@ impl Model for SheetTexts {
     } };
 }
 
-/// Where the account stands.
+/// The index of the account.
 fn place(texts: &[(Account, Text)], account: Account) -> Option<usize>
     ensures place { result ≡ position (λ entry. entry.0.0 == account.0) texts.now }
     ensures within { IfSome result (λ at. at < length texts.now) }
@@ -39,7 +39,7 @@ fn place(texts: &[(Account, Text)], account: Account) -> Option<usize>
     texts.iter().position(|entry| entry.0.0 == account.0)
 }
 
-/// Puts a text in the place of the account's.
+/// Puts a text in place of the account's previous one.
 fn put_within(texts: &mut Vec<(Account, Text)>, a: Account, text: Text)
     requires { vec_len texts.old < vec_capacity texts.old }
     ensures put { texts.new.items ≡ put a text texts.old.items }
@@ -63,18 +63,18 @@ fn find(texts: &[(Account, Text)], account: Account) -> Option<&Text>
 }
 
 impl SheetTexts {
-    /// The table of no texts. It takes no memory.
+    /// The table of no texts. It allocates nothing.
     pub fn new() -> SheetTexts
         ensures empty { result ≡ record { texts = []; room = 0 } }
     {
         SheetTexts { kept: None }
     }
 
-    /// Makes room for the text of one more account, so that a `replace` takes no memory.
+    /// Reserves space for the text of one more account, so that a `replace` allocates nothing.
     ///
     /// # Errors
     ///
-    /// Want of memory alone; the table is then as before.
+    /// Out of memory only; the table is then as before.
     pub fn reserve(&mut self, alloc: Global) -> Result<(), NoMemory>
         ensures same { self.new.texts ≡ self.old.texts }
         ensures ok { OnOk result (0 < self.new.room) }
@@ -93,7 +93,7 @@ impl SheetTexts {
         }
     }
 
-    /// Puts a text in the place of the account's. It takes no memory: `reserve` made room.
+    /// Puts a text in place of the account's previous one. It allocates nothing: `reserve` reserved the space.
     pub fn replace(&mut self, a: Account, text: Text)
         requires { 0 < self.old.room }
         ensures put { self.new.texts ≡ put a text self.old.texts }
@@ -104,11 +104,11 @@ impl SheetTexts {
         }
     }
 
-    /// Puts a text in the place of the account's.
+    /// Puts a text in place of the account's previous one.
     ///
     /// # Errors
     ///
-    /// Want of memory alone; the table is then as before.
+    /// Out of memory only; the table is then as before.
     pub fn put(&mut self, alloc: Global, a: Account, text: Text) -> Result<(), NoMemory>
         ensures ok { OnOk result (self.new.texts ≡ put a text self.old.texts) }
         ensures err { OnErr result (self.new ≡ self.old) }
@@ -118,7 +118,7 @@ impl SheetTexts {
         Ok(())
     }
 
-    /// Puts another text in the place of the one that stands there. It takes no memory.
+    /// Puts another text in place of the one at this index. It allocates nothing.
     pub fn set(&mut self, at: usize, text: Text)
         requires { at < length self.old.texts }
         ensures set { self.new ≡ record self.old { texts = set_text self.old.texts at text } }
@@ -129,14 +129,14 @@ impl SheetTexts {
         }
     }
 
-    /// The text of the account; None where it has none. It takes no memory.
+    /// The text of the account; None where it has none. It allocates nothing.
     pub fn text(&self, a: Account) -> Option<&Text>
         ensures found { option_copied result ≡ text_at self.now.texts a }
     {
         find(self.items(), a)
     }
 
-    /// The accounts with their texts. It takes no memory.
+    /// The accounts with their texts. It allocates nothing.
     pub fn items(&self) -> &[(Account, Text)]
         ensures all { result.now ≡ self.now.texts }
     {

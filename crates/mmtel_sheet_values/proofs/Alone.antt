@@ -1,4 +1,4 @@
--- A sheet that is put is one account's, and room that was made stays.
+-- A sheet that is put is one account's, and space that was reserved remains.
 use Rattle.std.proofs.Common.{◌≡◌, ◌≢◌, ℕ, refl, ap, sym, ◌∙◌}
 use Rattle.std.specs.Prelude.{Bool, true, false, ◌||◌, Some, cond}
 use Rattle.std.specs.Ordering.{nat_cmp, is_eq}

@@ -1,4 +1,4 @@
--- What a map of these entries answers, and the map and the set of keys after an entry was put in or taken out.
+-- The look-ups of a map of these entries, and the map and the set of keys after an entry was inserted or removed.
 use Rattle.std.proofs.Common.{◌≡◌, ℕ, List, [], ◌∷◌, refl, ap, sym, ◌∙◌}
 use Rattle.std.specs.Prelude.{Bool, true, false, ◌||◌, Option, Some, None, cond, map, is_some}
 use Rattle.std.specs.List.{list_any}
@@ -13,11 +13,11 @@ use Rattle.std.specs.FinSet.{FinSet, contains, contains-insert, contains-from_li
 use Rattle.mmtel_sheet_values.specs.Places.{in_place, sheets_of, accounts_of}
 use Rattle.mmtel_sheet_values.specs.declared.values.Sheet.{Sheet}
 
--- what a table of these entries answers
+-- the look-up in a table of these entries
 abbrev pub looked_up : {X : Type 0} → List (ℕ × X) → ℕ → Option X
 looked_up es q = lookup (λ k. is_eq (nat_cmp q k)) es
 
--- the new entries answer as the old ones with this one
+-- the look-ups in the new entries are those in the old ones with this one
 abbrev pub Puts : {X : Type 0} → List (ℕ × X) → List (ℕ × X) → ℕ → X → Type 0
 Puts old new k v = (q : ℕ) → looked_up new q ≡ cond (is_eq (nat_cmp k q)) (Some v) (looked_up old q)
 
@@ -39,9 +39,9 @@ pub removed : {X : Type 0} (old new : List (ℕ × X)) (k : ℕ) → ((q : ℕ) 
 removed old new k h = same_map nat_cmp_total nat_cmp-IsAntisymmetric _ _ (λ q.
     get-entries new q ∙ h q ∙ ap (λ b. cond b None (looked_up old q)) (turned k q) ∙ ap (cond (is_eq (nat_cmp q k)) None) (sym (get-entries old q)) ∙ sym (get-remove nat_cmp_total (from_entries old) k q))
 
--- ---- the sheets in places
+-- ---- the sheets in entries
 
--- a choice between what is in places is the choice between the places
+-- a choice between the contents of entries is the choice between the entries
 flattened : (b : Bool) (place : Option Sheet) (other : Option (Option Sheet)) → cond b place (option_flatten other) ≡ option_flatten (cond b (Some place) other)
 flattened true place other = refl
 flattened false place other = refl
@@ -62,7 +62,7 @@ placed old new k place h = same_map nat_cmp_total nat_cmp-IsAntisymmetric _ _ (�
     get-sheets new q ∙ ap option_flatten (h q) ∙ ap (λ b. option_flatten (cond b (Some place) (looked_up old q))) (turned k q)
     ∙ sym (flattened (is_eq (nat_cmp q k)) place (looked_up old q)) ∙ ap (cond (is_eq (nat_cmp q k)) place) (sym (get-sheets old q)) ∙ sym (get-in_place (sheets_of old) k place q))
 
--- to take out what is not there changes nothing
+-- to remove what is absent changes nothing
 pub none_removed : (m : FinMap nat_cmp Sheet) (k : ℕ) → get m k ≡ None → remove m k ≡ m
 none_removed m k none = same_map nat_cmp_total nat_cmp-IsAntisymmetric _ _ (λ q.
     get-remove nat_cmp_total m k q
@@ -72,7 +72,7 @@ none_removed m k none = same_map nat_cmp_total nat_cmp-IsAntisymmetric _ _ (λ q
       | Greater ↦ λ e. refl
     ] refl)
 
--- ---- the accounts that have a place
+-- ---- the accounts that have an entry
 
 or-some : {X : Type 0} (b : Bool) (x : X) (other : Option X) → (b || is_some other) ≡ is_some (cond b (Some x) other)
 or-some true x other = refl
@@ -90,7 +90,7 @@ counted old new k place h = same_set nat_cmp_total nat_cmp-IsAntisymmetric _ _ (
     contains-accounts new q ∙ ap is_some (h q) ∙ ap (λ b. is_some (cond b (Some place) (looked_up old q))) (turned k q)
     ∙ sym (or-some (is_eq (nat_cmp q k)) place (looked_up old q)) ∙ ap (λ b. is_eq (nat_cmp q k) || b) (sym (contains-accounts old q)) ∙ sym (contains-insert nat_cmp_total (accounts_of old) k q))
 
--- to put in what is there changes nothing
+-- to insert what is present changes nothing
 pub one_inserted : (s : FinSet nat_cmp) (k : ℕ) → contains s k ≡ true → set.insert s k ≡ s
 one_inserted s k there = same_set nat_cmp_total nat_cmp-IsAntisymmetric _ _ (λ q.
     contains-insert nat_cmp_total s k q

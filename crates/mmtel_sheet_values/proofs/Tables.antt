@@ -1,4 +1,4 @@
--- What tables of these entries have in force, after an entry was put in or taken out.
+-- The records in force by tables of these entries, after an entry was inserted or removed.
 use Rattle.std.proofs.Common.{◌≡◌, ℕ, List, refl, ap, sym, ◌∙◌}
 use Rattle.std.proofs.lemmas.Bool.{false≢true}
 use Rattle.std.specs.Prelude.{Option, Some, None, true, false, cond, is_some, IfSome, IsTrue}
@@ -11,19 +11,19 @@ use Rattle.mmtel_sheet_values.specs.Places.{sheets_of, accounts_of}
 use Rattle.mmtel_sheet_values.specs.View.{InForce, sheet_in, has_room, with_sheet, with_room, with_end}
 use Rattle.mmtel_sheet_values.proofs.Entries.{looked_up, Puts, get-sheets, placed, none_removed, contains-accounts, counted, one_inserted, inserted, removed}
 
--- what is so of any value
+-- a property of any value
 pub IfSome-from : {X P : Type 0} (o : Option X) → P → IfSome o (λ _. P)
 IfSome-from None p = tt
 IfSome-from (Some x) p = p
 
--- what two tables of these entries have in force
+-- the records in force by two tables of these entries
 abbrev pub of_entries : List (ℕ × Option Sheet) → List (ℕ × ℕ) → InForce
 of_entries places ends = record { sheets = sheets_of places; room = accounts_of places; ends = from_entries ends }
 
 pub put_in : (old new : List (ℕ × Option Sheet)) (ends : List (ℕ × ℕ)) (a : ℕ) (s : Sheet) → Puts old new a (Some s) → of_entries new ends ≡ with_sheet (of_entries old ends) a s
 put_in old new ends a s h = λ i. record { sheets = placed old new a (Some s) h i; room = counted old new a (Some s) h i; ends = from_entries ends }
 
--- nothing is where no place is
+-- nothing is in force without entries
 nothing_in : (place : Option (Option Sheet)) → is_some place ≡ false → option_flatten place ≡ None
 nothing_in None e = refl
 nothing_in (Some s) e = absurd (false≢true (sym e))
@@ -44,13 +44,13 @@ end_set places old new a until h = λ i. record { sheets = sheets_of places; roo
 pub end_taken : (places : List (ℕ × Option Sheet)) (old new : List (ℕ × ℕ)) (a : ℕ) → ((q : ℕ) → looked_up new q ≡ cond (is_eq (nat_cmp a q)) None (looked_up old q)) → of_entries places new ≡ with_end (of_entries places old) a None
 end_taken places old new a h = λ i. record { sheets = sheets_of places; room = accounts_of places; ends = removed old new a h i }
 
--- an account has room exactly where it has a place
+-- there is space for a sheet of an account exactly where it has an entry
 pub has_place : (places : List (ℕ × Option Sheet)) (ends : List (ℕ × ℕ)) (a : ℕ) → is_some (looked_up places a) ≡ true → IsTrue (has_room (of_entries places ends) a)
 has_place places ends a there = contains-accounts places a ∙ there
 
 pub has_no_place : (places : List (ℕ × Option Sheet)) (ends : List (ℕ × ℕ)) (a : ℕ) → looked_up places a ≡ None → IsTrue (has_room (of_entries places ends) a) → ⊥
 has_no_place places ends a none room = false≢true (sym (ap is_some none) ∙ sym (contains-accounts places a) ∙ room)
 
--- the sheet in the account's place
+-- the sheet in the account's entry
 pub in_force : (places : List (ℕ × Option Sheet)) (ends : List (ℕ × ℕ)) (a : ℕ) (place : Option (Option Sheet)) → place ≡ looked_up places a → option_flatten place ≡ sheet_in (of_entries places ends) a
 in_force places ends a place e = ap option_flatten e ∙ sym (get-sheets places a)

@@ -1,8 +1,8 @@
--- What public clauses cite.
+-- Definitions that public contracts cite.
 pub mod Sheets
 pub mod NoReply
 pub mod View
--- What the model of the table of sheets is made of.
+-- Definitions of which the model of the table of sheets consists.
 pub mod Places
 
--- What private functions alone cite: nothing.
+-- Definitions that only private functions cite: none.

@@ -1,4 +1,4 @@
--- The no-reply time: when a call that rings counts as not answered (3GPP TS 24.604 §4.9.1, communication forwarding on no reply).
+-- The no-reply time: when a ringing call counts as not answered (3GPP TS 24.604 §4.9.1, communication forwarding on no reply).
 use Rattle.std.specs.Prelude.{ℕ, ◌*◌, Bool, true, false, Option, Some, None, if◌then◌else◌}
 use Rattle.std.specs.List.{list_any}
 use Rattle.mmtel_sheet_values.specs.declared.values.EventWord.{EventWord}

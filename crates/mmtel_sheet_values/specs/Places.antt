@@ -1,20 +1,20 @@
--- The places that the table of sheets keeps by account, some of them empty: the sheets in them, and the accounts that have one.
+-- The entries of the table of sheets by account, some of them empty: the sheets in them, and the accounts that have one.
 use Rattle.std.specs.Prelude.{ℕ, List, [], ◌∷◌, Option, Some, None, map}
 use Rattle.std.specs.Ordering.{nat_cmp}
 use Rattle.std.specs.FinMap as finite
 use Rattle.std.specs.FinSet as set
 use Rattle.mmtel_sheet_values.specs.declared.values.Sheet.{Sheet}
 
--- the account with what is in its place
+-- the account with what is in its entry
 abbrev pub in_place : finite.FinMap nat_cmp Sheet → ℕ → Option Sheet → finite.FinMap nat_cmp Sheet
 in_place sheets a None = finite.remove sheets a
 in_place sheets a (Some s) = finite.insert sheets a s
 
--- the sheets in the places
+-- the sheets in the entries
 abbrev pub sheets_of : List (ℕ × Option Sheet) → finite.FinMap nat_cmp Sheet
 sheets_of [] = finite.empty
 sheets_of (place ∷ places) = in_place (sheets_of places) place.0 place.1
 
--- the accounts that have a place
+-- the accounts that have an entry
 abbrev pub accounts_of : List (ℕ × Option Sheet) → set.FinSet nat_cmp
 accounts_of places = set.from_list (map (λ place. place.0) places)

@@ -1,15 +1,15 @@
-//! Laws of the records in force: each is the contract of a function that does nothing.
+//! Theorems about the records in force: each is the contract of a function that does nothing.
 ghost use Rattle.std.specs.Prelude.{◌≡◌, ◌≢◌, ℕ, Some, IsTrue};
 ghost use Rattle.mmtel_sheet_values.specs.View.{InForce, sheet_in, with_sheet, with_room, has_room};
 ghost use Rattle.mmtel_sheet_values.specs.declared.values.Sheet.{Sheet};
 
-/// A law, and no code: the sheet that is put is the account's from then on, and no other account's changes.
+/// A theorem, without code: the sheet that is put is the account's from then on, and no other account's changes.
 pub fn putting_changes_one_account()
     ensures its { (v : InForce) (a : ℕ) (s : Sheet) → sheet_in (with_sheet v a s) a ≡ Some s }
     ensures others { (v : InForce) (a b : ℕ) (s : Sheet) → a ≢ b → sheet_in (with_sheet v a s) b ≡ sheet_in v b }
 {}
 
-/// A law, and no code: there is room for an account once it was made, and wherever there was room there still is.
+/// A theorem, without code: there is space for an account after it was reserved, and space that there was remains.
 pub fn room_stays()
     ensures made { (v : InForce) (a : ℕ) → IsTrue (has_room (with_room v a) a) }
     ensures put { (v : InForce) (a : ℕ) (s : Sheet) → IsTrue (has_room (with_sheet v a s) a) }

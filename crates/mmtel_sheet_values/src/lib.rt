@@ -1,6 +1,6 @@
-//! What a service record says, as values, and the table of the records that are in force: what the services decide by.
+//! The content of a service record, as values, and the table of the records that are in force: the services decide by these.
 //!
-//! How a record is written is the matter of the crates above: this one knows no text.
+//! The syntax of a record belongs to the crates above: this one has no text.
 #![tactic(auto)]
 
 pub mod laws;

@@ -1,4 +1,4 @@
-//! Sheets that several keep.
+//! Shared sheets.
 ghost use Rattle.std.specs.Prelude.{◌≡◌, IfOk};
 
 use crate::values::Sheet;
@@ -7,9 +7,9 @@ use std::alloc::Global;
 use std::marker::Model;
 use std::rc::Rc;
 
-/// A sheet with several keepers: the table of the sheets in force, and each attempt that began under it. It does not change, and stays as long as one keeps it.
+/// A sheet with several holders: the table of the sheets in force, and each attempt that began under it. It does not change, and exists as long as it has a holder.
 ///
-/// Contracts see the sheet.
+/// In contracts it is seen as the sheet.
 #[derive(Drop)]
 pub struct SharedSheet {
     kept: Rc<Sheet>,
@@ -27,11 +27,11 @@ impl Model for SharedSheet {
 }
 
 impl SharedSheet {
-    /// The sheet, with its first keeper.
+    /// The sheet, with its first holder.
     ///
     /// # Errors
     ///
-    /// Want of memory alone.
+    /// Out of memory only.
     pub fn of(alloc: Global, sheet: Sheet) -> Result<SharedSheet, NoMemory>
         ensures its { IfOk result (λ s. s ≡ sheet) }
     {
@@ -39,18 +39,18 @@ impl SharedSheet {
         Ok(SharedSheet { kept })
     }
 
-    /// The sheet itself. It takes no memory.
+    /// The sheet itself. It allocates nothing.
     pub fn sheet(&self) -> &Sheet
         ensures its { result.now ≡ self.now }
     {
         Rc::as_ref(&self.kept)
     }
 
-    /// The same sheet for one more keeper. Nothing is copied.
+    /// The same sheet for one more holder. Nothing is copied.
     ///
     /// # Errors
     ///
-    /// Want of memory alone: the keepers can no longer be counted.
+    /// Out of memory only: the holders can no longer be counted.
     pub fn shared(&self) -> Result<SharedSheet, NoMemory>
         ensures same { IfOk result (λ s. s ≡ self.now) }
     {

@@ -1,4 +1,4 @@
-//! The sheet of an account that never said anything, and when a sheet's owner counts as not answering.
+//! The sheet of an account without a record, and the no-reply time of a sheet.
 ghost use Rattle.std.specs.Prelude.{◌≡◌};
 ghost use Rattle.std.specs.List.{list_any};
 ghost use Rattle.mmtel_sheet_values.specs.Sheets.{empty_sheet};
@@ -35,7 +35,7 @@ fn part_no_reply_time(part: &DiversionPart) -> Option<u64>
 }
 
 impl Sheet {
-    /// The sheet of an account that never said anything: what a record of no text says. It takes no memory.
+    /// The sheet of an account without a record, which is that of an empty record. It allocates nothing.
     pub fn empty() -> Sheet
         ensures its { result ≡ empty_sheet }
     {
@@ -56,8 +56,8 @@ impl Sheet {
         }
     }
 
-    /// The no-reply time (TS 24.604 §4.9.1): the milliseconds after which a call that rings counts as not answered. None where the diversion is absent or not active, or
-    /// has no rule for calls that are not answered. It takes no memory.
+    /// The no-reply time (TS 24.604 §4.9.1): the milliseconds after which a ringing call counts as not answered. None where the diversion is absent or not active, or has no rule
+    /// for calls that are not answered. It allocates nothing.
     pub fn no_reply_time(&self) -> Option<u64>
         ensures exact { result ≡ no_reply_time self.now }
     {

@@ -1,8 +1,8 @@
-//! What a service record says.
+//! The content of a service record.
 
 use mmtel_lex::{List, Text, Uri};
 
-/// The service records' events of a call on its way to its target (TS 24.604 §4.9.1).
+/// The events of a call on its way to its target to which service records refer (TS 24.604 §4.9.1).
 #[derive(Clone, Copy, Debug, PartialEq, Eq)]
 pub enum EventWord {
     /// The user is busy.
@@ -15,14 +15,14 @@ pub enum EventWord {
     NotRegistered,
 }
 
-/// Whom a rule is about (RFC 4745 §7.1).
+/// To which identities a rule applies (RFC 4745 §7.1).
 #[derive(Drop)]
 pub struct Who {
     /// Each of these identities.
     pub one: List<Uri>,
     /// Each identity of this domain, or each identity where it is `*`.
     pub many: Option<Text>,
-    /// The identities of `many` that are not meant.
+    /// The identities of `many` that are excepted.
     pub except: List<Uri>,
 }
 
@@ -48,14 +48,14 @@ pub struct Weekly {
     pub offset: i16,
 }
 
-/// When a rule holds: where each part that is there does.
+/// When a rule holds: where each condition that is present does.
 #[derive(Drop)]
 pub struct Condition {
     /// The other party is one of these.
     pub identity: Option<Who>,
-    /// The caller hides who it is.
+    /// The caller is anonymous.
     pub anonymous: bool,
-    /// It is this time.
+    /// The moment is within this time.
     pub window: Option<Window>,
     /// One of these kinds of media is offered.
     pub media: Option<List<Text>>,
@@ -65,22 +65,22 @@ pub struct Condition {
     pub diverted: bool,
     /// The call goes to another country (TS 24.611 §4.9.1.3).
     pub abroad: bool,
-    /// It is one of these hours of the week.
+    /// The moment is within these hours of the week.
     pub weekly: Option<Weekly>,
 }
 
-/// Where a call is diverted to, and who is told what of it (TS 24.604 §4.9.1.4).
+/// Where a call is diverted to, and who is notified of what about it (TS 24.604 §4.9.1.4).
 #[derive(Drop)]
 pub struct Forward {
     /// Where the call goes.
     pub target: Uri,
-    /// The caller is told that the call is diverted.
+    /// The caller is notified that the call is diverted.
     pub notify_caller: bool,
-    /// The caller is told where it goes.
+    /// The diverted-to identity is revealed to the caller.
     pub reveal_to_caller: bool,
-    /// The caller is told who diverted it.
+    /// The identity of the diverting user is revealed to the caller.
     pub reveal_served_to_caller: bool,
-    /// The target is told who diverted the call.
+    /// The identity of the diverting user is revealed to the target.
     pub reveal_to_target: bool,
 }
 
@@ -89,7 +89,7 @@ pub struct Forward {
 pub enum Action {
     /// The call is diverted.
     Forward(Forward),
-    /// The call is let through, or barred.
+    /// The call is allowed, or barred.
     Allow(bool),
 }
 
@@ -98,7 +98,7 @@ pub enum Action {
 pub struct Rule {
     /// When it holds.
     pub condition: Condition,
-    /// What it then does.
+    /// What is done then.
     pub action: Action,
 }
 
@@ -107,35 +107,35 @@ pub struct Rule {
 pub struct DiversionPart {
     /// The rules; the first that holds counts.
     pub rules: List<Rule>,
-    /// The seconds after which a call that rings counts as not answered, 5 to 180.
+    /// The seconds after which a ringing call counts as not answered, 5 to 180.
     pub no_reply: u16,
     /// The user's own device may divert the call.
     pub deflection: bool,
-    /// The diversions of a call from which on the user's are refused, 0 to 16; None where the user says nothing.
+    /// The number of diversions of a call from which on the user's are refused, 0 to 16; None where the record sets none.
     pub bound: Option<u8>,
 }
 
 /// Communication barring in one direction (TS 24.611).
 #[derive(Drop)]
 pub struct BarPart {
-    /// The rules; a call is barred where one holds and none that holds allows.
+    /// The rules; a call is barred where one holds and no rule that holds allows it.
     pub rules: List<Rule>,
-    /// Callers that hide who they are are refused.
+    /// Anonymous callers are refused.
     pub reject_anonymous: bool,
 }
 
 /// Whether an identity is restricted (TS 24.607, TS 24.608).
 #[derive(Clone, Copy, Debug, PartialEq, Eq)]
 pub struct Restriction {
-    /// The service is there.
+    /// The service is active.
     pub active: bool,
-    /// It restricts each call, whatever the user asks.
+    /// It restricts each call, whatever the user requests.
     pub permanent: bool,
-    /// Where it is not permanent: it restricts where the user asks nothing.
+    /// Where it is not permanent: it restricts where the user requests nothing.
     pub by_default: bool,
 }
 
-/// What one account wants of the services.
+/// The service settings of one account.
 #[derive(Drop)]
 pub struct Sheet {
     /// Communication diversion; None where it is absent or not active.
@@ -144,14 +144,14 @@ pub struct Sheet {
     pub incoming: Option<BarPart>,
     /// Barring of outgoing calls; None where it is absent or not active.
     pub outgoing: Option<BarPart>,
-    /// The user is shown who calls (originating identity presentation).
+    /// The caller's identity is presented to the user (originating identity presentation).
     pub oip: bool,
     /// The user's identity as a caller is restricted.
     pub oir: Restriction,
-    /// The user is shown who answers (terminating identity presentation).
+    /// The identity of the answering party is presented to the user (terminating identity presentation).
     pub tip: bool,
     /// The user's identity as a called party is restricted.
     pub tir: Restriction,
-    /// Communication waiting (TS 24.615): the calls that the user may have at once, 2 to 8; None where it is absent or not active.
+    /// Communication waiting (TS 24.615): the calls that the user may have at the same time, 2 to 8; None where it is absent or not active.
     pub waiting: Option<u8>,
 }

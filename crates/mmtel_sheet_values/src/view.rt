@@ -11,7 +11,7 @@ use std::alloc::Global;
 use std::collections::BTreeMap;
 use std::marker::Model;
 
-/// The sheet of each account that has one, the accounts for whose sheet there is room, and the moment at which each registration ends that has an end.
+/// The sheet of each account that has one, the accounts for whose sheet there is reserved space, and the moment at which each registration ends that has an end.
 #[derive(Drop)]
 pub struct SheetView {
     alloc: Global,
@@ -40,7 +40,7 @@ impl Model for SheetView {
 }
 
 impl SheetView {
-    /// The view in which no account has a sheet, and each is registered. It takes no memory.
+    /// The view in which no account has a sheet, and each is registered. It allocates nothing.
     pub fn new(alloc: Global) -> SheetView
         ensures empty { result ≡ nothing_in_force }
     {
@@ -51,11 +51,11 @@ impl SheetView {
         }
     }
 
-    /// Puts a sheet in the place of the account's.
+    /// Puts a sheet in place of the account's previous one.
     ///
     /// # Errors
     ///
-    /// Want of memory alone; the view is then as before. Where a sheet has to be put without fail, `reserve` makes room and `replace` puts it.
+    /// Out of memory only; the view is then as before. Where a sheet has to be put without fail, `reserve` reserves space and `replace` puts it.
     pub fn put(&mut self, a: Account, s: Sheet) -> Result<(), NoMemory>
         ensures ok { OnOk result (self.new ≡ with_sheet self.old a.0 s) }
         ensures err { OnErr result (self.new ≡ self.old) }
@@ -65,11 +65,11 @@ impl SheetView {
         Ok(())
     }
 
-    /// Makes room for a sheet of the account, so that a `replace` takes no memory. No account's sheet changes, and no registration.
+    /// Reserves space for a sheet of the account, so that a `replace` allocates nothing. No account's sheet changes, and no registration.
     ///
     /// # Errors
     ///
-    /// Want of memory alone; the view is then as before.
+    /// Out of memory only; the view is then as before.
     pub fn reserve(&mut self, a: Account) -> Result<(), NoMemory>
         ensures ok { OnOk result (self.new ≡ with_room self.old a.0) }
         ensures room { OnOk result (IsTrue (has_room self.new a.0)) }
@@ -82,7 +82,7 @@ impl SheetView {
         Ok(())
     }
 
-    /// Puts a sheet in the place of the account's, and answers the one that was there. It takes no memory: `reserve` made room, or the account has a sheet.
+    /// Puts a sheet in place of the account's previous one, and returns that. It allocates nothing: `reserve` reserved space, or the account has a sheet.
     pub fn replace(&mut self, a: Account, s: SharedSheet) -> Option<SharedSheet>
         requires { IsTrue (has_room self.old a.0) }
         ensures put { self.new ≡ with_sheet self.old a.0 s }
@@ -94,7 +94,7 @@ impl SheetView {
         }
     }
 
-    /// What is in the account's place.
+    /// What is in the account's entry.
     fn in_place(&self, a: Account) -> Option<&SharedSheet>
         ensures its { option_copied result ≡ sheet_in self.now a.0 }
         ensures room { IfSome result (λ _. IsTrue (has_room self.now a.0)) }
@@ -105,10 +105,10 @@ impl SheetView {
         }
     }
 
-    /// The sheet of the account; None where it has none, which means the sheet of an empty record. It takes no memory.
+    /// The sheet of the account; None where it has none, which means the sheet of an empty record. It allocates nothing.
     pub fn sheet(&self, a: Account) -> Option<&Sheet>
         ensures exact { option_copied result ≡ sheet_in self.now a.0 }
-        // The account has a sheet, so a `replace` takes no memory.
+        // The account has a sheet, so a `replace` allocates nothing.
         ensures room { IfSome result (λ _. IsTrue (has_room self.now a.0)) }
     {
         match self.in_place(a) {
@@ -117,11 +117,11 @@ impl SheetView {
         }
     }
 
-    /// The same sheet to be kept: it stays as it is, whatever is put in its place. Nothing is copied.
+    /// The same sheet for one more holder: it remains as it is, whatever replaces it in the view. Nothing is copied.
     ///
     /// # Errors
     ///
-    /// Want of memory alone.
+    /// Out of memory only.
     pub fn shared(&self, a: Account) -> Result<Option<SharedSheet>, NoMemory>
         ensures exact { IfOk result (λ shared. shared ≡ sheet_in self.now a.0) }
     {
@@ -131,11 +131,11 @@ impl SheetView {
         }
     }
 
-    /// Sets the moment at which the registration of the account ends; None where it has no end, which takes no memory.
+    /// Sets the moment at which the registration of the account ends; None where it has no end, which allocates nothing.
     ///
     /// # Errors
     ///
-    /// Want of memory alone; the view is then as before.
+    /// Out of memory only; the view is then as before.
     pub fn set_registered(&mut self, a: Account, until: Option<Moment>) -> Result<(), NoMemory>
         ensures ok { OnOk result (self.new ≡ with_end self.old a.0 until) }
         ensures err { OnErr result (self.new ≡ self.old) }
@@ -153,7 +153,7 @@ impl SheetView {
         }
     }
 
-    /// Whether the account is registered: no end was set, or it is past now. It takes no memory.
+    /// Whether the account is registered: no end was set, or the end is later than now. It allocates nothing.
     pub fn registered(&self, a: Account, now: Moment) -> bool
         ensures exact { result ≡ is_registered (end_in self.now a.0) now }
     {

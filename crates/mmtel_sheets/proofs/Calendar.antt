@@ -52,7 +52,7 @@ all_years = sym (first_day (pos 10000)) ∙ day_count-end
 one_year : days_of_years 1 ≡ 366
 one_year = sym (first_day (neg_ℤ (pos 9999))) ∙ day_count-min
 
--- what the months that are found are: the place lies in the last of them
+-- the months that are found: the day of the year is in the last of them
 pub record IsMonth (year : ℤ) (n place month : ℕ) : Type 0 where
   pub low : 1 ≤ month
   pub high : month ≤ suc n
@@ -73,14 +73,14 @@ month_is year (suc n) place low h = elim (leb_tells place (days_of_months year (
       rw test (record { low = omega arith; high = omega arith; after = omega (arith, over.1); within = h })
 ]
 
--- the first days of the years from -10000 on: the count lies in the year behind k of them
+-- the first days of the years from -10000 on: the count is in the year after k of them
 pub record IsInYear (count k : ℕ) : Type 0 where
   pub fits : days_of_years k ≤ count
   pub ends : count < days_of_years (suc k)
   pub low : 1 ≤ k
   pub high : k < 20000
 
--- the year of a day, and its place in it
+-- the year of a day, and the day of the year
 pub record IsPlace (day year : ℤ) (place : ℕ) : Type 0 where
   pub year_in : IsYear year
   pub low : 1 ≤ place

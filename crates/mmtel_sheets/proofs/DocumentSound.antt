@@ -32,7 +32,7 @@ use Rattle.mmtel_sheets.proofs.DayWords.{to_monday, to_tuesday, to_wednesday, to
 use Rattle.mmtel_sheets.proofs.MomentTexts.{moment_utf8, hour_utf8}
 use Rattle.mmtel_sheets.proofs.TablesBack.{sheet_back}
 
--- members that are sound and stand behind each key that comes before this one
+-- members that are sound and come after each key that precedes this one
 record IsTail (l : List ℕ) (ms : Members) : Type 0 where
   pub sound : IsSoundTable ms
   pub behind : (k : List ℕ) → comes_before k l ≡ true → is_before k ms ≡ true

@@ -98,7 +98,7 @@ module _ {A B C : Type 0} where
   after_one (Ok a) f g h e = e a
   after_one (Err x) f g h e = refl
 
--- one more day behind others
+-- one more day after others
 days_push : (at : List ℕ) (days : List Bool) (ds : Items) (d : Data) → days_from at days (push_item ds d) ≡ then_do (days_from at days ds) (λ more. day_read at more d)
 days_push at days no_items d = then_nothing (day_read at days d)
 days_push at days (item e ds) d =

@@ -1,4 +1,4 @@
--- A record that names no version reads as those of the first version do by themselves.
+-- A record that names no version reads as by the definitions of the first version alone.
 use Rattle.std.proofs.Common.{◌≡◌, ℕ, Bool, true, false, cond, nat_lt, List, [], ◌∷◌, ◌++◌, length, Option, Some, None, Ok, Err, Ordering, Less, Equal, Greater, nat_cmp, is_eq, refl, sym, ap, ◌∙◌, codes}
 use Rattle.std.proofs.lemmas.Bool.{false≢true}
 use Rattle.std.proofs.lemmas.Map.Text.{is_eq-slice_cmp}
@@ -42,7 +42,7 @@ module _ {A B : Type 0} where
   both_alike r q f g one same = ap (λ (x : Read A). then_do x f) one ∙ then_alike q f g same
 
 module _ {A : Type 0} where
-  -- keys that are read alike, one by one
+  -- keys that are read in the same way, one by one
   members_alike : (path : List ℕ) (read first : List ℕ → A → List ℕ → Data → Read A) → ((at : List ℕ) (a : A) (k : List ℕ) (d : Data) → read at a k d ≡ first at a k d) → (a : A)
       (ms : Members)
       → members_from path read a ms ≡ members_from path first a ms

@@ -1,4 +1,4 @@
--- What is printed of a sheet is text, is its document, and reads back to it.
+-- What is printed of a sheet is UTF-8, is its document, and reads back to it.
 use Rattle.std.proofs.Common.{◌≡◌, ℕ, ◌≤◌, true, List, Some, Ok, String, Global, IsUtf8, string_bytes, sym, ap, subst, refl, ◌∙◌, arith}
 use Rattle.std.proofs.lemmas.Str.{IsUtf8-string_bytes, is_utf8-from_IsUtf8}
 use Rattle.toml.specs.Data.{Members, members_depth, members_have_valid_dates}

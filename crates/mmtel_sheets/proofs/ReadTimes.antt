@@ -1,4 +1,4 @@
--- A timestamp with three places of a second reads back.
+-- A timestamp with three decimal places of a second reads back.
 use Rattle.std.proofs.Common.{◌≡◌, ◌-ℤ◌, ℕ, ℤ, pos, ◌%◌, ◌<◌, ◌≤ℤ◌, ◌*ℤ◌, ◌==◌, min, take_at, drop_at, true, false, List, [], ◌∷◌, ◌++◌, Some, Ok, refl, arith, int_lt}
 use Rattle.std.proofs.lemmas.Bool.Decides.{nat_tests}
 use Rattle.std.proofs.lemmas.Int.{ints}

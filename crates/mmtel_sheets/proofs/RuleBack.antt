@@ -38,7 +38,7 @@ found_here : (k : List ℕ) (o : Option Data) (ms : Members) → has_key k ms �
 found_here k None ms e = e
 found_here k (Some d) ms e = rw (tied_itself nat_list_cmp_total k)
 
--- the keys of a printed rule behind each of its keys
+-- the keys of a printed rule after each of its keys
 abbrev from-until : Service → Rule → Members
 from-until s r = with_key (codes "until") (until_data r.condition.window) no_members
 
@@ -528,12 +528,12 @@ module _ (s : Service) (r : Rule) (is : IsRule s r) (ms : Members) (path : List 
       ∙ at-media _ ∙ at-no_answer _ ∙ at-not_reachable _ ∙ at-not_registered _ ∙ at-notify_caller _ ∙ at-offset _ ∙ at-one _ ∙ at-to_caller _ ∙ at-to_target _ ∙ at-served _
       ∙ at-target _ ∙ at-until _
 
--- whom the rule is about, of its keys
+-- the identities of the rule, by its keys
 who_back : (who : Option Who) → IfSome who IsWho → who_of (one_of who) (many_of who) (except_of who) ≡ who
 who_back None is = refl
 who_back (Some w) is = refl
 
--- what the rule does, of its keys
+-- the action of the rule, by its keys
 action_back : (s : Service) (path : List ℕ) (a : Action) → IsAction s a
     → action_of s path (aimed a) (told notice.RevealServedToCaller a (told notice.RevealToTarget a (told notice.RevealToCaller a (told notice.NotifyCaller a all_told))))
     (allowed a) ≡ Ok a

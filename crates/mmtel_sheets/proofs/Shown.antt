@@ -37,7 +37,7 @@ timed ms h = record {
   whole = omega arith;
 }
 
--- what jiff's printer shows of a moment
+-- what jiff's printer prints of a moment
 pub record IsShown (m : ℤ) : Type 0 where
   pub clock : DateTime
   pub same : civil_nanos clock ≡ m *ℤ pos 1_000_000
@@ -62,7 +62,7 @@ printed m dt h e =
     let is = shown m h in
     ap (λ (x : DateTime). datetime_text false 84 (Some 3) x ++ zulu_text false) (same_datetime dt is.clock (e ∙ sym is.same)) ∙ is.text
 
--- what the printer writes with three places
+-- what the printer writes with three decimal places
 pub text_of : (p : DateTimePrinter) (dt : DateTime) (text : List ℕ) → options p ≡ (false, 84, Some 3) → text ≡ printer_text p dt ++ zulu_text p.lowercase
     → text ≡ datetime_text false 84 (Some 3) dt ++ zulu_text false
 text_of p dt text o h =

@@ -182,7 +182,7 @@ named-tir : table_key_of (codes "terminating-identity-presentation-restriction")
 unfolding table_key_of
 named-tir = refl
 
--- the tables of a document behind each of its tables
+-- the tables of a document after each of its tables
 abbrev from-version : Sheet → Members
 from-version s = with_key (codes "version") (Some version_data) no_members
 

@@ -1,5 +1,5 @@
--- Records of the first version by themselves, without the keys that came with the second: what a record that names no version says, and which fault is its first
--- (3GPP TS 24.623; TS 24.604, 24.607, 24.608, 24.611, 24.615).
+-- Records of the first version by themselves, without the keys that came with the second: the content of a record that names no version, and which fault is its first (3GPP TS
+-- 24.623; TS 24.604, 24.607, 24.608, 24.611, 24.615).
 use Rattle.std.specs.Prelude.{◌≡◌, ℕ, List, [], ◌∷◌, ◌++◌, Bool, true, false, nat_lt, Option, Some, None, Ok, Err, if◌then◌else◌, codes, length}
 use Rattle.std.specs.Str.{bytes_eq, is_utf8}
 use Rattle.toml.specs.Parse.{parse_document}
@@ -66,7 +66,7 @@ first_rule s path ms =
     then_do (members_from path (λ at r k d. first_rule_key s ms at r k d) no_keys ms)
     (λ r. then_do (action_of s path r.target r.notices r.allow) (λ a. Ok (rule_from r a)))
 
--- rules behind those that were read before, numbered from 0
+-- rules after those that were read before, numbered from 0
 abbrev pub first_rules_from : Service → List ℕ → List Rule → Items → Read (List Rule)
 first_rules_from s path done no_items = Ok done
 first_rules_from s path done (item d ds) =

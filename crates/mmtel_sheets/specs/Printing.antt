@@ -1,5 +1,5 @@
--- The document of a sheet (3GPP TS 24.623; TS 24.604, 24.607, 24.608, 24.611, 24.615): its members in byte order of their keys. Each default is written out, and a part
--- that is not there has no table.
+-- The document of a sheet (3GPP TS 24.623; TS 24.604, 24.607, 24.608, 24.611, 24.615): its members in byte order of their keys. Each default is written out, and a part that is
+-- absent has no table.
 use Rattle.std.specs.Prelude.{ℕ, ◌/◌, ◌%◌, pos, List, [], ◌∷◌, ◌++◌, Bool, true, false, Option, Some, None, if◌then◌else◌, codes, slice_index_or}
 use Rattle.std.specs.Cmp.Lexicographic.{slice_cmp}
 use Rattle.std.specs.Ordering.{nat_cmp, is_lt}
@@ -26,11 +26,11 @@ use Rattle.mmtel_sheet_values.specs.declared.values.Who.{Who}
 use Rattle.mmtel_sheet_values.specs.declared.values.Window.{Window}
 use Rattle.mmtel_sheets.specs.Times.{moment_text}
 
--- the first key stands before the second, in byte order
+-- the first key precedes the second, in byte order
 abbrev pub comes_before : List ℕ → List ℕ → Bool
 comes_before k l = is_lt (slice_cmp nat_cmp k l)
 
--- a key, where there is a value for it, before the keys behind it
+-- a key, where there is a value for it, before the keys after it
 abbrev pub with_key : List ℕ → Option Data → Members → Members
 with_key key None rest = rest
 with_key key (Some d) rest = member key d rest
@@ -41,7 +41,7 @@ module _ {A : Type 0} where
   each_item data_of [] = no_items
   each_item data_of (x ∷ xs) = item (data_of x) (each_item data_of xs)
 
--- a value, where it is to be there
+-- a value, where there is to be one
 abbrev pub where_true : Bool → Data → Option Data
 where_true true d = Some d
 where_true false d = None
@@ -52,9 +52,9 @@ uri_data u = string (uri_text u)
 abbrev pub uris_data : List Uri → Data
 uris_data us = array (each_item uri_data us)
 
--- ---- whom a rule is about
+-- ---- the identities of a rule
 
--- beside many alone
+-- with `many` alone
 abbrev pub except_beside : Option (List ℕ) → List Uri → Option Data
 except_beside None except = None
 except_beside (Some domain) except = Some (uris_data except)
@@ -106,15 +106,15 @@ is_event e (Some f) = is_same_event e f
 abbrev pub event_data : Service → EventWord → Option EventWord → Option Data
 event_data s e happened = where_true (is_diversion s) (boolean (is_event e happened))
 
--- only where who calls is known
+-- only where the caller is known
 abbrev pub anonymous_data : Service → Bool → Option Data
 anonymous_data s b = where_true (meets_callers s) (boolean b)
 
--- only where who calls is known
+-- only where the caller is known
 abbrev pub diverted_data : Service → Bool → Option Data
 diverted_data s b = where_true (meets_callers s) (boolean b)
 
--- only where it is asked where a call goes
+-- only where the destination of the call is tested
 abbrev pub abroad_data : Service → Bool → Option Data
 abroad_data s b = where_true (is_outgoing s) (boolean b)
 
@@ -130,7 +130,7 @@ abbrev pub day_until_data : Option Weekly → Option Data
 day_until_data None = None
 day_until_data (Some w) = Some (string (hour_text w.until))
 
--- one more day behind others, where it is one of them
+-- one more day after others, where it is one of them
 abbrev pub with_word : Items → Bool → List ℕ → Items
 with_word ds b word = if b then push_item ds (string word) else ds
 
@@ -154,7 +154,7 @@ abbrev pub offset_data : Option Weekly → Option Data
 offset_data None = None
 offset_data (Some w) = Some (integer w.offset)
 
--- ---- what it does
+-- ---- its action
 
 abbrev pub allow_data : Action → Option Data
 allow_data (Forward f) = None
@@ -264,7 +264,7 @@ waiting_data calls = table
     (member (codes "calls") (integer (pos calls)) no_members))
 
 module _ {A : Type 0} where
-  -- the table of a part that is there
+  -- the table of a part that is present
   abbrev pub part_data : (A → Data) → Option A → Option Data
   part_data data_of None = None
   part_data data_of (Some p) = Some (data_of p)

@@ -1,4 +1,4 @@
--- How a record writes a moment: YYYY-MM-DDTHH:MM:SS.mmmZ, of the Gregorian calendar at UTC (RFC 3339 §5.6).
+-- The text of a moment in a record: YYYY-MM-DDTHH:MM:SS.mmmZ, of the Gregorian calendar at UTC (RFC 3339 §5.6).
 use Rattle.std.specs.Prelude.{ℕ, zero, suc, ◌+◌, ◌-◌, ◌/◌, ◌%◌, nat_lt, ℤ, pos, ◌+ℤ◌, ◌-ℤ◌, unsigned_abs, List, [], ◌∷◌, ◌++◌, if◌then◌else◌}
 use Rattle.std.specs.Int.{int_div_euclid, int_rem_euclid}
 use Rattle.jiff_core.specs.Calendar.{days_from_civil, days_of_months}
@@ -13,11 +13,11 @@ day_of m = int_div_euclid m (pos 86_400_000)
 abbrev pub clock_of : ℤ → ℕ
 clock_of m = unsigned_abs (int_rem_euclid m (pos 86_400_000))
 
--- the place of a day in its year, from 1
+-- the day of the year, from 1
 abbrev pub place_of : ℤ → ℕ
 place_of day = unsigned_abs ((day +ℤ pos 1) -ℤ days_from_civil (year_of_day day) 1 1)
 
--- of the first n + 1 months of the year the last that begins before the place
+-- of the first n + 1 months of the year the last that begins before the day of the year
 unfoldable pub month_within : ℤ → ℕ → ℕ → ℕ
 month_within year zero place = 1
 month_within year (suc n) place = if nat_lt (days_of_months year (suc n)) place then suc (suc n) else month_within year n place

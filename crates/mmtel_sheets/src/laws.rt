@@ -1,4 +1,4 @@
-//! Laws of the definitions: each is the contract of a function that does nothing.
+//! Theorems about the definitions: each is the contract of a function that does nothing.
 ghost use Rattle.std.specs.Prelude.{◌≡◌, ◌≤◌, ◌↔◌, ℕ, ℤ, List, Ok, Some, true};
 ghost use Rattle.toml.specs.Data.{Members, members_depth, members_have_valid_dates};
 ghost use Rattle.mmtel_sheet_grammar.specs.Moments.{moment_of_text};
@@ -37,8 +37,8 @@ pub fn moments_read_back()
     ensures { (m : ℤ) → IsMoment m → moment_of_text (moment_text m) ≡ Some m }
 {}
 
-/// A record that names no version reads as the records of the first version do by themselves: to the same sheet, or the same first fault. So no record from before the second
-/// version reads otherwise than it did.
+/// A record that names no version reads as by the definitions of the first version alone: to the same sheet, or the same first fault. So no record from before the second version
+/// reads otherwise than it did.
 pub fn first_version_reads_as_before()
     ensures document { (ms : Members) → HasNoVersion ms → sheet_of ms ≡ first_sheet ms }
     ensures text { (bytes : List ℕ) → NamesNoVersion bytes → sheet_read bytes ≡ first_read bytes }

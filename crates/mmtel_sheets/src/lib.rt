@@ -1,4 +1,4 @@
-//! Service records: what a record says, as a sheet; reading one from TOML; printing a sheet as the TOML document that reads back to it. The public names of all of it are here.
+//! Service records: their content, as a sheet; reading one from TOML; printing a sheet as the TOML document that reads back to it. This crate re-exports all their public names.
 #![tactic(auto)]
 
 pub mod laws;

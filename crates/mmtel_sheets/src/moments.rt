@@ -1,4 +1,4 @@
-//! Moments as records write them.
+//! Moments in the format of records.
 ghost use Rattle.std.specs.Prelude.{◌≡◌};
 ghost use Rattle.mmtel_sheet_grammar.specs.Printable.{IsMoment};
 ghost use Rattle.mmtel_sheets.specs.Times.{moment_text};

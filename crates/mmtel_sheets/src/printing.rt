@@ -15,17 +15,17 @@ use std::alloc::Global;
 use toml::ser::Error;
 use toml::table_to_string;
 
-/// The record of a sheet, of the second version: a TOML document in which each default is written out, a part that is not there has no table, and times are written as
+/// The record of a sheet, of the second version: a TOML document in which each default is written out, a part that is absent has no table, and times are written as
 /// `YYYY-MM-DDTHH:MM:SS.mmmZ`.
 ///
 /// # Errors
 ///
-/// Want of memory alone.
+/// Out of memory only.
 pub fn print_sheet(alloc: Global, s: &Sheet) -> Result<Text, NoMemory>
     requires { IsPrintable s.now }
-    // The text writes the sheet's document, a key a line.
+    // The text is the sheet's document, one key a line.
     ensures text { IfOk result (λ t. IsDocumentText false (document_of s.now) t) }
-    // It is read as the sheet's document.
+    // It reads as the sheet's document.
     ensures document { IfOk result (λ t. IsUtf8 t × (parse_document t ≡ Some (document_of s.now))) }
     // It reads back to the sheet.
     ensures reads_back { IfOk result (λ t. Documents t (Ok s.now)) }

@@ -30,7 +30,7 @@ fn diversion_table(alloc: Global, part: &DiversionPart) -> Result<Value, NoMemor
     Ok(Value::Table(active))
 }
 
-/// Communication diversion, where the part is there.
+/// Communication diversion, where the part is present.
 pub fn diversion_value(
     alloc: Global,
     part: &Option<DiversionPart>,
@@ -56,7 +56,7 @@ fn bar_table(alloc: Global, service: Service, part: &BarPart) -> Result<Value, N
     Ok(Value::Table(active))
 }
 
-/// Communication barring in one direction, where the part is there.
+/// Communication barring in one direction, where the part is present.
 pub fn bar_value(
     alloc: Global,
     service: Service,
@@ -122,7 +122,7 @@ fn waiting_table(alloc: Global, calls: u8) -> Result<Value, NoMemory>
     Ok(Value::Table(active))
 }
 
-/// Communication waiting, where the part is there.
+/// Communication waiting, where the part is present.
 pub fn waiting_value(alloc: Global, calls: Option<u8>) -> Result<Option<Value>, NoMemory>
     ensures { IfOk result (λ o. option_map view o ≡ part_data waiting_data calls) }
 {

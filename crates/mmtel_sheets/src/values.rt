@@ -68,7 +68,7 @@ fn tokens_value(alloc: Global, tokens: &[Text]) -> Result<Value, NoMemory>
     Ok(Value::Array(array))
 }
 
-/// The identities of a domain that are not meant, where there is a domain.
+/// The identities of a domain that are excepted, where there is a domain.
 pub fn except_value(alloc: Global, who: &Option<Who>) -> Result<Option<Value>, NoMemory>
     requires { IfSome who.now IsWho }
     ensures { IfOk result (λ o. option_map view o ≡ except_data who.now) }
@@ -155,7 +155,7 @@ pub fn media_value(alloc: Global, media: &Option<List<Text>>) -> Result<Option<V
     }
 }
 
-/// This is the event of the rule.
+/// Whether this is the event of the rule.
 fn is_event(wanted: EventWord, happened: Option<EventWord>) -> bool
     ensures { result ≡ is_event wanted happened }
 {
@@ -186,7 +186,7 @@ pub fn event_value(
     }
 }
 
-/// Whether the caller hides who it is, where the service knows who calls.
+/// Whether the caller is anonymous, where the caller is known to the service.
 pub fn anonymous_value(service: Service, anonymous: bool) -> Option<Value>
     ensures { option_map view result ≡ anonymous_data service anonymous }
 {
@@ -197,7 +197,7 @@ pub fn anonymous_value(service: Service, anonymous: bool) -> Option<Value>
     }
 }
 
-/// Whether the call was diverted before, where the service knows who calls.
+/// Whether the call was diverted before, where the caller is known to the service.
 pub fn diverted_value(service: Service, diverted: bool) -> Option<Value>
     ensures { option_map view result ≡ diverted_data service diverted }
 {
@@ -208,7 +208,7 @@ pub fn diverted_value(service: Service, diverted: bool) -> Option<Value>
     }
 }
 
-/// Whether the call goes to another country, where it is asked where a call goes.
+/// Whether the call goes to another country, where the service tests where a call goes.
 pub fn abroad_value(service: Service, abroad: bool) -> Option<Value>
     ensures { option_map view result ≡ abroad_data service abroad }
 {
@@ -321,7 +321,7 @@ pub fn bound_value(bound: Option<u8>) -> Option<Value>
     }
 }
 
-/// Whether the call is let through.
+/// Whether the call is allowed.
 pub fn allow_value(action: &Action) -> Option<Value>
     ensures { option_map view result ≡ allow_data action.now }
 {
@@ -346,7 +346,7 @@ pub fn target_value(
     }
 }
 
-/// Whether somebody is told of the diversion.
+/// Whether a party is notified of the diversion.
 pub fn notice_value(notice: Notice, action: &Action) -> Option<Value>
     ensures { option_map view result ≡ notice_data notice action.now }
 {
@@ -361,7 +361,7 @@ pub fn notice_value(notice: Notice, action: &Action) -> Option<Value>
     }
 }
 
-/// Whether callers that hide who they are are refused, where the service can refuse them.
+/// Whether anonymous callers are refused, where the service can refuse them.
 pub fn rejection_value(service: Service, reject_anonymous: bool) -> Option<Value>
     ensures { option_map view result ≡ rejection_data service reject_anonymous }
 {

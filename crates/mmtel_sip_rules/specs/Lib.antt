@@ -1,4 +1,4 @@
--- What public clauses cite.
+-- What the clauses of public functions cite.
 pub mod Invites
 pub mod Requests
 pub mod Statuses

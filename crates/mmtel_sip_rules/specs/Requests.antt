@@ -1,5 +1,5 @@
--- What is decided of a request: whose ACK it is (RFC 3261 §13.2.2.4) and how long a 2xx waits for it (§13.3.1.4), which status it gets where no row of the step table has it
--- (§11.2, §12.2.2), and whether one that is heard again has its answer (§17.2.1, §17.2.2; RFC 6026 §7.1).
+-- Decisions about a request: to what an ACK belongs (RFC 3261 §13.2.2.4) and how long a 2xx waits for it (§13.3.1.4), the status of a request for which the step table has no
+-- transition (§11.2, §12.2.2), and whether a retransmission gets the response again (§17.2.1, §17.2.2; RFC 6026 §7.1).
 use Rattle.std.specs.Prelude.{ℕ, ◌==◌, ◌&&◌, not, Bool, true, false, if◌then◌else◌, Option, Some, None, List, codes}
 use Rattle.std.specs.Str.{bytes_eq}
 use Rattle.mmtel_types.specs.declared.numbers.Peer.{Peer}
@@ -20,18 +20,18 @@ abbrev pub is_same_number : Option ℕ → Option ℕ → Bool
 is_same_number None other = false
 is_same_number (Some n) other = is_number n other
 
--- for so many milliseconds a 2xx waits for its ACK (§13.3.1.4: 64 times T1)
+-- for how many milliseconds a 2xx waits for its ACK (§13.3.1.4: 64 times T1)
 abbrev pub ack_time : ℕ
 ack_time = 32000
 
--- an ACK of this side with this number is that of the 2xx which waits for one of that side, of an INVITE with the number that is due
+-- an ACK of this side with this number belongs to the 2xx that waits for one from that side, to an INVITE with the number that is due
 abbrev pub is_ack_of : (waiting : Side) → (due : Option ℕ) → (side : Side) → (number : Option ℕ) → Bool
 is_ack_of waiting due side number = is_same_side waiting side && is_same_number number due
 
--- OPTIONS, REFER, which only a room takes, and what is asked at the wrong time
+-- to OPTIONS, to REFER, which only a conference accepts, and to a request at the wrong time
 abbrev pub status_out_of_place : (method : List ℕ) → ℕ
 status_out_of_place method = if bytes_eq method (codes "OPTIONS") then 200 else if bytes_eq method (codes "REFER") then 403 else 481
 
--- a repeat has what was sent last, where it comes from the opener; nothing after the ACK, nor after the 2xx of an INVITE
+-- a retransmission gets what was sent last, where it comes from the peer that opened the transaction; nothing after the ACK, nor after the 2xx of an INVITE
 abbrev pub is_given_again : (opener asker : Peer) → (acked succeeded : Bool) → Bool
 is_given_again opener asker acked succeeded = asker.0 == opener.0 && not acked && not succeeded

@@ -13,6 +13,6 @@ is_success status = nat_le 200 status && nat_lt status 300
 abbrev pub is_redirection : (status : ℕ) → Bool
 is_redirection status = nat_le 300 status && nat_lt status 400
 
--- whatever refuses or redirects: 3xx to 6xx
+-- refusals and redirections: 3xx to 6xx
 abbrev pub is_refusal : (status : ℕ) → Bool
 is_refusal status = nat_le 300 status

@@ -1,5 +1,5 @@
-//! Rules of RFC 3261 over plain values (flags, tags, numbers, sides), for transactions, calls and conference rooms: each decision is a call of a few lines, which the crates
-//! above ask where they hold the message, the INVITE or the transaction that it is about.
+//! Rules of RFC 3261 over plain values (flags, tags, numbers, sides), for transactions, calls and conferences: each decision is a function of a few lines, which the crates
+//! above call where they hold the message, the INVITE or the transaction concerned.
 #![tactic(auto)]
 
 mod invites;

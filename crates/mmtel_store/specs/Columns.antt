@@ -1,4 +1,4 @@
--- Records and charging rows as the database has them: the values of their columns, in order.
+-- Records and charging rows in the database: the values of their columns, in order.
 use Rattle.std.specs.Prelude.{◌≡◌, ◌==◌, ◌<◌, ◌≤◌, ◌^◌, ◌&&◌, ℕ, Bool, pos, List, [], ◌∷◌, IfSome, decimal}
 use Rattle.std.specs.Str.{bytes_eq}
 use Rattle.sqlite.specs.declared.error.Error.{Error}
@@ -39,7 +39,7 @@ row_columns row =
     number (kind_number row.kind) ∷ number row.account.0 ∷ Text (decimal row.call.0) ∷ number row.began ∷ or_null number row.answered ∷ number row.ended ∷ number row.holds
     ∷ Text (word_of row.cause) ∷ number (status_of row.cause) ∷ []
 
--- the first two of the values that a statement gave, and the first nine
+-- the first two of the values that a statement returned, and the first nine
 abbrev pub two_of : List Value → List Value
 two_of values = column values 0 ∷ column values 1 ∷ []
 
@@ -47,7 +47,7 @@ abbrev pub nine_of : List Value → List Value
 nine_of values =
     column values 0 ∷ column values 1 ∷ column values 2 ∷ column values 3 ∷ column values 4 ∷ column values 5 ∷ column values 6 ∷ column values 7 ∷ column values 8 ∷ []
 
--- what a record's columns can have
+-- the possible contents of a record's columns
 abbrev pub IsSheet : List Value → Type 0
 IsSheet values = (account : Account) × (text : List ℕ) × (account.0 < 2 ^ 32) × (values ≡ sheet_columns account text)
 
@@ -61,7 +61,7 @@ pub record IsInRange (row : Row) : Type 0 where
   pub holds : row.holds < 2 ^ 32
   pub status : status_of row.cause < 2 ^ 16
 
--- what a charging row's columns can have
+-- the possible contents of a charging row's columns
 abbrev pub IsRow : List Value → Type 0
 IsRow values = (row : Row) × IsInRange row × (values ≡ row_columns row)
 

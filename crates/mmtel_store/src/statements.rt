@@ -1,4 +1,4 @@
-//! The statements, each in a function of its own: the values that they are given and that they give have clauses, their text has none.
+//! The statements, each in a function of its own: the values that are bound to them and that they return have clauses, their text has none.
 ghost use Rattle.std.specs.Prelude.{◌≡◌, ◌<◌, ◌≤◌, ◌^◌, ℕ, List, Option, decimal, length, map, IfErr, IfOk, IfSome};
 ghost use Rattle.sqlite.specs.Values.{or_null};
 ghost use Rattle.sqlite_value.specs.Order.{column};
@@ -20,7 +20,7 @@ use sqlite::types::{ToSql, ValueRef};
 use sqlite::{Alter, Connection, Error, ErrorCode, Transaction};
 use std::alloc::Global;
 
-/// Makes the tables where they are not there.
+/// Creates the tables where they do not exist.
 fn make_tables<S: Alter>(conn: &mut Connection<S>) -> Result<(), Error> {
     conn.execute_batch(
         "CREATE TABLE IF NOT EXISTS sheets (account INTEGER PRIMARY KEY, body BLOB); \
@@ -234,7 +234,7 @@ fn read_row(row: &sqlite::Row) -> Result<Row, Error>
 fn rows_of(alloc: Global, found: &[sqlite::Row]) -> Result<List<Row>, Error> {
     let mut rows = List::new();
     for columns in found {
-        // Taken apart and made anew: the check wants the type of each field where a row is pushed.
+        // Taken apart and built again: the checker requires the type of each field where a row is pushed.
         let Row {
             kind,
             account,
@@ -270,7 +270,7 @@ fn rows<S: Alter>(alloc: Global, conn: &mut Connection<S>) -> Result<List<Row>, 
     rows_of(alloc, found.as_slice())
 }
 
-/// Puts a record of the second version in the place of one of the first; says whether the text was one.
+/// Replaces a record of the first version by one of the second; returns whether the text was one.
 fn migrate_sheet<S: Alter>(
     alloc: Global,
     tx: &mut Transaction<'_, S>,
@@ -294,7 +294,7 @@ fn migrate_sheet<S: Alter>(
     }
 }
 
-/// Does so with each of these; gives how many were of the first version.
+/// Does so with each of these; returns how many were of the first version.
 fn migrate_each<S: Alter>(
     alloc: Global,
     tx: &mut Transaction<'_, S>,
@@ -322,7 +322,7 @@ fn migrate_found<S: Alter>(alloc: Global, tx: &mut Transaction<'_, S>) -> Result
     count
 }
 
-/// Does so with each record, all or none, and finds them, in one transaction.
+/// Queries each record and does so with it, all or none, in one transaction.
 fn migrate<S: Alter>(alloc: Global, conn: &mut Connection<S>) -> Result<u64, Error> {
     if !conn.is_autocommit() {
         return Err(Error::SqliteFailure(ErrorCode::TransactionState));
@@ -333,29 +333,29 @@ fn migrate<S: Alter>(alloc: Global, conn: &mut Connection<S>) -> Result<u64, Err
     Ok(count)
 }
 
-/// What is to be done in the database.
+/// A command to the database.
 #[derive(Clone, Copy)]
 pub enum Task<'a> {
-    /// Make the tables where they are not there.
+    /// Create the tables where they do not exist.
     Make,
-    /// Put a sheet in the place of the account's.
+    /// Put a sheet in place of the account's previous one.
     Store(Account, &'a [u8]),
-    /// Put a record of the second version in the place of each of the first.
+    /// Replace each record of the first version by one of the second.
     Migrate,
-    /// Give the sheets.
+    /// Return the sheets.
     Load,
     /// Add rows.
     AddRows(&'a [Row]),
-    /// Give the rows.
+    /// Return the rows.
     Rows,
 }
 
-/// What was done.
+/// The result of a command.
 #[derive(Drop)]
 pub enum Done {
     /// It was changed.
     Changed,
-    /// So many records gave way to others.
+    /// So many records were replaced.
     Migrated(u64),
     /// Its sheets.
     Sheets(List<(Account, Text)>),
@@ -363,7 +363,7 @@ pub enum Done {
     Rows(List<Row>),
 }
 
-/// Does what is to be done.
+/// Runs the command.
 pub fn perform<S: Alter>(
     alloc: Global,
     conn: &mut Connection<S>,

@@ -11,8 +11,8 @@ use mmtel_store::SqliteKeeper;
 use mmtel_types::Account;
 use std::alloc::Global;
 
-/// A keeper over the journal in a file, where the path is `journal:` and the name of the file, and over a database for any other path. It has one count of faults for both. A
-/// call before the first `bind` that was answered Ok is a fault.
+/// A keeper over the journal in a file, where the path is `journal:` and the name of the file, and over a database for any other path. It has one count of faults for both. A call
+/// before the first `bind` that returned Ok is a fault.
 #[derive(Drop)]
 pub struct StoreKeeper<'a> {
     rt: &'a HostRuntime,
@@ -32,7 +32,7 @@ impl<'a> StoreKeeper<'a> {
         }
     }
 
-    /// Ends the keeper, and closes what is bound, if anything is.
+    /// Closes the keeper, and what is bound, if anything is.
     pub fn close(self) {
         drop(self);
     }
@@ -47,7 +47,7 @@ impl<'a> StoreKeeper<'a> {
         done
     }
 
-    /// Opens what a path names in the place of what was bound, which goes first.
+    /// Opens what a path names in place of what was bound, which is closed first.
     fn reopen(&mut self, alloc: Global, path: &[u8]) -> Result<(), KeepFault>
         ensures { self.new.faults ≡ self.old.faults }
     {

@@ -1,4 +1,4 @@
-//! A keeper over a journal or a database, whichever a path names: the edge, of which no clause says what it holds.
+//! A keeper over a journal or a database, by the path: the boundary, of whose contents no clause says anything.
 #![tactic(auto)]
 
 mod keepers;

@@ -1,4 +1,4 @@
-//! Where a keeper keeps.
+//! The store of a keeper.
 
 use mmtel_charging::Row;
 use mmtel_journal::{Disk, FileDisk, JournalFault, JournalKeeper, make};
@@ -8,7 +8,7 @@ use mmtel_store::SqliteKeeper;
 use mmtel_types::Account;
 use std::alloc::Global;
 
-/// What a path names.
+/// The store that a path names.
 #[derive(Drop)]
 pub enum Place<'a> {
     /// A journal in a file.
@@ -17,7 +17,7 @@ pub enum Place<'a> {
     Database(SqliteKeeper<'a>),
 }
 
-/// What a fault of a journal is for its keeper. A journal that is broken is one.
+/// The fault of the keeper for a fault of a journal. A broken journal is one.
 fn fault_of(fault: JournalFault) -> KeepFault {
     match fault {
         JournalFault::NoMemory => KeepFault::NoMemory,
@@ -25,7 +25,7 @@ fn fault_of(fault: JournalFault) -> KeepFault {
     }
 }
 
-/// The file of a name behind the words that choose a journal; None where the path has none of them.
+/// The file of a name after the words that select a journal; None where the path has none of them.
 pub fn journal_name(path: &[u8]) -> Option<&[u8]> {
     match path {
         [b'j', b'o', b'u', b'r', b'n', b'a', b'l', b':', name @ ..] => Some(name),
@@ -33,15 +33,15 @@ pub fn journal_name(path: &[u8]) -> Option<&[u8]> {
     }
 }
 
-/// Whether a file begins as each journal does that a server wrote: with a gate that is closed or open. By its form any other byte is a closed one too; but a file of something
-/// else that was named by mistake is not to be written over.
+/// Whether a file begins as each journal does that a server wrote: with a gate (commit mark) that is closed or open. In the format any other byte is a closed gate too; but a file
+/// of something else whose name was given by mistake is not to be overwritten.
 fn begins_with_gate(disk: &mut FileDisk) -> Result<bool, JournalFault> {
     let mut first = [0; 1];
     let count = disk.read(0, &mut first)?;
     Ok(count == 1 && first[0] <= 1)
 }
 
-/// Syncs what a keeper before this wrote, so that what is found stays; and makes a journal where there is nothing.
+/// Syncs what an earlier keeper wrote, so that what is read is durable; and creates a journal where there is nothing.
 fn begin(disk: &mut FileDisk) -> Result<(), JournalFault> {
     disk.sync()?;
     if disk.len()? == 0 {
@@ -53,7 +53,7 @@ fn begin(disk: &mut FileDisk) -> Result<(), JournalFault> {
     Ok(())
 }
 
-/// Opens the journal of a file, and makes one where the file is empty or there is none.
+/// Opens the journal of a file, and creates one where the file is empty or does not exist.
 pub fn open_journal<'a>(
     rt: &'a HostRuntime,
     alloc: Global,

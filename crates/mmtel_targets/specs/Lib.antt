@@ -1,4 +1,4 @@
--- What public clauses cite.
+-- What the clauses of public functions cite.
 pub mod Served
 pub mod Targets
 

@@ -1,4 +1,4 @@
--- Targets of a call: the Request-URI, and the URIs to which it is diverted. The number of a telephone is diverted to in the home domain (RFC 3261 §19.1.6, RFC 3966 §5.1.4).
+-- Targets of a call: the Request-URI, and the URIs to which it is diverted. A diversion to a telephone number goes to the home domain (RFC 3261 §19.1.6, RFC 3966 §5.1.4).
 use Rattle.std.specs.Prelude.{ℕ, ◌==◌, Bool, false, not, ◌&&◌, Option, Some, None, is_none, List, [], ◌∷◌, Result, Ok, Err, codes, if◌then◌else◌}
 use Rattle.std.specs.Str.{str_eq_ignore_ascii_case}
 use Rattle.mmtel_lex.specs.Identity.{reduced}
@@ -11,7 +11,7 @@ use Rattle.mmtel_targets.specs.declared.targets.Target.{Target}
 
 -- ---- the first target
 
--- a URI that was read, as it stands; none of what is no URI, or one of another scheme than sip and tel
+-- a URI that was read, unchanged; none for what is no URI, or one of another scheme than sip and tel
 abbrev pub as_requested : Result Uri Refusal → Option Target
 as_requested (Ok uri) = Some (record { uri = uri; of_number = false })
 as_requested (Err refusal) = None
@@ -32,7 +32,7 @@ abbrev pub is_global_number : Uri → Bool
 is_global_number (Sip user host port params headers) = false
 is_global_number (Tel number params) = is_global number
 
--- the sip URI that stands for the number in a domain
+-- the sip URI that represents the number in a domain
 abbrev pub phone_at : (number domain : List ℕ) → Uri
 phone_at number domain = Sip (Some number) domain None (record { name = codes "user"; value = Some (codes "phone") } ∷ []) []
 
@@ -45,7 +45,7 @@ abbrev pub new_target : (home : List ℕ) → Uri → Uri
 new_target home (Sip user host port params headers) = Sip user host port params headers
 new_target home (Tel number params) = tel_target home number params
 
--- with the mark of one that was made of a number
+-- with a flag that says whether it was made from a number
 abbrev pub diverted_target : (home : List ℕ) → Uri → Target
 diverted_target home uri = record { uri = new_target home uri; of_number = is_global_number uri }
 
@@ -56,6 +56,6 @@ abbrev pub is_at_home : (home : List ℕ) → Uri → Bool
 is_at_home home (Sip user host port params headers) = str_eq_ignore_ascii_case host home
 is_at_home home (Tel number params) = false
 
--- nobody's: a target of the home domain that is of no account, unless it was made of a number
+-- a target that belongs to nobody: it is in the home domain and of no account, and was not made from a number
 abbrev pub is_unknown : (home : List ℕ) → Option Account → Target → Bool
 is_unknown home account target = is_none account && (is_at_home home target.uri && not target.of_number)

@@ -1,4 +1,4 @@
-//! The targets that a call comes to, the home domain, and whom the server serves there: what the parties of a call and the precedence of the services have in common.
+//! The targets that a call reaches, the home domain, and whom the server serves there: what the parties of a call and the precedence of the services have in common.
 #![tactic(auto)]
 
 mod served;

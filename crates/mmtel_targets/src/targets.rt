@@ -7,12 +7,12 @@ use mmtel_lex::{List, NoMemory, Param, Params, Text, Uri, UriFault, read_uri};
 use mmtel_types::Account;
 use std::alloc::Global;
 
-/// A target that a call comes to.
+/// A target that a call reaches.
 #[derive(Drop)]
 pub struct Target {
-    /// By which it is known, barred and routed.
+    /// The URI by which it is identified, barred and routed.
     pub uri: Uri,
-    /// A diversion made it of the number of a telephone: it stands in the home domain, and need be of no account.
+    /// Whether a diversion made it from a telephone number: it is in the home domain, and need not belong to an account.
     pub of_number: bool,
 }
 
@@ -20,7 +20,7 @@ pub struct Target {
 ///
 /// # Errors
 ///
-/// Want of memory alone.
+/// Out of memory only.
 pub fn first_target(alloc: Global, uri: &[u8]) -> Result<Option<Target>, NoMemory>
     ensures exact { IfOk result (λ target. target ≡ first_target uri.now) }
 {
@@ -63,7 +63,7 @@ fn is_global(number: &[u8]) -> bool
     }
 }
 
-/// Whether the URI is a global telephone number, a tel URI that begins with `+` (RFC 3966 §5.1.4): a diversion to it goes to the home domain. It takes no memory.
+/// Whether the URI is a global telephone number, a tel URI that begins with `+` (RFC 3966 §5.1.4): a diversion to it goes to the home domain. It allocates nothing.
 pub fn is_global_number(uri: &Uri) -> bool
     ensures exact { result ≡ is_global_number uri.now }
 {
@@ -90,7 +90,7 @@ fn phone_params(alloc: Global) -> Result<Params, NoMemory>
     Ok(params)
 }
 
-/// The sip URI that stands for the number in a domain.
+/// The sip URI that represents the number in a domain.
 fn phone_at(alloc: Global, number: &[u8], domain: &[u8]) -> Result<Uri, NoMemory>
     ensures { IfOk result (λ uri. uri ≡ phone_at (reduced number.now) domain.now) }
 {
@@ -137,11 +137,11 @@ fn new_target(alloc: Global, home: &[u8], uri: Uri) -> Result<Uri, NoMemory>
     }
 }
 
-/// The target of a diversion to this URI: the URI itself, but `sip:+N@HOME;user=phone` for `tel:+N`, whose visual separators and parameters go (RFC 3261 §19.1.6).
+/// The target of a diversion to this URI: the URI itself, except `sip:+N@HOME;user=phone` for `tel:+N`, without visual separators and parameters (RFC 3261 §19.1.6).
 ///
 /// # Errors
 ///
-/// Want of memory alone; the URI is then given up.
+/// Out of memory only; the URI is then dropped.
 pub fn diverted_target(alloc: Global, home: &[u8], uri: Uri) -> Result<Target, NoMemory>
     ensures exact { IfOk result (λ target. target ≡ diverted_target home.now uri) }
 {
@@ -150,7 +150,7 @@ pub fn diverted_target(alloc: Global, home: &[u8], uri: Uri) -> Result<Target, N
     Ok(Target { uri, of_number })
 }
 
-/// Whether the URI is a sip URI whose host is the home domain, compared without case. It takes no memory.
+/// Whether the URI is a sip URI whose host is the home domain, compared without case. It allocates nothing.
 pub fn is_at_home(home: &[u8], uri: &Uri) -> bool
     ensures exact { result ≡ is_at_home home.now uri.now }
 {
@@ -161,7 +161,7 @@ pub fn is_at_home(home: &[u8], uri: &Uri) -> bool
 }
 
 impl Target {
-    /// Whether the target is nobody's: it is of the home domain and of no account, and was not made of the number of a telephone. It takes no memory.
+    /// Whether the target belongs to nobody: it is in the home domain and of no account, and was not made from a telephone number. It allocates nothing.
     pub fn is_unknown(&self, home: &[u8], account: Option<Account>) -> bool
         ensures exact { result ≡ is_unknown home.now account self.now }
     {

@@ -1,4 +1,4 @@
--- Deadlines by the number of their arming: those that are left out, and one that comes last.
+-- Deadlines by the number of their arming: those that are removed, and one that comes last.
 use Rattle.std.proofs.Common.{◌≡◌, ◌≤◌, ◌<◌, Bool, true, false, cond, nat_lt, List, [], ◌∷◌, ◌++◌, refl, sym, ap, ◌∙◌, arith}
 use Rattle.std.specs.BTreeMap.{insert_entry}
 use Rattle.std.specs.List.{AllByRecursion, filter}
@@ -12,7 +12,7 @@ use Rattle.mmtel_timers.specs.declared.deadlines.Key.{Key}
 use Rattle.mmtel_timers.specs.declared.queues.Turn.{Turn}
 use Rattle.mmtel_timers.proofs.Turns.{same_turn}
 
--- ---- facts of all
+-- ---- facts about all
 
 pub all_weaken : {X : Type 0} (P Q : X → Type 0) → ((x : X) → P x → Q x) → (xs : List X) → AllByRecursion P xs → AllByRecursion Q xs
 all_weaken P Q f [] all = tt
@@ -60,7 +60,7 @@ in_order_all : (qs : List Queued) → InOrder (by_arming qs)
 in_order_all [] = tt
 in_order_all (q ∷ qs) = in_order_placed q (by_arming qs) (in_order_all qs)
 
--- ---- some are left out
+-- ---- some are removed
 
 placed_front : (q : Queued) (qs : List Queued) → AllByRecursion (λ y. number_of q < number_of y) qs → placed q qs ≡ q ∷ qs
 placed_front q [] all = refl

@@ -1,4 +1,4 @@
--- The first of the deadlines as they are kept is the soonest of all, and the one to be taken next where it is due.
+-- The first of the deadlines as they are stored is the soonest of all, and the next one to be taken where it is due.
 use Rattle.std.proofs.Common.{◌≡◌, ℕ, ◌≤◌, ◌<◌, inl, inr, Bool, true, false, cond, nat_lt, nat_le, List, [], ◌∷◌, map, Option, Some, None, IfSome, refl, sym, ap, ◌∙◌, arith}
 use Rattle.std.specs.Prelude.{slice_get}
 use Rattle.std.specs.List.{AllByRecursion}
@@ -14,7 +14,7 @@ use Rattle.mmtel_timers.specs.declared.queues.Turn.{Turn}
 use Rattle.mmtel_timers.proofs.Arranged.{all_by_arming, all_weaken}
 use Rattle.mmtel_timers.proofs.Turns.{comes}
 
--- what holds of all holds of the soonest
+-- what holds for all holds for the soonest
 pub soonest_is : (P : Deadline → Type 0) (deadlines : List Deadline) → AllByRecursion P deadlines → IfSome (soonest deadlines) P
 soonest_is P [] all = tt
 soonest_is P (first ∷ rest) all = by_rest (soonest rest) (soonest_is P rest all.1)
@@ -75,7 +75,7 @@ first_is_soonest (x ∷ xs) q is sorted =
     ap (λ (y : Queued). Some (deadline_of y)) (sym (same_Some x q is))
     ∙ sym (soonest_placed x (by_arming xs) (all_by_arming (Behind x) xs (behinds x xs (sorted_head turn_cmp x.0 (keys_of xs) sorted))))
 
--- ---- the one to be taken next
+-- ---- the next one to be taken
 
 pub next_is_first : (now : ℕ) (deadlines : List Deadline) → next_due now deadlines ≡ within now (soonest deadlines)
 next_is_first now [] = refl

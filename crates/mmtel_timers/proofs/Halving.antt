@@ -1,4 +1,4 @@
--- Halving what is left of a list, for a place in it.
+-- Halving the rest of a list, in the search for a place in it.
 use Rattle.std.proofs.Common.{◌≡◌, ℕ, suc, ◌+◌, ◌-◌, ◌*◌, ◌^◌, ◌≤◌, ◌<◌, Bool, true, false, List, length, refl, sym, ap, ◌∙◌, arith, mul_assoc, mul-one, mul-le-mul_left, pow-suc}
 use Rattle.std.specs.Prelude.{slice_index_or}
 use Rattle.std.specs.List.{AllWithin, HoldsAt}
@@ -19,7 +19,7 @@ times_half p w v n l h =
 pub halved : (s r t w v n : ℕ) → s ≤ r → t ≡ r + 1 → 2 ^ (r - s) * w ≤ n → 2 * v ≤ w → 2 ^ (t - s) * v ≤ n
 halved s r t w v n l e c h = rw (step_more s r t l e) (times_half (2 ^ (r - s)) w v n c h)
 
--- where some are left, one more step is few
+-- where some items remain, one more step is within the bound
 pub bounded : (s r t w n : ℕ) → s ≤ r → t ≡ r + 1 → 2 ^ (r - s) * w ≤ n → 1 ≤ w → 2 ^ (t - s) ≤ 2 * n + 1
 bounded s r t w n l e c h =
     let one : 2 ^ (r - s) * 1 ≡ 2 ^ (r - s) = mul-one (2 ^ (r - s)) in

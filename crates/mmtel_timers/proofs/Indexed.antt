@@ -1,4 +1,4 @@
--- The items of the elements of a list, as elements come and go.
+-- The items of the elements of a list, as elements are added and removed.
 use Rattle.std.proofs.Common.{◌≡◌, ℕ, List, sym, ap, ◌∙◌, subst, ◌⊎◌, inl, inr, Some, None, Option, insert, remove}
 use Rattle.std.specs.Prelude.{slice_get}
 use Rattle.std.specs.Cmp.{IsTotalOrder}

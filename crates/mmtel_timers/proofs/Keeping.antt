@@ -1,4 +1,4 @@
--- Deadlines as they are kept, once a key is armed and once it is disarmed.
+-- Deadlines as they are stored, after a key is armed and after it is disarmed.
 use Rattle.std.proofs.Common.{◌≡◌, ℕ, ◌+◌, ◌<◌, ◌==◌, Bool, true, false, cond, not, List, [], ◌∷◌, ◌++◌, map, Option, Some, None, refl, sym, ap, ◌∙◌, subst, arith}
 use Rattle.std.specs.BTreeMap.{insert_entry, is_at}
 use Rattle.std.specs.List.{AllByRecursion, filter, list_any}
@@ -68,7 +68,7 @@ none_of_turn turn (x ∷ xs) all =
     let l : turn.number < x.0.number = all.0 in
     rw (other_number turn x (λ e. let h : turn.number ≡ x.0.number = e in omega (arith, h, l))) (none_of_turn turn xs all.1)
 
--- what holds of the numbers of all holds of that which was found
+-- what holds for the numbers of all holds for the number that was found
 found_number : (P : ℕ → Type 0) (key : Key) (turn : Turn) (qs : List Queued) → turn_of key qs ≡ Some turn → AllByRecursion (λ x. P (number_of x)) qs → P turn.number
 found_number P key turn [] f all = absurd cc
 found_number P key turn (q ∷ qs) f all = by_test (is_of key (deadline_of q)) (λ g. found_number P key turn qs g all.1) f
@@ -77,7 +77,7 @@ found_number P key turn (q ∷ qs) f all = by_test (is_of key (deadline_of q)) (
     by_test true later g = subst (λ (t : Turn). P t.number) (same_Some q.0 turn g) all.0
     by_test false later g = later g
 
--- to leave out those of the key's turn is to leave out those of the key
+-- removing the deadlines of the key's turn removes those of the key
 left_out : (key : Key) (turn : Turn) (qs : List Queued) → turn_of key qs ≡ Some turn → Rises (λ q. number_of q) qs → IsEachOnce (map (λ q. deadline_of q) qs) → filter (λ q. not (is_turn turn q)) qs ≡ others key qs
 left_out key turn [] f rises once = refl
 left_out key turn (q ∷ qs) f rises once = by_test (is_of key (deadline_of q)) refl (λ g. left_out key turn qs g rises.1 once.1) f

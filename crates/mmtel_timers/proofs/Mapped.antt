@@ -1,4 +1,4 @@
--- What is read of each element of a list, where one is put in, taken out or looked at.
+-- The image of each element of a list under a function, where one is inserted, removed or looked up.
 use Rattle.std.proofs.Common.{◌≡◌, ◌↔◌, ℕ, zero, suc, ◌<◌, ◌≤◌, List, [], ◌∷◌, length, refl, sym, ap, ◌∙◌, subst, arith, insert, remove, Option, Some, None, IsSome, OnSome, IfNone}
 use Rattle.std.specs.Prelude.{map, option_map, slice_get, slice_index_or}
 use Rattle.std.proofs.lemmas.List.{length-map}
@@ -21,7 +21,7 @@ module _ {X Y : Type 0} (f : X → Y) where
   get_mapped (y ∷ xs) zero x l q = ap f q
   get_mapped (y ∷ xs) (suc i) x l q = get_mapped xs i x (omega (arith, l)) q
 
-  -- what is read of an element that is read
+  -- the image of an element that is looked up
   pub read_mapped : (xs : List X) (i : ℕ) (x : X) (y : Y) (ys : List Y) → i < length (map f xs) → x ≡ slice_index_or xs i x → y ≡ f x → map f xs ≡ ys → y ≡ slice_index_or ys i y
   read_mapped xs i x y ys l q is same =
       let inside : i < length xs = subst (λ n. i < n) (length-map xs f) l in
@@ -32,14 +32,14 @@ module _ {X Y : Type 0} (f : X → Y) where
   found_mapped xs found x i j ys at is there same =
       ap (λ o. option_map f o) (sym is ∙ at) ∙ (sym (slice_get-map f xs i) ∙ (ap (λ zs. slice_get zs i) same ∙ ap (λ n. slice_get ys n) there))
 
-  -- one element put in, and one taken out
+  -- one element inserted, and one removed
   pub put_in : (xs zs : List X) (i : ℕ) (x : X) (y : Y) (ys : List Y) → map f xs ≡ ys → f x ≡ y → zs ≡ insert xs i x → map f zs ≡ insert ys i y
   put_in xs zs i x y ys same is put = ap (map f) put ∙ (insert_mapped xs i x ∙ (ap (λ z. insert (map f xs) i z) is ∙ ap (λ ws. insert ws i y) same))
 
   pub taken_out : (xs zs : List X) (i : ℕ) (ys : List Y) → map f xs ≡ ys → zs ≡ remove xs i → map f zs ≡ remove ys i
   taken_out xs zs i ys same out = ap (map f) out ∙ (remove_mapped xs i ∙ ap (λ ws. remove ws i) same)
 
-  -- what is left where one element is taken out, if there is one
+  -- the rest where one element is removed, if there is one
   pub left : (xs zs : List X) (i n : ℕ) (out : Option X) (ys : List Y) → n ≡ length xs → IsSome out ↔ (i < n) → OnSome out (zs ≡ remove xs i) → IfNone out (zs ≡ xs) → map f xs ≡ ys → map f zs ≡ remove ys i
   left xs zs i n (Some x) ys long there rest stays same = taken_out xs zs i ys same rest
   left xs zs i n None ys long there rest stays same =

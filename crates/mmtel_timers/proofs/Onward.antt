@@ -1,4 +1,4 @@
--- What stands in a shelf from a place on.
+-- What is in a shelf from a place on.
 use Rattle.std.proofs.Common.{◌≡◌, ℕ, zero, suc, ◌≤◌, ◌<◌, Bool, true, false, List, [], ◌∷◌, length, drop, sym, ap, ◌∙◌, subst, arith, ◌⊎◌, inl, inr, Some}
 use Rattle.std.specs.Prelude.{slice_get}
 use Rattle.std.specs.List.Sorted.{IsPartitionPoint}
@@ -9,7 +9,7 @@ use Rattle.mmtel_timers.specs.Shelves.{Ascends, Has}
 use Rattle.mmtel_timers.proofs.Ordered.{all_has, not_both}
 
 module _ {X : Type 0} where
-  -- there, or behind
+  -- at that place, or after it
   pub there_or_behind : (i : ℕ) (xs : List X) (y z : X) → slice_get xs i ≡ Some y → Has z (drop i xs) → (z ≡ y) ⊎ Has z (drop (suc i) xs)
   there_or_behind i [] y z q h = absurd (none-some y q)
   there_or_behind zero (x ∷ xs) y z q (inl e) = inl (e ∙ same_Some x y q)

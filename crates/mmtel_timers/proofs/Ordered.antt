@@ -1,4 +1,4 @@
--- Putting items into a list that ascends, and taking them out.
+-- Inserting items into a list that ascends, and removing them.
 use Rattle.std.proofs.Common.{◌≡◌, ℕ, zero, suc, ◌≤◌, Bool, true, false, List, [], ◌∷◌, length, refl, sym, ap, ◌∙◌, subst, arith, ◌⊎◌, inl, inr, Some, None, insert, remove}
 use Rattle.std.specs.Prelude.{slice_get, slice_index_or}
 use Rattle.std.specs.List.{AllByRecursion}
@@ -33,7 +33,7 @@ has_at [] p x q = absurd (none-some x q)
 has_at (y ∷ ys) zero x q = inl (sym (same_Some y x q))
 has_at (y ∷ ys) (suc p) x q = inr (has_at ys p x q)
 
--- an item in its place
+-- an item inserted at its place
 pub has_in : {X : Type 0} (p : ℕ) (x : X) (xs : List X) (z : X) → Has z xs → Has z (insert xs p x)
 has_in zero x xs z h = inr h
 has_in (suc p) x [] z h = absurd h
@@ -60,7 +60,7 @@ all_in P zero x xs a h = (h, a)
 all_in P (suc p) x [] a h = (h, a)
 all_in P (suc p) x (y ∷ ys) a h = (a.0, all_in P p x ys a.1 h)
 
--- an item taken out
+-- an item removed
 pub has_out_back : {X : Type 0} (p : ℕ) (xs : List X) (z : X) → Has z (remove xs p) → Has z xs
 has_out_back zero [] z h = h
 has_out_back zero (y ∷ ys) z h = inr h
@@ -90,7 +90,7 @@ module _ {X : Type 0} (R : X → X → Ordering) (o : IsTotalOrder R) where
       let w : Equal ≡ Less = sym (tied_itself o y) ∙ subst (λ (z : X). R z y ≡ Less) q l in
       cc
 
-  -- the place of an item that is not there
+  -- the place of an item that is not in the list
   abbrev pub Place : ℕ → X → List X → Type 0
   Place zero x xs = AllByRecursion (λ y. R x y ≡ Less) xs
   Place (suc p) x [] = ⊥
@@ -107,14 +107,14 @@ module _ {X : Type 0} (R : X → X → Ordering) (o : IsTotalOrder R) where
   ascends_out (suc p) [] a = a
   ascends_out (suc p) (y ∷ ys) a = (all_out (λ z. R y z ≡ Less) p ys a.0, ascends_out p ys a.1)
 
-  -- what was taken out is gone
+  -- an item that was removed is no longer in the list
   pub gone : (p : ℕ) (xs : List X) (x z : X) → Ascends R xs → slice_get xs p ≡ Some x → Has z (remove xs p) → z ≡ x → ⊥
   gone p [] x z a g h q = none-some x g
   gone zero (y ∷ ys) x z a g h q = not_itself y z (all_has (λ w. R y w ≡ Less) ys z a.0 h) (same_Some y x g ∙ sym q)
   gone (suc p) (y ∷ ys) x z a g (inl e) q = not_itself y x (all_has (λ w. R y w ≡ Less) ys x a.0 (has_at ys p x g)) (sym e ∙ q)
   gone (suc p) (y ∷ ys) x z a g (inr h) q = gone p ys x z a.1 g h q
 
-  -- a test that passes what comes before what it passes parts the list
+  -- a test that passes whatever comes before an item that it passes partitions the list
   pub parted : (p : X → Bool) → ((y z : X) → R y z ≡ Less → p z ≡ true → p y ≡ true) → (xs : List X) → Ascends R xs → IsPartitionedBy p xs
   parted p m [] a i j d le lt t = absurd (omega (arith, lt))
   parted p m (x ∷ xs) a zero zero d le lt t = t
@@ -133,7 +133,7 @@ module _ {X : Type 0} (R : X → X → Ordering) (o : IsTotalOrder R) where
       by_cases Equal q = absurd (d q)
       by_cases Greater q = o.antisymm x y ∙ ap ordering_reverse q
 
-  -- what a search finds is the place of an item that is not there
+  -- what a search finds is the place of an item that is not in the list
   pub placed : (p : ℕ) (x : X) (xs : List X) → p ≤ length xs → IsPartitionPoint (λ y. comes_before R x y ≡ true) (λ y. comes_before R x y ≡ false) xs p → ((y : X) → Has y xs → R y x ≡ Equal → ⊥) → Place p x xs
   placed zero x [] le h n = tt
   placed zero x (y ∷ ys) le h n = (
@@ -146,7 +146,7 @@ module _ {X : Type 0} (R : X → X → Ordering) (o : IsTotalOrder R) where
     placed p x ys (omega (arith, le)) (λ k d a b. h.0 (suc k) d (omega arith) (omega (arith, b)), λ k d a b. h.1 (suc k) d (omega (arith, a)) (omega (arith, b))) (λ z g. n z (inr g)),
   )
 
-  -- and of one that is there, its place
+  -- and of one that is in the list, its place
   pub found : (p : ℕ) (x : X) (xs : List X) → Ascends R xs → p ≤ length xs → IsPartitionPoint (λ y. comes_before R x y ≡ true) (λ y. comes_before R x y ≡ false) xs p → Has x xs → slice_get xs p ≡ Some x
   found p x [] a le h g = absurd g
   found zero x (y ∷ ys) a le h (inl q) = ap Some (sym q)
@@ -154,7 +154,7 @@ module _ {X : Type 0} (R : X → X → Ordering) (o : IsTotalOrder R) where
   found (suc p) x (y ∷ ys) a le h (inl q) = absurd (not_itself y x (less_is (R y x) (h.0 zero y (omega arith) (omega arith))) (sym q))
   found (suc p) x (y ∷ ys) a le h (inr g) = found p x ys a.1 (omega (arith, le)) (λ k d a b. h.0 (suc k) d (omega arith) (omega (arith, b)), λ k d a b. h.1 (suc k) d (omega (arith, a)) (omega (arith, b))) g
 
-  -- of a place that a test parts
+  -- for a place that a test partitions
   module _ (before : X → Bool) where
     pub at_place : (p : ℕ) (xs : List X) (y : X) → IsPartitionPoint (λ x. before x ≡ true) (λ x. before x ≡ false) xs p → slice_get xs p ≡ Some y → before y ≡ false
     at_place p xs y h g = subst (λ (x : X). before x ≡ false) (get_or_from_slice_get xs p y y g) (h.1 p y (omega arith) (slice_get_within xs p y g))

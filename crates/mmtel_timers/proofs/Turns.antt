@@ -1,4 +1,4 @@
--- The turns of deadlines: their order, and those that are taken out by turn.
+-- The turns of deadlines: their order, and those that are removed by turn.
 use Rattle.std.proofs.Common.{◌≡◌, ℕ, ◌<◌, ◌⊎◌, inl, inr, Bool, true, false, cond, not, List, [], ◌∷◌, refl, sym, ap, ◌∙◌, arith}
 use Rattle.std.specs.BTreeMap.{insert_entry, is_at}
 use Rattle.std.specs.List.{AllByRecursion, filter, list_any}
@@ -85,7 +85,7 @@ module _ (turn : Turn) where
       ]) in
       rw other (none_behind q xs own less.1)
 
-  -- to take the first one out is to leave out all
+  -- removing the first one removes all
   pub removed : (qs : List Queued) → IsStrictlySortedBy turn_cmp (keys_of qs) → remove_entry (is_at (turn_cmp turn)) qs ≡ filter (λ q. not (is_turn turn q)) qs
   removed [] sorted = refl
   removed (q ∷ qs) sorted = by_test (removed qs (sorted_tail turn_cmp q.0 (keys_of qs) sorted)) (is_turn turn q) refl
@@ -95,7 +95,7 @@ module _ (turn : Turn) where
       by_test later true own = sym (filter-none (is_turn turn) qs (none_behind q qs own (sorted_head turn_cmp q.0 (keys_of qs) sorted)))
       by_test later false other = ap (λ (l : List Queued). q ∷ l) later
 
-  -- what was put in and is taken out again
+  -- inserting one and removing it again
   pub put_back : (key : Key) (qs : List Queued) → AllByRecursion (λ q. number_of q < turn.number) qs → remove_entry (is_at (turn_cmp turn)) (insert_entry turn_cmp qs turn key) ≡ qs
   put_back key [] before = ap (λ (o : Ordering). cond (is_eq o) [] ((turn, key) ∷ [])) (own_turn turn)
   put_back key (q ∷ qs) before = by_order (put_back key qs before.1) (turn_cmp turn q.0) refl

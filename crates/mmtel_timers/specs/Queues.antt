@@ -1,4 +1,4 @@
--- Deadlines as they are kept: in the order in which they are taken, and by key. They are seen in the order in which they were armed.
+-- Deadlines as they are stored: in the order in which they are taken, and by key. Contracts see them in the order in which they were armed.
 use Rattle.std.specs.Prelude.{◌≡◌, ℕ, ◌<◌, Bool, nat_lt, nat_le, if◌then◌else◌, List, [], ◌∷◌, map, Option, Some, None}
 use Rattle.std.specs.BTreeMap.{is_at}
 use Rattle.std.specs.List.{AllByRecursion}
@@ -11,7 +11,7 @@ use Rattle.mmtel_timers.specs.Shelves.{Rises}
 use Rattle.mmtel_timers.specs.declared.deadlines.Key.{Key}
 use Rattle.mmtel_timers.specs.declared.queues.Turn.{Turn}
 
--- its turn, and the key that is due
+-- its place in the order of taking, and the key that is due
 abbrev pub Queued : Type 0
 Queued = Turn × Key
 
@@ -21,13 +21,13 @@ number_of q = q.0.number
 abbrev pub deadline_of : Queued → Deadline
 deadline_of q = (q.0.at, q.1)
 
--- by moment, and of one moment by the number of its arming
+-- by moment, and for one moment by the number of its arming
 abbrev pub turn_cmp : Turn → Turn → Ordering
 turn_cmp x y = ordering_then (nat_cmp x.at y.at) (nat_cmp x.number y.number)
 
 -- ---- in the order of arming
 
--- one among others, by the number of its arming
+-- one inserted among others, by the number of its arming
 abbrev pub placed : Queued → List Queued → List Queued
 placed q [] = q ∷ []
 placed q (x ∷ xs) = if nat_lt (number_of q) (number_of x) then q ∷ x ∷ xs else x ∷ placed q xs
@@ -44,7 +44,7 @@ seen queue = map (λ q. deadline_of q) (by_arming queue)
 abbrev pub is_same : Key → Key → Bool
 is_same key other = is_eq (nat_cmp key.0 other.0)
 
--- the turn of a key, of those that are armed and of those that are kept by key
+-- the turn of a key, among the armed deadlines and in the map by key
 abbrev pub turn_of : Key → List Queued → Option Turn
 turn_of key [] = None
 turn_of key (q ∷ qs) = if is_of key (deadline_of q) then Some q.0 else turn_of key qs
@@ -52,9 +52,9 @@ turn_of key (q ∷ qs) = if is_of key (deadline_of q) then Some q.0 else turn_of
 abbrev pub turn_at : Key → List (Key × Turn) → Option Turn
 turn_at key turns = lookup (is_same key) turns
 
--- ---- what is kept
+-- ---- what is stored
 
--- they are in order, each was armed before the next one, each has a number of its own and a key of its own, and the keys have these turns
+-- they are in order, each was armed before the one that is armed next, each has a number of its own and a key of its own, and the keys have these turns
 pub record AreKept (next : ℕ) (queue : List Queued) (turns : List (Key × Turn)) : Type 0 where
   pub sorted : IsStrictlySortedBy turn_cmp (keys_of queue)
   pub before : AllByRecursion (λ q. number_of q < next) queue
@@ -62,16 +62,16 @@ pub record AreKept (next : ℕ) (queue : List Queued) (turns : List (Key × Turn
   pub once : IsEachOnce (seen queue)
   pub turns_of : (key : Key) → turn_at key turns ≡ turn_of key (by_arming queue)
 
--- the keys have the turns that they had, but for one
+-- the keys have the turns that they had, except one
 abbrev pub Turns : Key → Option Turn → (before after : List (Key × Turn)) → Type 0
 Turns key turn before after = (k : Key) → turn_at k after ≡ (if is_same key k then turn else turn_at k before)
 
--- those of all other turns
+-- the deadlines of all other turns
 abbrev pub taken_out : Option Turn → List Queued → List Queued
 taken_out None queue = queue
 taken_out (Some turn) queue = remove_entry (is_at (turn_cmp turn)) queue
 
--- a deadline that is not past now
+-- a deadline that is due: not later than now
 abbrev pub within : ℕ → Option Deadline → Option Deadline
 within now None = None
 within now (Some deadline) = if nat_le deadline.0 now then Some deadline else None

@@ -1,15 +1,15 @@
--- Shelves that are kept in an order, and that have the items of the elements of a list.
+-- Shelves: lists that are kept in an order, and that have the items of the elements of a list.
 use Rattle.std.specs.Prelude.{◌≡◌, ◌⊎◌, ◌<◌, ℕ, Bool, Box, Option, Some, None, if◌then◌else◌, List, [], ◌∷◌, map}
 use Rattle.std.specs.List.{AllByRecursion}
 use Rattle.std.specs.Ordering.{is_lt}
 use Rattle.std.specs.declared.cmp.Ordering.{Ordering}
 use Rattle.std.specs.declared.cmp.Ordering.TheVariants.{Less}
 
--- what lies in blocks of their own
+-- what is stored in blocks of their own
 abbrev pub unboxed : {X A : Type 0} → List (Box X A) → List X
 unboxed blocks = map (λ b. b.value) blocks
 
--- what stands in a list
+-- an element is in a list
 abbrev pub Has : {X : Type 0} → X → List X → Type 0
 Has e [] = ⊥
 Has e (x ∷ xs) = (e ≡ x) ⊎ Has e xs
@@ -19,7 +19,7 @@ abbrev pub Ascends : {X : Type 0} → (X → X → Ordering) → List X → Type
 Ascends R [] = Unit {0}
 Ascends R (x ∷ xs) = AllByRecursion (λ y. R x y ≡ Less) xs × Ascends R xs
 
--- numbers rise
+-- numbers rise along a list
 abbrev pub Rises : {E : Type 0} → (E → ℕ) → List E → Type 0
 Rises key [] = Unit {0}
 Rises key (e ∷ es) = AllByRecursion (λ x. key e < key x) es × Rises key es
@@ -34,7 +34,7 @@ pub record IsIndex {E X : Type 0} (item : E → Option X) (R : X → X → Order
 abbrev pub comes_before : {X : Type 0} → (X → X → Ordering) → X → X → Bool
 comes_before R x y = is_lt (R y x)
 
--- the number of what was found, if it is what was looked for
+-- the number of what was found, if it is what was searched for
 abbrev pub answer : {X : Type 0} → (X → Bool) → (X → ℕ) → Option X → Option ℕ
 answer hits number None = None
 answer hits number (Some x) = if hits x then Some (number x) else None

@@ -1,4 +1,4 @@
-//! Deadlines as they are kept: in the order in which they are taken, and by key.
+//! Deadlines as they are stored: in the order in which they are taken, and by key.
 ghost use Rattle.std.specs.Prelude.{◌≡◌, ◌<◌, [], IfOk, OnOk, OnErr, Some};
 ghost use Rattle.std.specs.BTreeMap.{insert_entry};
 ghost use Rattle.std.specs.List.{AllByRecursion};
@@ -13,7 +13,7 @@ use std::alloc::Global;
 use std::collections::BTreeMap;
 use std::marker::Model;
 
-/// The turn of a deadline: by moment, and of one moment the one that was armed first.
+/// The place of a deadline in the order of taking: by moment, and for one moment the first armed first.
 #[derive(Clone, Copy, Debug, PartialEq, Eq, PartialOrd, Ord)]
 pub struct Turn {
     /// Its moment, in milliseconds since 1970-01-01T00:00:00Z.
@@ -22,9 +22,9 @@ pub struct Turn {
     pub number: u64,
 }
 
-/// The deadlines that are armed, the first of which is taken first, and the turn of each key.
+/// The deadlines that are armed, in the order of taking, and the place in that order (the turn) of each key.
 ///
-/// Contracts see them as the list of moments and keys in the order of arming.
+/// In contracts they are the list of moments and keys in the order of arming.
 #[derive(Drop)]
 pub struct Queue {
     queue: BTreeMap<Turn, Key>,
@@ -45,7 +45,7 @@ impl Model for Queue {
 }
 
 impl Queue {
-    /// No deadlines. It takes no memory.
+    /// No deadlines. It allocates nothing.
     pub fn new(alloc: Global) -> Queue
         ensures { result ≡ [] }
     {
@@ -60,7 +60,7 @@ impl Queue {
     ///
     /// # Errors
     ///
-    /// Want of memory alone, for its place or for its number: 2^64 - 1 are armed in all. The deadlines are then as before.
+    /// Out of memory only, for its entries, or out of numbers: keys are armed at most 2^64 - 1 times in all. The deadlines are then as before.
     pub fn arm(&mut self, at: u64, key: Key) -> Result<(), NoMemory>
         ensures ok { OnOk result (self.new ≡ armed_last at key self.old) }
         ensures err { OnErr result (self.new ≡ self.old) }
@@ -86,7 +86,7 @@ impl Queue {
         take_out(&mut self.queue, turn);
     }
 
-    /// The deadline that is taken before all others, whether or not it is due.
+    /// The deadline that comes before all others, whether or not it is due.
     pub fn first(&self) -> Option<(u64, Key)>
         ensures { result ≡ soonest self.now }
     {
@@ -96,7 +96,7 @@ impl Queue {
         }
     }
 
-    /// A law, and no code: no key is armed twice.
+    /// A theorem, without code: no key is armed twice.
     pub fn each_is_armed_once(&self)
         ensures { IsEachOnce self.now }
     {
@@ -104,11 +104,11 @@ impl Queue {
     }
 }
 
-/// Puts a turn in, behind all of its moment, for a key that then has no other; the earlier turn of the key is given and stays in the queue.
+/// Inserts a turn, after all of its moment, for a key that then has no other; the earlier turn of the key is returned and stays in the queue.
 ///
 /// # Errors
 ///
-/// Want of memory alone; all is then as before.
+/// Out of memory only; all is then as before.
 fn put(
     queue: &mut BTreeMap<Turn, Key>,
     turns: &mut BTreeMap<Key, Turn>,
@@ -136,7 +136,7 @@ fn put(
     }
 }
 
-/// Takes a turn out of the queue.
+/// Removes a turn from the queue.
 fn take_out(queue: &mut BTreeMap<Turn, Key>, turn: Option<Turn>)
     requires { IsStrictlySortedBy turn_cmp (keys_of queue.old.entries) }
     ensures taken { queue.new.entries ≡ taken_out turn queue.old.entries }

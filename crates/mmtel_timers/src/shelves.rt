@@ -1,4 +1,4 @@
-//! Lists whose items are seen one at a time, and each look is counted.
+//! Lists whose items are examined one at a time, each such look being counted.
 ghost use Rattle.std.specs.Prelude.{◌≡◌, ℕ, Bool, true, false, ◌+◌, ◌-◌, ◌*◌, ◌^◌, ◌≤◌, ◌<◌, [], OnOk, OnErr, IfErr, length, insert, remove, option_copied, slice_get};
 ghost use Rattle.std.specs.List.Sorted.{IsPartitionedBy, IsPartitionPoint};
 
@@ -10,7 +10,7 @@ use std::collections::VecDeque;
 use std::marker::Model;
 use std::sync::ledger::Ledger;
 
-/// What may stand in a shelf: it has a rank, a number by which most items are told apart before anything else of them is looked at.
+/// What a shelf may hold: it has a rank, a number by which most items are distinguished before anything else of them is examined.
 pub trait Ranked {
     ghost rank: { Self → ℕ };
 
@@ -19,7 +19,7 @@ pub trait Ranked {
         ensures { result ≡ rank self.now };
 }
 
-/// An item in a block of its own, and its rank beside it, so that a search reads one line of memory after the other and hardly ever what lies in the blocks.
+/// An item in a block of its own, and its rank beside it, so that a search reads adjacent memory and hardly ever the contents of the blocks.
 struct Slot<T> {
     rank: u64,
     block: Box<T>,
@@ -41,9 +41,9 @@ impl<T> Slot<T> {
     }
 }
 
-/// A list of items that whoever keeps it keeps in an order of its own.
+/// A list of items, in an order that its owner maintains.
 ///
-/// Each item lies in a block of its own, so that putting one in or taking one out moves an address and a rank for each item on the shorter side of its place.
+/// Each item is in a block of its own, so that inserting or removing one moves an address and a rank for each item on the shorter side of its place.
 pub struct Shelf<T: Ranked> {
     items: VecDeque<Slot<T>>,
 }
@@ -65,7 +65,7 @@ impl<T: Ranked + Drop> Drop for Shelf<T> {
     }
 }
 
-/// A place that is looked for: it says of each item whether that comes before it.
+/// A place that is searched for: it decides for each item whether that comes before it.
 pub trait Mark<T: Ranked> {
     ghost before: { Self → T → Bool };
 
@@ -79,14 +79,14 @@ pub trait Mark<T: Ranked> {
         ensures { result ≡ before self.now item.now };
 }
 
-/// Where a place is, and the item that stands there, None where it is the end.
+/// A place, and the item there, None at the end.
 #[derive(Clone, Copy)]
 pub struct Sought<'a, T> {
     pub place: usize,
     pub item: Option<&'a T>,
 }
 
-/// Whether what stands in a slot comes before the place: by the ranks, where they differ.
+/// Whether the item of a slot comes before the place: by the ranks, where they differ.
 fn comes_before<T: Ranked, M: Mark<T>>(slot: &Slot<T>, rank: u64, mark: &M) -> bool
     requires ranked { slot.now.rank ≡ T.rank slot.now.block.value }
     requires lower { (x : T) → T.rank x < rank → M.before mark.now x ≡ true }
@@ -101,7 +101,7 @@ fn comes_before<T: Ranked, M: Mark<T>>(slot: &Slot<T>, rank: u64, mark: &M) -> b
 }
 
 impl<T: Ranked> Shelf<T> {
-    /// A shelf of no items. It takes no memory.
+    /// An empty shelf. It allocates nothing.
     pub fn new(alloc: Global) -> Shelf<T>
         ensures { result ≡ [] }
     {
@@ -110,14 +110,14 @@ impl<T: Ranked> Shelf<T> {
         }
     }
 
-    /// How many items it has.
+    /// The number of its items.
     pub fn len(&self) -> usize
         ensures { result ≡ length self.now }
     {
         self.items.len()
     }
 
-    /// The item at a place, None exactly where there is none. It is one step.
+    /// The item at a place, None exactly where there is none. It counts as one step.
     pub fn look<L: Ledger>(&self, place: usize, steps: &mut Steps<L>) -> Option<&T>
         ensures item { option_copied result ≡ slice_get self.now place }
         ensures step { steps.new ≡ steps.old + 1 }
@@ -129,11 +129,11 @@ impl<T: Ranked> Shelf<T> {
         }
     }
 
-    /// Puts an item before the one at a place, or at the end.
+    /// Inserts an item before the one at a place, or at the end.
     ///
     /// # Errors
     ///
-    /// Want of memory alone; the item is handed back, and the shelf is as before.
+    /// Out of memory only; the item is returned, and the shelf is as before.
     pub fn insert(&mut self, place: usize, item: T) -> Result<(), (T, NoMemory)>
         requires { place ≤ length self.old }
         ensures ok { OnOk result (self.new ≡ insert self.old place item) }
@@ -151,7 +151,7 @@ impl<T: Ranked> Shelf<T> {
         Ok(())
     }
 
-    /// Takes the item at a place out, None exactly where there is none.
+    /// Removes and returns the item at a place, None exactly where there is none.
     pub fn remove(&mut self, place: usize) -> Option<T>
         ensures item { result ≡ slice_get self.old place }
         ensures rest { self.new ≡ remove self.old place }
@@ -162,7 +162,7 @@ impl<T: Ranked> Shelf<T> {
         }
     }
 
-    /// Takes the item at a place out and puts another one in where it belongs. It takes no memory.
+    /// Removes and returns the item at a place, and inserts another one where it belongs. It allocates nothing.
     pub fn exchange<L: Ledger, M: Mark<T>>(
         &mut self,
         from: usize,
@@ -191,7 +191,7 @@ impl<T: Ranked> Shelf<T> {
         }
     }
 
-    /// The first place whose item does not come before what is looked for, in at most as many steps as twice the length and one has binary digits.
+    /// The first place whose item does not come before what is searched for. With n items it takes s steps with 2^s at most 2n + 1, so at most as many as n has binary digits.
     pub fn seek<L: Ledger, M: Mark<T>>(&self, mark: &M, steps: &mut Steps<L>) -> Sought<'_, T>
         requires { IsPartitionedBy (M.before mark.now) self.now }
         ensures within { result.place ≤ length self.now }

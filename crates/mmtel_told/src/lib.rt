@@ -1,7 +1,7 @@
-//! What tests tell: a text that is written piece by piece, and tables that are told again.
+//! The transcript of a test: a text that is written piece by piece, and tables that a test writes again with the actual results.
 //!
-//! A row of a table is a line that begins with `> `, and below it stand the lines that are wanted of it. A test tells the table again: each row, and the lines that come of
-//! it. So one comparison at its end, which names the first line that differs, says whether all of them are the wanted ones.
+//! A row of a table is a line that begins with `> `, and the lines below it are its expected result. A test writes the table again: each row, and the lines of its actual result.
+//! So one comparison at its end, which returns the first line that differs, shows whether all results are the expected ones.
 #![tactic(auto)]
 
 mod tables;

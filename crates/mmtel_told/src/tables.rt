@@ -1,4 +1,4 @@
-//! Tables that are told again.
+//! Tables that are written again with the actual results.
 
 use crate::told::Told;
 use mmtel_scan::part;
@@ -9,18 +9,18 @@ pub fn next_line(text: &[u8]) -> (&[u8], &[u8]) {
     part(b'\n', text).unwrap_or((text, b""))
 }
 
-/// What stands before the byte, and what follows it: all, and nothing, where it does not stand there.
+/// What precedes the byte, and what follows it: all, and nothing, where the byte is absent.
 pub fn cut(byte: u8, text: &[u8]) -> (&[u8], &[u8]) {
     part(byte, text).unwrap_or((text, b""))
 }
 
-/// What a table is about.
+/// The test of a table.
 pub trait Rows {
-    /// Tells the lines that come of a row, of which `asked` stands behind the `> `.
+    /// Writes the lines of the actual result of a row, of which `asked` follows the `> `.
     fn tell(&mut self, told: &mut Told, asked: &[u8]);
 }
 
-/// The number of the first line of the table, from 1, that is not told again; 0 where each is.
+/// The number of the first line of the table, from 1, that differs from the actual one; 0 where none does.
 pub fn wrong_line<R: Rows>(alloc: Global, rows: &mut R, table: &[u8]) -> usize {
     let mut told = Told::new(alloc);
     let mut rest = table;

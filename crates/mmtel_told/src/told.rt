@@ -4,7 +4,7 @@ use crate::tables::next_line;
 use mmtel_scan::{NoMemory, Text, part};
 use std::alloc::Global;
 
-/// What is told so far. Where memory ran out or something else went wrong that is remembered, so that nobody who adds to it has to look.
+/// What was written so far. Where memory ran out or something else failed, this is recorded, so that the functions that add to it need not check it.
 #[derive(Drop)]
 pub struct Told {
     pub alloc: Global,
@@ -13,7 +13,7 @@ pub struct Told {
 }
 
 impl Told {
-    /// Nothing is told yet.
+    /// Nothing was written yet.
     pub fn new(alloc: Global) -> Told {
         Told {
             alloc,
@@ -22,19 +22,19 @@ impl Told {
         }
     }
 
-    /// Remembers that something went wrong.
+    /// Records that something failed.
     pub fn fail(&mut self) {
         self.failed = true;
     }
 
-    /// Remembers that something went wrong, where this was not done.
+    /// Records that something failed, where this was not done.
     pub fn keep(&mut self, done: bool) {
         if !done {
             self.failed = true;
         }
     }
 
-    /// The value, where there is one; else remembers that there is none.
+    /// The value, where there is one; else records that there is none.
     pub fn noted<T, E: Drop>(&mut self, outcome: Result<T, E>) -> Option<T> {
         match outcome {
             Ok(value) => Some(value),
@@ -58,7 +58,7 @@ impl Told {
         self.add(b"\n");
     }
 
-    /// Adds the bytes, or the others where it is not so.
+    /// Adds the bytes, or the others where the condition is false.
     pub fn add_if(&mut self, is_so: bool, bytes: &[u8], others: &[u8]) {
         if is_so {
             self.add(bytes);
@@ -75,7 +75,7 @@ impl Told {
         }
     }
 
-    /// Adds a blank, and a number in decimal digits.
+    /// Adds a space, and a number in decimal digits.
     pub fn add_spaced_number(&mut self, number: u64) {
         self.add(b" ");
         self.add_number(number);
@@ -90,7 +90,7 @@ impl Told {
         self.add(b">");
     }
 
-    /// Adds a text that was made, and ends the line.
+    /// Adds a text that was built, and ends the line.
     pub fn add_made(&mut self, made: Result<Text, NoMemory>) {
         match made {
             Ok(text) => self.add_line(text.bytes()),
@@ -98,7 +98,7 @@ impl Told {
         }
     }
 
-    /// A text that was made; an empty one where it was not.
+    /// A text that was built; an empty one where that failed.
     pub fn made(&mut self, made: Result<Text, NoMemory>) -> Text {
         match made {
             Ok(text) => text,
@@ -141,17 +141,17 @@ impl Told {
         self.add_ended(b'\r', bytes, b"");
     }
 
-    /// Whether something went wrong.
+    /// Whether something failed.
     pub fn has_failed(&self) -> bool {
         self.failed
     }
 
-    /// What was told so far.
+    /// What was written so far.
     pub fn bytes(&self) -> &[u8] {
         self.text.bytes()
     }
 
-    /// The whole; where something went wrong, this alone.
+    /// The whole; where something failed, this alone.
     pub fn whole(&self) -> &[u8] {
         if self.failed {
             b"failed"
@@ -160,7 +160,7 @@ impl Told {
         }
     }
 
-    /// The number of the first line, from 1, that is another one than the table's; 0 where each is the table's.
+    /// The number of the first line, from 1, that differs from the table's; 0 where none does.
     pub fn wrong_line(&self, table: &[u8]) -> usize {
         if self.failed {
             return 1;

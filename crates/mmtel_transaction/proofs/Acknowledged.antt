@@ -1,4 +1,4 @@
--- What the ACK of a final ends, and what repeats of a final give.
+-- What the ACK of a final ends, and what is sent for retransmissions of a final.
 use Rattle.std.proofs.Common.{◌≡◌, ℕ, ◌<◌, List, [], ◌∷◌, ◌++◌, length, refl, true, false, Bool, not, ◌&&◌, ◌||◌, inl, inr, sym, ap, ◌∙◌, arith, cond, subst}
 use Rattle.std.specs.Prelude.{Option, Some, None, ◌==◌, is_some, option_map}
 use Rattle.std.specs.List.{list_any}
@@ -122,7 +122,7 @@ module _ (s : ℕ) (e : Entry) where
   acked_change i (DidFire k) a = acked_hit k (fired s e) (acked_fired (foremost_in e)) a
   acked_change i (DidSettle k own) a = acked_hit k (settled own e) (acked_settled own) a
 
--- what each call keeps of a transaction holds of it for as long as it is live
+-- what each operation preserves of a transaction holds of it for as long as it is live
 module _ (P : Entry → Type 0) (key : ℕ) (loud : Done → Bool) (keep : (c : Done) (f : List Done) (e : Entry) → loud c ≡ false → e.key ≡ key → P e → P (change (step_of f) (offers f) c e)) where
   kept_along : (g h : List Done) → list_any loud g ≡ false → key < length (opened h) → ((e : Entry) → by_key key (live h) ≡ Some e → P e) → (x : Entry) → by_key key (live (g ++ h)) ≡ Some x → P x
   kept_along [] h quiet less first x q = first x q
@@ -151,7 +151,7 @@ silent h g key e x run q a r =
     let kept = kept_along (λ y. y.is_acked ≡ true) key (λ c. false) (λ c f y l j b. acked_change (step_of f) y (offers f) c b) g h (never g) less first x r in
     acked_silent x (sound (g ++ h) run x (of_key (g ++ h) key x r).0) kept
 
--- ---- the ACK that was offered
+-- ---- the ACK that was sent
 
 abbrev Holds : Entry → Entry → Type 0
 Holds e x = (x.last ≡ e.last) × (e.is_refused ≡ true → x.is_refused ≡ true) × (x.done ≡ e.done)

@@ -1,4 +1,4 @@
--- The ACK of a non-2xx final ends its sending again, and only its own.
+-- The ACK of a non-2xx final ends the retransmission of that final, and of no other.
 use Rattle.std.proofs.Common.{◌≡◌, ℕ, ◌+◌, List, [], ◌∷◌, length, refl, true, false, Bool, not, ◌&&◌, ◌||◌, inl, inr, sym, ap, ◌∙◌, arith, cond, subst, nat_lt}
 use Rattle.std.specs.Prelude.{Option, Some, None, ◌==◌, nat_le, option_map, is_some}
 use Rattle.std.specs.List.{find}
@@ -30,7 +30,7 @@ use Rattle.mmtel_transaction.proofs.Standing.{live_hit}
 use Rattle.mmtel_timers.specs.Shelves.{Has}
 use Rattle.mmtel_transaction.proofs.Having.{at_key, found_in, has_live, has_more, has_more_back, of_key, run_before, same_entry}
 
--- which ACKs are taken for one of a non-2xx final
+-- which ACKs are classified as one of a non-2xx final
 acked_ack : (j : ℕ) (o : Option Entry) → part.Acked j ≡ part_ack o → (e : Entry) × (o ≡ Some e) × (e.is_refused ≡ true) × (j ≡ e.key)
 acked_ack j None q = absurd cc
 acked_ack j (Some e) q = either e.is_refused refl q
@@ -62,14 +62,14 @@ acked_is h m j q =
     let w = acked_if j m.is_request (is_ack m) (is_full (live h)) (find (is_server_of m) (live h)) (find (is_client_of m) (live h)) m q in
     (w.0, (found_in (is_server_of m) w.0 (live h) w.1).0, w.2, w.3)
 
--- what is acknowledged is final, and by its plan waits for its end alone; and what is refused is final
+-- what is acknowledged has a final, and in its state waits for its end alone; and what is refused has a final
 pub record IsSound (e : Entry) : Type 0 where
   pub busy : e.is_acked ≡ true → is_idle e.plan ≡ false
   pub planned : e.is_acked ≡ true → planned_at e ≡ None
   pub done : e.is_acked ≡ true → (e.done == 0) ≡ false
   pub refused : e.is_refused ≡ true → (e.done == 0) ≡ false
 
--- so it is not sent again
+-- so it is not retransmitted
 pub acked_silent : (e : Entry) → IsSound e → e.is_acked ≡ true → resend_at e ≡ None
 acked_silent e s a = busy_resend e (s.busy a) ∙ s.planned a
 

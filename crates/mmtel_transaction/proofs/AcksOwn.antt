@@ -57,7 +57,7 @@ plain_settled None e f = f
 plain_settled (Some own) e f = f
 
 module _ (h : List Done) (e : Entry) (g : Has e (live h)) (f : IsPlain e) where
-  -- no response answers it
+  -- no response matches it
   answer_if : (b : Bool) (j : ℕ) (x : Entry) → (e.key == j) ≡ b → (e.is_server ≡ true → e.key ≡ j → ⊥) → (x.is_server ≡ true → e.is_server ≡ true) → IsPlain (cond b x e)
   answer_if true j x q n k = λ s. absurd (n (k s) (eqb-true e.key j q))
   answer_if false j x q n k = f

@@ -1,4 +1,4 @@
--- One transaction among others goes by its closed list of moments.
+-- One transaction among others follows its closed list of moments.
 use Rattle.std.proofs.Common.{◌≡◌, ℕ, zero, suc, ◌+◌, ◌≤◌, ◌<◌, List, [], ◌∷◌, ◌++◌, length, map, refl, true, false, Bool, not, ◌&&◌, ◌⊎◌, inl, inr, sym, ap, ◌∙◌, arith, cond, subst}
 use Rattle.std.specs.Prelude.{Option, Some, None, ◌==◌, is_some, option_map, slice_get}
 use Rattle.std.specs.Option.{option_or}
@@ -104,7 +104,7 @@ live_below h e g = below 0 (length (opened h)) (live h) e (rising h) g
 abbrev pub shot : Entry → ℕ → ℕ → Entry
 shot b s n = record b { shots = n; step = s }
 
--- what a firing alone makes of a transaction
+-- the effect of a firing alone on a transaction
 abbrev by_firing : ℕ → Done → Entry → Entry
 by_firing s (DidBegin n) e = e
 by_firing s (DidHear p m now t) e = e
@@ -115,7 +115,7 @@ by_firing s (DidFire k) e = hit k (fired s) e
 by_firing s (DidSettle k own) e = e
 
 module _ (key : ℕ) (b : Entry) (moments : List ℕ) (at : b.key ≡ key) (alive : b.is_over ≡ false) (busy : is_idle b.plan ≡ false) (r : (s n : ℕ) → planned_at (shot b s n) ≡ counted b.start moments n) (z : last_at b ≡ Some (b.start + 32000)) where
-  -- it stands, and so many fired; or all of them did, and it is no longer live
+  -- it is live, and so many fired; or all of them did, and it is no longer live
   abbrev State : ℕ → List Done → Type 0
   State n h = ((n ≤ length moments) × ((s : ℕ) × Has (shot b s n) (live h))) ⊎ ((length moments < n) × (by_key key (live h) ≡ None))
 
@@ -165,7 +165,7 @@ module _ (key : ℕ) (b : Entry) (moments : List ℕ) (at : b.key ≡ key) (aliv
   over_if true j n h l q = inr (omega (arith, l), q)
   over_if false j n h l q = inr (l, q)
 
-  -- a call that changes nothing of it, but where its deadline fires
+  -- an operation that changes nothing of it, except where its deadline fires
   abbrev Quiet : Done → List Done → Type 0
   Quiet c h = (s n : ℕ) → Has (shot b s n) (live h) → change (step_of h) (offers h) c (shot b s n) ≡ by_firing (step_of h) c (shot b s n)
 
@@ -189,7 +189,7 @@ module _ (key : ℕ) (b : Entry) (moments : List ℕ) (at : b.key ≡ key) (aliv
       let v = or_parts (loud c) (list_any loud g) quiet in
       more c g h (omega (arith, less, more_opened h g)) (f c (g ++ h) run v.0) (tracked loud f g h (run_before c (g ++ h) run) v.1 less w)
 
-  -- so it goes by its list
+  -- so it follows its list
   found : (s n : ℕ) (h : List Done) → Has (shot b s n) (live h) → by_key key (live h) ≡ Some (shot b s n)
   found s n h g = subst (λ j. by_key j (live h) ≡ Some (shot b s n)) at (at_key h (shot b s n) g)
 
@@ -235,7 +235,7 @@ module _ (key : ℕ) (b : Entry) (moments : List ℕ) (at : b.key ≡ key) (aliv
       pub goes : (n : ℕ) (h : List Done) → State n h → GoesBy key b.start moments (map f moments ++ last ∷ []) n h
       goes n h w = record { next = next n h w; says = says n h w; over = over n h w }
 
--- ---- a request that nobody answers
+-- ---- a request that gets no response
 
 resend_if : (i : Bool) (start opened n : ℕ) → resend_by (cond i Invite Other) start opened n ≡ counted start (moments_of (cond i schedule.Invite schedule.Other)) n
 resend_if true start opened n = refl
@@ -257,11 +257,11 @@ ends_if : (i : Bool) (key : ℕ) (m : Head) (at : ℕ) → cond (ends (cond i In
 ends_if true key m at = refl
 ends_if false key m at = refl
 
--- what is said of a deadline, by when its message is sent again
+-- the result of a deadline, by when its message is retransmitted
 says_again : (x : Option ℕ) (o : Option ℕ) (a b : Due) → x ≡ o → cond (is_some x) a b ≡ cond (is_some o) a b
 says_again x o a b q = ap (λ y. cond (is_some y) a b) q
 
--- an ACK of a non-2xx final is of no transaction that has none
+-- an ACK of a non-2xx final belongs to no transaction that has none
 pub not_acked : (h : List Done) (m : Head) (j : ℕ) (e : Entry) → part.Acked j ≡ part_of m (live h) → Has e (live h) → e.is_refused ≡ false → (e.key == j) ≡ false
 not_acked h m j e q g f = ne_eqb e.key j (λ k.
     let w = acked_is h m j q in
@@ -272,7 +272,7 @@ module _ (h : List Done) (p : Peer) (m : Message Start) (t : ℕ) where
   abbrev own_key : ℕ
   own_key = length (opened h)
 
-  -- the transaction as it was opened
+  -- the transaction when it was opened
   abbrev first : Entry
   first = asked_first (step_of h) (offers h) own_key p (head_of m) (message_text m) t
 
@@ -335,10 +335,10 @@ module _ (h : List Done) (p : Peer) (m : Message Start) (t : ℕ) where
 pub unanswered : UnansweredAreGivenUp
 unanswered h g p m t run quiet = asked_goes h p m t g run quiet
 
--- ---- an INVITE that rang
+-- ---- an INVITE that had a provisional response
 
 module _ (h : List Done) (p : Peer) (m : Message Start) (t at : ℕ) where
-  -- the transaction after its first provisional answer
+  -- the transaction after its first provisional response
   abbrev rung : ℕ → Entry
   rung s = record (first h p m t) { is_early = true; plan = Idle; start = at; shots = 0; step = s }
 
@@ -405,7 +405,7 @@ module _ (h : List Done) (p : Peer) (m : Message Start) (t at : ℕ) where
       ∙ rings (is_provisional (head_of n).status) (is_invite (head_of m)) s k (step_of g) (finished (step_of g) (head_of n).status at e) pr i in
       subst (λ x. Has x (live (DidHear q n at (part.Answer this_key) ∷ g))) same (has_more (DidHear q n at (part.Answer this_key)) g e f (ap is_live same))
 
-  -- what is answered is live
+  -- what a response matches is live
   answered_live : (g : List Done) (n : Head) → part.Answer this_key ≡ part_of n (live g) → by_key this_key (live g) ≡ None → ⊥
   answered_live g n q none =
       let w = answer_if this_key n.is_request (is_ack n) (is_full (live g)) (find (is_server_of n) (live g)) (find (is_client_of n) (live g)) n q in
@@ -424,7 +424,7 @@ ringing h g f p q m n t s run i pr quiet finals =
     rings_on h p m t s f (g ++ DidAsk p m t ∷ h) q n (times_fired (length (opened h)) g) run i pr finals
     (asked_state h p m t g (run_end f (DidHear q n s (part.Answer (length (opened h))) ∷ (g ++ DidAsk p m t ∷ h)) run).1 quiet)
 
--- ---- a final that awaits its ACK
+-- ---- a final that waits for its ACK
 
 ack_if : (i a b c : Bool) → i ≡ true → ((a && b) && c) ≡ false → (((((true && i) && a) && true) && b) && c) ≡ false
 ack_if true true b c q r = r

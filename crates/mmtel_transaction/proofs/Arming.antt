@@ -1,4 +1,4 @@
--- A deadline is armed in the step of the call that brought it.
+-- A deadline is armed in the step of the operation that caused it.
 use Rattle.std.proofs.Common.{◌≡◌, ℕ, zero, suc, ◌+◌, List, [], ◌∷◌, ◌++◌, length, refl, true, false, Bool, not, ◌&&◌, ◌||◌, ◌⊎◌, inl, inr, sym, ap, ◌∙◌, cond, subst}
 use Rattle.std.specs.Prelude.{Option, Some, None, ◌==◌, filter, flat_map, is_some, option_map, option_to_list, slice_get}
 use Rattle.std.specs.Option.{option_or}
@@ -26,7 +26,7 @@ use Rattle.mmtel_timers.specs.Shelves.{Has}
 use Rattle.mmtel_transaction.proofs.Foremost.{again, again_at, alarm_in, alarm_there, answers_in, fired_answer, its_step, next_alarm, no_answer_in, plan_alarm, plan_alarm_at, plan_is}
 use Rattle.mmtel_transaction.proofs.Having.{at_key, has_live, has_more_back, of_key}
 
--- what an answer or a plan has next stands among all of that
+-- the next deadline of a response or of a state is among all of these
 abbrev At : List Alarm → Alarm → Type 0
 At ls a = (place : ℕ) × (slice_get ls place ≡ Some a)
 
@@ -61,7 +61,7 @@ answer_stood e i a q = at_left (answers_alarms e) (plan_alarms e) a (answer_at e
 plan_stood : (e : Entry) (a : Alarm) → plan_alarm e ≡ Some a → Stood e a
 plan_stood e a q = at_right (answers_alarms e) (plan_alarms e) a (plan_at e (option_or (planned_at e) (last_at e)) a q)
 
--- what a changed transaction that is live waits for was armed in this step, or stood before
+-- the deadline of a changed transaction that is live was armed in this step, or existed before
 abbrev Armed : ℕ → Entry → Entry → Type 0
 Armed s e x = is_live x ≡ true → (p : Option ℕ) (a : Alarm) → alarm_in x p ≡ Some a → (a.step ≡ s) ⊎ Stood e a
 
@@ -70,7 +70,7 @@ module _ (s : ℕ) (e : Entry) where
   armed_if true x y f g = f
   armed_if false x y f g = g
 
-  -- by what its answers and its plan have next
+  -- by the next deadlines of its responses and its state
   abbrev AnswersArmed : List ReliableAnswer → Type 0
   AnswersArmed xs = (i : ℕ) (a : Alarm) → alarm_there xs i ≡ Some a → (a.step ≡ s) ⊎ Stood e a
 
@@ -85,7 +85,7 @@ module _ (s : ℕ) (e : Entry) where
   answers_stood : AnswersArmed e.reliable
   answers_stood i a q = inr (answer_stood e i a q)
 
-  -- with the answers that it had, its plan armed in this step, or as before
+  -- with the responses that it had, its state armed in this step, or as before
   armed_now : (x : Entry) → x.reliable ≡ e.reliable → x.step ≡ s → Armed s e x
   armed_now x r k = armed_by x (λ i a q. answers_stood i a (ap (λ xs. alarm_there xs i) (sym r) ∙ q)) (λ a q. inl ((plan_is x (option_or (planned_at x) (last_at x)) a q).1 ∙ k))
 
@@ -114,7 +114,7 @@ module _ (s : ℕ) (e : Entry) where
           subst (Armed s e) (sym (fired_answer e s f q)) (armed_so x (again_armed f.0 e.reliable answers_stood) refl)
       either None q = subst (Armed s e) (sym (ap (λ o. fired_by o s e) q)) armed_planned
 
-  -- a reliable answer that is offered in this step
+  -- a reliable response that is sent in this step
   more_armed : (x : ReliableAnswer) (xs : List ReliableAnswer) → x.step ≡ s → AnswersArmed xs → AnswersArmed (xs ++ x ∷ [])
   more_armed x [] k f zero a q = inl (its_step x a q ∙ k)
   more_armed x [] k f (suc i) a q = absurd (none-some a q)
@@ -131,7 +131,7 @@ module _ (s : ℕ) (e : Entry) where
           let y : Entry = record e { reliable = e.reliable ++ x ∷ [] } in
           armed_if (not e.is_server || not (e.done == 0)) e y as_before (armed_so y (more_armed x e.reliable refl answers_stood) refl)
 
-  -- a second change, which leaves what the first left, or arms in this step
+  -- a second change, which leaves what the first one left, or arms in this step
   armed_replied : (x : Entry) (i st : ℕ) (t g : List ℕ) (now : ℕ) → Armed s e x → Armed s e (replied s i st t g now x)
   armed_replied x i st t g now f =
       let final : Entry = record x { last = Some t; plan = cond (is_invite x.asked) Final End; start = now; shots = 0; step = s; order = i; done = st; to_tag = g; is_refused = is_refusal st; reliable = [] } in
@@ -195,7 +195,7 @@ module _ (s : ℕ) (e : Entry) where
   armed_change i (DidFire k) = armed_hit k (fired s e) armed_fired
   armed_change i (DidSettle k own) = armed_hit k (settled own e) (armed_settled own)
 
--- what is opened has no answers, and its plan is armed in this step
+-- what is opened has no reliable responses, and the deadline of its state is armed in this step
 record IsNew (s : ℕ) (e : Entry) : Type 0 where
   step : e.step ≡ s
   answers : e.reliable ≡ []

@@ -6,7 +6,7 @@ use Rattle.std.proofs.lemmas.Bool.{eq-eqb, eqb-true, le-ltb, ltb-false, or_from,
 use Rattle.std.proofs.lemmas.Bool.Decides.{nat_tests}
 use Rattle.std.proofs.lemmas.Option.{none-some, same_Some}
 
--- what comes next is later: along a closed list of moments, and from its last one to the giving up
+-- what comes next is later: along a closed list of moments, and from its last one to the timeout
 abbrev pub Climbs : List ℕ → Type 0
 Climbs [] = Unit {0}
 Climbs (d ∷ []) = d < 32000
@@ -23,7 +23,7 @@ climbs (d ∷ []) (suc k) start a b c q r = absurd (none-some a q)
 climbs (d ∷ e ∷ ds) zero start a b c q r = let x = same_Some (start + d) a q in let y = same_Some (start + e) b r in omega (arith, x, y, c.0)
 climbs (d ∷ e ∷ ds) (suc k) start a b c q r = climbs (e ∷ ds) k start a b c.1 q r
 
--- the order of deadlines, on numbers: of moments, steps and offers
+-- the order of deadlines, on numbers: of moments, steps and messages sent
 abbrev pub before : ℕ → ℕ → ℕ → ℕ → ℕ → ℕ → Bool
 before a s o b t u = nat_lt a b || ((a == b) && (nat_lt s t || ((s == t) && nat_lt o u)))
 

@@ -1,4 +1,4 @@
--- What `hear` says is said by the transaction to which the message belongs.
+-- What `hear` returns is determined by the transaction to which the message belongs.
 use Rattle.std.proofs.Common.{◌≡◌, List, length, refl, true, false, Bool, not, ◌&&◌, sym, ap, ◌∙◌, cond}
 use Rattle.std.specs.Prelude.{Option, Some, None, option_map}
 use Rattle.std.specs.List.{find}

@@ -25,7 +25,7 @@ use Rattle.mmtel_transaction.proofs.Naming.{alike, between, not_before, told_ali
 abbrev pub call_mark : List ℕ → List ℕ → List ℕ → ℕ → Name
 call_mark id from method number = named id from method number 0
 
--- the transactions of which this is true have their names from a place of the shelf on
+-- the transactions of which this is true have their match keys from a position of the shelf on
 abbrev pub StandFrom : (Entry → Bool) → List Entry → List Name → ℕ → Type 0
 StandFrom P es ts i = (x : Entry) → Has x es → P x ≡ true → Has (call_named x) (drop i ts)
 
@@ -42,7 +42,7 @@ module _ (b s m : List ℕ) (n : ℕ) (ts : List Name) (p : ℕ) (at : IsPlaceOf
       let w = named_so x t in
       from_place (comes_before name_cmp (call_mark b s m n)) p ts (call_named x) at (i.all x (call_named x) h w.0) (not_before b s m n (call_named x) w.1)
 
-  -- once one stands there that is not named so, none is left
+  -- once one there has another call or CSeq, none remains
   none_left : (q : ℕ) (y : Name) → Ascends name_cmp ts → p ≤ q → slice_get ts q ≡ Some y → has_name (call_mark b s m n) y ≡ false → StandFrom P es ts q → (x : Entry) → Has x es → P x ≡ true → ⊥
   none_left q y a l g f st x h t =
       let w = named_so x t in
@@ -51,7 +51,7 @@ module _ (b s m : List ℕ) (n : ℕ) (ts : List Name) (p : ℕ) (at : IsPlaceOf
         | inr less ↦ not_both (has_name (call_mark b s m n) y) (between b s m n y (call_named x) (not_before_from (comes_before name_cmp (call_mark b s m n)) p q ts y at l g) w.1 less).0 f
       ]
 
-  -- so where the key that is looked for does not stand there
+  -- so where the key that is sought is not there
   pub ends_here : (q : ℕ) → Ascends name_cmp ts → p ≤ q → None ≡ answer (has_name (call_mark b s m n)) (λ (x : Name). x.key) (slice_get ts q) → StandFrom P es ts q → (x : Entry) → Has x es → P x ≡ true → ⊥
   ends_here q a l said st x h t = by_item (slice_get ts q) refl said
     where
@@ -63,7 +63,7 @@ module _ (b s m : List ℕ) (n : ℕ) (ts : List Name) (p : ℕ) (at : IsPlaceOf
       by_item None g r = none_behind q ts (call_named x) (none_at q ts g) (st x h t)
       by_item (Some y) g r = by_name y g (has_name (call_mark b s m n) y) refl r
 
--- where the shelf ends, none is left
+-- where the shelf ends, none remains
 pub none_past : (P : Entry → Bool) (es : List Entry) (ts : List Name) (q : ℕ) → length ts ≤ q → StandFrom P es ts q → (x : Entry) → Has x es → P x ≡ true → ⊥
 none_past P es ts q l st x h t = none_behind q ts (call_named x) l (st x h t)
 
@@ -74,7 +74,7 @@ stand_next P es ts q y g other st x h t = elim (there_or_behind q ts y (call_nam
   | inr k ↦ k
 ]
 
--- what the key at a place says of the name there
+-- what the key at a position implies for the match key there
 pub key_there : (mark : Name) (k : ℕ) (o : Option Name) → Some k ≡ answer (has_name mark) (λ (x : Name). x.key) o → (y : Name) × (o ≡ Some y) × (has_name mark y ≡ true) × (y.key ≡ k)
 key_there mark k None q = absurd (none-some k (sym q))
 key_there mark k (Some y) q = by_test (has_name mark y) refl q
@@ -115,7 +115,7 @@ module _ (m : Head) where
       (called_so x w.0, same_call m.call_id m.from_tag invite m.number x b.0 b.1 a.1 w.1)
 
   module _ (step : ℕ) where
-    -- what heard it does not hear it again
+    -- what received it does not receive it again
     pub once_acked : (x : Entry) → is_ack_of m (acked_2xx step m x) ≡ true → ⊥
     once_acked x t = by_test (is_ack_of m x) refl t
       where
@@ -144,7 +144,7 @@ module _ (m : Head) where
     map_again k [] = refl
     map_again k (x ∷ es) = ap (λ y. y ∷ map (acked_2xx step m) (map (hit k (acked_2xx step m)) es)) (hit_again k x) ∙ ap (λ ys. acked_2xx step m x ∷ ys) (map_again k es)
 
-    -- where none is left, all have heard it
+    -- where none remains, all have received it
     pub all_acked : (es : List Entry) → ((x : Entry) → Has x es → is_of_ack x ≡ true → ⊥) → map (acked_2xx step m) es ≡ es
     all_acked [] n = refl
     all_acked (x ∷ es) n = ap (λ y. y ∷ map (acked_2xx step m) es) (not_acked x (n x (inl refl))) ∙ ap (λ ys. x ∷ ys) (all_acked es (λ y h. n y (inr h)))
@@ -164,7 +164,7 @@ module _ (m : Head) where
               | inr b ↦ b
             ])
 
--- of a request that is heard twice
+-- of a request that is received twice
 module _ (e : Entry) where
   pub twin_so : (x : Entry) → is_other e x ≡ true → (call_name x ≡ Some (call_named x)) × (has_name (twin_mark e) (call_named x) ≡ true)
   twin_so x t =
@@ -200,7 +200,7 @@ module _ (e : Entry) where
       by_test true q ih = absurd (n y (inl refl) q)
       by_test false q ih = ih
 
-  -- one that is named so and has another key is a twin
+  -- one with the same parts of the match key and another transaction number is merged with it
   pub twin_there : (es : List Entry) (ts : List Name) (q : ℕ) (y : Name) → IsIndex call_name name_cmp es ts → slice_get ts q ≡ Some y → has_name (twin_mark e) y ≡ true → (y.key ≡ e.key → ⊥) → true ≡ list_any (is_other e) es
   twin_there es ts q y i g t other =
       let u = i.only y (has_at ts q y g) in

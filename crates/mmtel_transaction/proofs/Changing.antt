@@ -1,4 +1,4 @@
--- The tables of transactions of which one comes, changes or goes.
+-- The tables of transactions where one is added, changed or removed.
 use Rattle.std.proofs.Common.{◌≡◌, ℕ, suc, zero, ◌+◌, ◌≤◌, ◌<◌, Bool, true, false, cond, not, List, [], ◌∷◌, ◌++◌, length, get_or, set, map, refl, sym, ap, ◌∙◌, subst, arith, ◌⊎◌, inl, inr, Some, None, Option, insert, remove}
 use Rattle.std.specs.Prelude.{◌==◌, nat_lt, slice_get, count_by}
 use Rattle.std.specs.List.{AllByRecursion, position, position_or_len}
@@ -58,7 +58,7 @@ pub count_last : (p : Entry → Bool) (es : List Entry) (e : Entry) → count_by
 count_last p [] e = omega (arith, count_cons p e [])
 count_last p (x ∷ es) e = omega (arith, count_last p es e, count_cons p x (es ++ e ∷ []), count_cons p x es)
 
--- of names and waits that are equal in order the keys are
+-- match keys, and deadline keys, that are equal in order have the same transaction number
 last_key : (a b c : Ordering) (i j : ℕ) → ordering_then a (ordering_then b (ordering_then c (nat_cmp i j))) ≡ Equal → i ≡ j
 last_key Less b c i j q = absurd cc
 last_key Greater b c i j q = absurd cc
@@ -84,7 +84,7 @@ name_key x y q = last_of_five (nat_cmp x.told y.told) (slice_cmp nat_cmp x.id y.
 pub waits_key : (x y : Waits) → waits_cmp x y ≡ Equal → x.key ≡ y.key
 waits_key x y q = last_key (nat_cmp x.at y.at) (nat_cmp x.step y.step) (nat_cmp x.order y.order) x.key y.key q
 
--- one key is of one transaction
+-- one number belongs to one transaction
 pub one_key : (es : List Entry) (e d : Entry) → Rises key_of_entry es → Has e es → Has d es → e.key ≡ d.key → e ≡ d
 one_key [] e d r h k q = absurd h
 one_key (x ∷ es) e d r (inl a) (inl b) q = a ∙ sym b
@@ -146,7 +146,7 @@ loses_rest k old es r h q = record {
     by_test e g true t = inl (one_key es e old r g h (is_same e.key k t ∙ sym q))
     by_test e g false t = inr (rest_has k e es g t)
 
--- none has a key below those that rise from above it
+-- none has a key less than those that rise from above it
 no_rest : (k : ℕ) (es : List Entry) → AllByRecursion (λ (y : Entry). k < y.key) es → rest k es ≡ es
 no_rest k [] a = refl
 no_rest k (e ∷ es) a =
@@ -188,7 +188,7 @@ count_rest p k old (x ∷ es) r (inr h) q =
     let a : count_by p (rest k (x ∷ es)) ≡ count_by p (x ∷ rest k es) = ap (count_by p) done in
     omega (arith, a, count_cons p x (rest k es), ih, count_cons p x es)
 
--- transactions of which each changes, and keeps what names it
+-- transactions of which each changes, and keeps its match keys
 module _ (f : Entry → Entry) (keeps : (e : Entry) → Keeps e (f e)) where
   all_mapped : (i : ℕ) (es : List Entry) → AllByRecursion (λ (y : Entry). i < y.key) es → AllByRecursion (λ (y : Entry). i < y.key) (map f es)
   all_mapped i [] a = a
@@ -246,7 +246,7 @@ module _ (k : ℕ) (f : Entry → Entry) where
       let n : (e.key == k) ≡ false = grind (arith, nat_tests) in
       rw (hit_other e n, none_hit es a.1) refl
 
-  -- as it stands where it was changed
+  -- as it is at the position where it was changed
   pub set_hit : (es : List Entry) (i : ℕ) (d x : Entry) → Rises key_of_entry es → i < length es → (get_or es i d).key ≡ k → x ≡ f (get_or es i d) → set es i x ≡ map (hit k f) es
   set_hit [] i d x r l q s = absurd (omega (arith, l))
   set_hit (e ∷ es) zero d x r l q s = ap (λ y. y ∷ es) (s ∙ sym (hit_own e q)) ∙ ap (λ ys. hit k f e ∷ ys) (sym (none_hit es (subst (λ i. AllByRecursion (λ (y : Entry). i < y.key) es) q r.0)))
@@ -275,13 +275,13 @@ module _ (k : ℕ) (f : Entry → Entry) where
       by_test e x g s true t = inl (s ∙ (hit_own x (is_same x.key k t) ∙ ap f (one_key es x old r g h (is_same x.key k t ∙ sym q))))
       by_test e x g s false t = inr (subst (λ (y : Entry). Has y (rest k es)) (sym (s ∙ hit_other x t)) (rest_has k x es g t))
 
-  -- what it waits for is taken out at one place and put in at another
+  -- its deadline key is removed at one position and inserted at another
   pub due_hit : (old : Entry) (es : List Entry) (ds : List Waits) (p q : ℕ) → Rises key_of_entry es → IsIndex waiting waits_cmp es ds → Has old es → old.key ≡ k → slice_get ds p ≡ Some (waits old) → Place waits_cmp waits_total q (waits (f old)) (remove ds p) → IsIndex waiting waits_cmp (map (hit k f) es) (insert (remove ds p) q (waits (f old)))
   due_hit old es ds p q r due h key at place = index_in waiting waits_cmp waits_total (f old) (waits (f old)) (rest k es) (map (hit k f) es) (remove ds p) q
       (index_out waiting waits_cmp waits_total old (waits old) es (rest k es) ds p due (loses_rest k old es r h key) refl (of_waits es old r h) at)
       (gains_hit old es r h key) refl place
 
-  -- a change that ends the transaction takes it out
+  -- a change that ends the transaction removes it
   pub settle_over : (old : Entry) (es : List Entry) → Rises key_of_entry es → Has old es → old.key ≡ k → is_live (f old) ≡ false → settle k f es ≡ rest k es
   settle_over old [] r h q o = absurd h
   settle_over old (x ∷ es) r (inl s) q o =
@@ -320,7 +320,7 @@ hit_none k (e ∷ es) = either (e.key == k) (hit_none k es)
     either true ih = ap (λ xs. e ∷ xs) ih
     either false ih = ap (λ xs. e ∷ xs) ih
 
--- whose name is an item
+-- whose match key is an item
 server_if : (e : Entry) (n x : Name) (b : Bool) → cond b (Some n) None ≡ Some x → n ≡ x
 server_if e n x true q = same_Some n x q
 server_if e n x false q = absurd (none-some x q)
@@ -347,7 +347,7 @@ is_a_server e = e.is_server
 abbrev is_a_client : Entry → Bool
 is_a_client e = not e.is_server
 
--- a server transaction ends: its names and what it waits for are taken out
+-- a server transaction ends: its match keys and its deadline key are removed
 pub server_over : (k : ℕ) (old : Entry) (es : List Entry) (ss cs ts : List Name) (ds : List Waits) (p q o : ℕ) → AreTables es ss cs ts ds → Has old es → old.key ≡ k → old.is_server ≡ true → slice_get ds p ≡ Some (waits old) → slice_get ss q ≡ Some (server_named old) → slice_get ts o ≡ Some (call_named old) → AreTables (rest k es) (remove ss q) cs (remove ts o) (remove ds p)
 server_over k old es ss cs ts ds p q o t h key kind at named called =
     let less : Loses old es (rest k es) = loses_rest k old es t.rises h key in
@@ -363,7 +363,7 @@ server_over k old es ss cs ts ds p q o t h key kind at named called =
       client_count = omega (arith, t.client_count, stay);
     }
 
--- a client transaction ends: its name and what it waits for are taken out
+-- a client transaction ends: its match key and its deadline key are removed
 pub client_over : (k : ℕ) (old : Entry) (es : List Entry) (ss cs ts : List Name) (ds : List Waits) (p q : ℕ) → AreTables es ss cs ts ds → Has old es → old.key ≡ k → old.is_server ≡ false → slice_get ds p ≡ Some (waits old) → slice_get cs q ≡ Some (client_named old) → AreTables (rest k es) ss (remove cs q) ts (remove ds p)
 client_over k old es ss cs ts ds p q t h key kind at named =
     let less : Loses old es (rest k es) = loses_rest k old es t.rises h key in
@@ -379,7 +379,7 @@ client_over k old es ss cs ts ds p q t h key kind at named =
       client_count = one_less (length cs) _ (length (remove cs q)) (length-remove cs q (slice_get_within cs q (client_named old) named)) t.client_count _ gone;
     }
 
--- one transaction more
+-- one more transaction
 below : (e u : Entry) (n y : Name) → n ≡ y → n.key ≡ u.key → u.key < e.key → y.key ≡ e.key → ⊥
 below e u n y is own less same = let key : n.key ≡ y.key = ap (λ (z : Name). z.key) is in omega (arith, key, own, less, same)
 

@@ -1,4 +1,4 @@
--- No two live server transactions of a run have one key.
+-- No two live server transactions of a run have the same branch, sent-by and method.
 use Rattle.std.proofs.Common.{◌≡◌, ℕ, List, [], ◌∷◌, length, refl, true, false, Bool, ◌&&◌, inl, inr, sym, ap, ◌∙◌, cond}
 use Rattle.std.specs.Prelude.{Option, Some, None}
 use Rattle.std.specs.List.{find}
@@ -43,7 +43,7 @@ server_of m e q =
 pub of_server : (m : Head) (e : Entry) → IsServerOf m e → is_server_of m e ≡ true
 of_server m e s = and_from _ _ (and_from _ _ (and_from _ _ s.server ((bytes_eq-Decides e.asked.branch m.branch).1 s.branch)) ((bytes_eq-Decides e.asked.sent_by m.sent_by).1 s.sent_by)) ((bytes_eq-Decides e.asked.method (key_method m)).1 s.method)
 
--- what a fresh message is
+-- what a new request is
 ack_part : (o : Option Entry) → part.Fresh ≡ part_ack o → ⊥
 ack_part None q = cc
 ack_part (Some e) q = either e.is_refused q

@@ -66,7 +66,7 @@ pub stays_ended : WhatEndedStays
 stays_ended h [] key l n = n
 stays_ended h (c ∷ g) key l n = still_ended c (g ++ h) key (omega (arith, l, more_opened h g)) (stays_ended h g key l n)
 
--- a deadline that is said to be the last one ends its transaction
+-- a deadline that is reported as the last one ends its transaction
 last_is : (key : ℕ) (n : Next) → IsLast key (says_due (Some n)) → (resend_at n.entry ≡ None) × (n.entry.key ≡ key)
 last_is key n q = either (resend_at n.entry) refl (ends n.entry.plan) q
   where

@@ -1,4 +1,4 @@
--- What a transaction waits for, and what is left of it once the first of that has fired.
+-- What a transaction waits for, and what remains of it once the first deadline of that has fired.
 use Rattle.std.proofs.Common.{◌≡◌, ℕ, zero, suc, ◌+◌, ◌≤◌, ◌<◌, List, [], ◌∷◌, ◌++◌, map, refl, true, false, Bool, ◌⊎◌, inl, inr, sym, ap, ◌∙◌, arith, cond, subst}
 use Rattle.std.specs.Prelude.{Option, Some, None, nat_lt, filter, is_some, option_map, slice_get, slice_set}
 use Rattle.std.specs.Option.{option_or, unwrap_or}
@@ -20,9 +20,9 @@ use Rattle.mmtel_transaction.specs.Answers.{text_again, text_by, text_planned}
 use Rattle.mmtel_transaction.specs.Calls.{is_live}
 use Rattle.mmtel_transaction.proofs.Before.{before, climbs, counted_at, itself, other_way, through}
 
--- ---- reliable answers
+-- ---- reliable responses
 
--- what the answer at a place has next
+-- the next deadline of the response at a position
 abbrev pub alarm_there : List ReliableAnswer → ℕ → Option Alarm
 alarm_there [] i = None
 alarm_there (x ∷ xs) zero = alarm_of x
@@ -91,7 +91,7 @@ is_foremost : (k : ℕ) (xs : List ReliableAnswer) (f : ℕ × Alarm) → foremo
 is_foremost k [] f q = absurd (none-some f q)
 is_foremost k (x ∷ xs) f q = foremost_more k x xs f (is_foremost (suc k) xs) (alarm_of x) (foremost_from (suc k) xs) refl refl q
 
--- what an answer has next, once it was sent again
+-- the next deadline of a response, once it was retransmitted
 abbrev pub again : ℕ → ReliableAnswer → ReliableAnswer
 again s x = record x { shots = x.shots + 1; step = s }
 
@@ -110,7 +110,7 @@ again_later s x a b q r =
     let next : counted x.start (moments_of schedule.Invite) (suc x.shots) ≡ Some b.at = ap (counted x.start (moments_of schedule.Invite)) (let w : suc x.shots ≡ x.shots + 1 = omega arith in w) ∙ its_moment (again s x) b r in
     climbs (moments_of schedule.Invite) x.shots x.start a.at b.at (omega arith, (omega arith, (omega arith, (omega arith, (omega arith, omega arith))))) (its_moment x a q) (ap (λ o. option_or o (Some (x.start + 32000))) next)
 
--- the answers once the one at a place was sent again
+-- the responses once the one at a position was retransmitted
 abbrev pub again_at : ℕ → ℕ → List ReliableAnswer → List ReliableAnswer
 again_at s place [] = []
 again_at s zero (x ∷ xs) = again s x ∷ xs
@@ -140,9 +140,9 @@ again_left s zero (x ∷ xs) a q (suc i) b r = inr (λ p. absurd (omega (arith, 
 again_left s (suc place) (x ∷ xs) a q zero b r = inr (λ p. absurd (omega (arith, p)), r)
 again_left s (suc place) (x ∷ xs) a q (suc i) b r = left_more place x xs a i b (again_left s place xs a q i b r)
 
--- ---- plans
+-- ---- states
 
--- an idle plan waits for nothing
+-- a state without a deadline waits for nothing
 idle_none : (p : Plan) (start opened k : ℕ) → is_idle p ≡ true → (resend_by p start opened k ≡ None) × (last_by p start opened ≡ None)
 idle_none Idle start opened k q = (refl, refl)
 idle_none Invite start opened k q = absurd cc
@@ -180,14 +180,14 @@ is_later plan.Acked start opened k a b q r = absurd (none-some a q)
 
 -- ---- a transaction
 
--- what its plan has next
+-- the next deadline of its state
 abbrev pub plan_alarm_at : Entry → Option ℕ → Option Alarm
 plan_alarm_at e o = option_map (λ at. record { at = at; step = e.step; order = e.order }) o
 
 abbrev pub plan_alarm : Entry → Option Alarm
 plan_alarm e = plan_alarm_at e (option_or (planned_at e) (last_at e))
 
--- what it has next for one of its messages: the reliable answer at a place, or that of its plan
+-- its next deadline for one of its messages: the reliable response at a position, or that of its state
 abbrev pub alarm_in : Entry → Option ℕ → Option Alarm
 alarm_in e None = plan_alarm e
 alarm_in e (Some i) = cond (is_idle e.plan) (alarm_there e.reliable i) None
@@ -198,7 +198,7 @@ plan_is e (Some at) b q =
     let w = same_Some (record { at = at; step = e.step; order = e.order }) b q in
     (ap (λ (y : Alarm). Some y.at) w, ap (λ (y : Alarm). y.step) (sym w), ap (λ (y : Alarm). y.order) (sym w))
 
--- by which answer is foremost, if any is
+-- by which response is first, if there is one
 abbrev deadline_by : Option (ℕ × Alarm) → Entry → Option ℕ
 deadline_by o e = option_or (option_or (option_map (λ (f : ℕ × Alarm). f.1.at) o) (planned_at e)) (last_at e)
 
@@ -229,7 +229,7 @@ module _ (e : Entry) where
       let w = idle_none e.plan e.start e.at e.shots t in
       ap (λ o. plan_alarm_at e (option_or o (last_at e))) w.0 ∙ ap (λ o. plan_alarm_at e o) w.1
 
-  -- one of three stands: an answer is foremost, no answer waits while the plan is idle, or the plan is not idle
+  -- one of three holds: a response is first, no response waits while the state has no deadline, or the state has one
   pub is_idle_with : (f : ℕ × Alarm) → foremost_in e ≡ Some f → is_idle e.plan ≡ true
   is_idle_with f q = either (is_idle e.plan) refl
     where
@@ -246,7 +246,7 @@ module _ (e : Entry) where
       let at : f.0 ≡ w.place = omega (arith, w.is) in
       ap (alarm_there e.reliable) at ∙ w.there
 
-  -- its deadline is what the message has next that is due first
+  -- its deadline is the next one of the message that is due first
   pub next_alarm : (a : ℕ) → deadline e ≡ Some a → alarm_in e (message_due e) ≡ Some (record { at = a; step = step_due e; order = order_due e })
   next_alarm a q = either (foremost_in e) refl q
     where
@@ -256,7 +256,7 @@ module _ (e : Entry) where
           answers_in f.0 (is_idle_with f s) ∙ (foremost_there f s ∙ ap (λ at. Some (let r : Alarm = record { at = at; step = f.1.step; order = f.1.order } in r)) same)
       either None s p = ap (plan_alarm_at e) p
 
-  -- and none that it waits for comes before that
+  -- and none of its deadlines comes before that
   pub none_before : (a : ℕ) → deadline e ≡ Some a → (p : Option ℕ) (b : Alarm) → alarm_in e p ≡ Some b → before b.at b.step b.order a (step_due e) (order_due e) ≡ false
   none_before a q p b r = either (foremost_in e) refl q p r
     where
@@ -291,7 +291,7 @@ module _ (e : Entry) where
           by_plan true t = answers_in i t ∙ none_from 0 e.reliable (sym (when_idle t) ∙ s) i
           by_plan false t = no_answer_in i t
 
-  -- a deadline is that of an answer, or that of a plan which waits for something
+  -- a deadline is that of a response, or that of a state which has one
   pub which : (a : ℕ) → deadline e ≡ Some a → ((f : ℕ × Alarm) × (foremost_in e ≡ Some f) × (f.1.at ≡ a)) ⊎ ((is_idle e.plan ≡ false) × (option_or (planned_at e) (last_at e) ≡ Some a))
   which a q = either (foremost_in e) refl q
     where
@@ -303,7 +303,7 @@ module _ (e : Entry) where
       either (Some f) s d = inl (f, s, same_Some f.1.at a d)
       either None s d = inr (by_plan (is_idle e.plan) refl d)
 
-  -- where nothing of it is sent again
+  -- where nothing of it is retransmitted
   pub resend_none : resend_at e ≡ None → (foremost_in e ≡ None) × (planned_at e ≡ None)
   resend_none q = either (foremost_in e) refl q
     where
@@ -331,13 +331,13 @@ module _ (e : Entry) where
   pub fired_answer : (s : ℕ) (f : ℕ × Alarm) → foremost_in e ≡ Some f → fired s e ≡ record e { reliable = again_at s f.0 e.reliable }
   fired_answer s f q = ap (λ o. fired_by o s e) q ∙ ap (λ xs. (let r : Entry = record e { reliable = xs } in r)) (resent_is s f.0 e.reliable)
 
--- ---- what is left of it
+-- ---- what remains of it
 
--- what is left of a plan that fired, by when its message was to be sent again
+-- what remains of a state whose deadline fired, by when its message was to be retransmitted
 abbrev pub planned_by : Option ℕ → ℕ → Entry → Entry
 planned_by o s e = cond (is_some o) (record e { shots = e.shots + 1; step = s }) (record e { is_over = true })
 
--- a plan that fired and is still live waits for a later moment
+-- a state whose deadline fired and whose transaction is still live waits for a later moment
 pub planned_later : (s a b : ℕ) (e : Entry) → option_or (planned_at e) (last_at e) ≡ Some a → is_live (planned s e) ≡ true → option_or (planned_at (planned s e)) (last_at (planned s e)) ≡ Some b → a < b
 planned_later s a b e q l r = either (planned_at e) refl q l r
   where

@@ -1,4 +1,4 @@
--- What stands among transactions, and what is found there; one more call over a run.
+-- What is among transactions, and what is found there; one more operation over a run.
 use Rattle.std.proofs.Common.{◌≡◌, ℕ, suc, ◌≤◌, List, [], ◌∷◌, ◌++◌, length, refl, true, false, Bool, ◌⊎◌, inl, inr, sym, ap, ◌∙◌, arith, map, cond, subst}
 use Rattle.std.specs.Prelude.{Some, None, filter}
 use Rattle.std.specs.List.{find}
@@ -57,7 +57,7 @@ has_append_back e [] fs h = inr h
 has_append_back e (x ∷ es) fs (inl q) = inl (inl q)
 has_append_back e (x ∷ es) fs (inr h) = elim (has_append_back e es fs h) [ inl a ↦ inl (inr a) | inr b ↦ inr b ]
 
--- what is found stands there and passes
+-- what is found is there and passes
 found_if : (b : Bool) (p : Entry → Bool) (e x : Entry) (es : List Entry) → p x ≡ b → (find p es ≡ Some e → Has e es × (p e ≡ true)) → cond b (Some x) (find p es) ≡ Some e → Has e (x ∷ es) × (p e ≡ true)
 found_if true p e x es t ih q = let w : x ≡ e = same_Some x e q in (inl (sym w), ap p (sym w) ∙ t)
 found_if false p e x es t ih q = let w = ih q in (inr w.0, w.1)
@@ -105,7 +105,7 @@ at_key h e g =
 pub of_key : (h : List Done) (k : ℕ) (e : Entry) → by_key k (live h) ≡ Some e → Has e (live h) × (e.key ≡ k)
 of_key h k e q = let v = found_in (is_of k) e (live h) q in (v.0, eqb-true e.key k v.1)
 
--- one more call
+-- one more operation
 pub has_live : (h : List Done) (e : Entry) → Has e (live h) → is_live e ≡ true
 has_live h e g = (has_filter_back is_live e (map (entry_of h) (opened h)) g).1
 

@@ -1,4 +1,4 @@
--- What is offered at a moment is not due then.
+-- What is sent at a moment is not due at that moment.
 use Rattle.std.proofs.Common.{◌≡◌, ℕ, zero, suc, ◌+◌, ◌≤◌, ◌<◌, List, [], ◌∷◌, ◌++◌, length, refl, true, false, Bool, not, ◌&&◌, ◌||◌, inl, inr, sym, ap, ◌∙◌, arith, cond, subst, append-nil}
 use Rattle.std.specs.Prelude.{Option, Some, None, ◌==◌, count_by, filter, nat_le, option_map, option_to_list, flat_map}
 use Rattle.std.specs.Option.{option_or}
@@ -35,7 +35,7 @@ weight at e = count_by (is_not_later at) (alarms e)
 total_is : (at : ℕ) (es : List Entry) → total (weight at) es ≡ due_by at es
 total_is at es = is_total (weight at) es
 
--- one for a deadline that is not later than a moment
+-- one for a deadline that is not later than a moment, else zero
 abbrev one : ℕ → Option Alarm → ℕ
 one at None = 0
 one at (Some a) = cond (is_not_later at a) 1 0
@@ -47,7 +47,7 @@ one_later at (Some b) f = let l = f b refl in ap (λ t. cond t 1 0) (let t : nat
 one_due : (at : ℕ) (b : Alarm) → b.at ≤ at → one at (Some b) ≡ 1
 one_due at b l = ap (λ t. cond t 1 0) (le-leb b.at at l)
 
--- so many of the answers
+-- so many of the responses
 abbrev awaited : ℕ → List ReliableAnswer → ℕ
 awaited at [] = 0
 awaited at (x ∷ xs) = one at (alarm_of x) + awaited at xs
@@ -182,7 +182,7 @@ leave_fewer h now n q =
     let w = is_next now (live h) n q in
     fires_less (weight n.at) h now n q (λ l. fired_fewer (step_of h) n.at n.entry w.moment l) (not_past n.at n.at n.entry w.moment (omega arith))
 
--- ---- other calls
+-- ---- other operations
 
 keep_if : (at : ℕ) (l t : Bool) (x y : Entry) (es fs : List Entry) → weight at x ≤ weight at y → total (weight at) fs ≤ total (weight at) es → total (weight at) (cond t (cond l (x ∷ es) es) (y ∷ fs)) ≤ total (weight at) (y ∷ es)
 keep_if at true true x y es fs f g = omega (arith, f)
@@ -197,7 +197,7 @@ weighs_if : (at : ℕ) (b : Bool) (x y e : Entry) → weight at x ≤ weight at 
 weighs_if at true x y e f g = f
 weighs_if at false x y e f g = g
 
--- a plan that is counted from a moment waits for a later one
+-- a state that is counted from a moment waits for a later one
 plan_later : (at : ℕ) (e : Entry) (b : ℕ) → is_idle e.plan ≡ false → option_or (planned_at e) (last_at e) ≡ Some b → at < b → weight at e ≡ 0
 plan_later at e b t q l = busy_weight at e t ∙ (ap (λ o. one at (plan_alarm_at e o)) q ∙ one_later at (Some (record { at = b; step = e.step; order = e.order })) (λ c r. let w = ap (λ (y : Alarm). y.at) (same_Some _ c r) in omega (arith, w, l)))
 
@@ -215,7 +215,7 @@ replied_adds_none s i st t g at e =
     weighs_if at (not e.is_server || not (e.done == 0)) e _ e (omega arith)
     (weighs_if at (is_provisional st) (record e { last = Some t }) (record final { plan = cond (is_invite e.asked) Final End; start = at; shots = 0 }) e (omega arith) (omega (arith, final_zero at (is_invite e.asked) final)))
 
--- a reliable answer that is offered at a moment is sent again later
+-- a reliable response that is sent at a moment is retransmitted later
 more_weight : (at : ℕ) (x : ReliableAnswer) (e : Entry) → one at (alarm_of x) ≡ 0 → weight at (record e { reliable = e.reliable ++ x ∷ [] }) ≡ weight at e
 more_weight at x e z = either (is_idle e.plan) refl
   where
@@ -238,7 +238,7 @@ offered_adds_none s i at m e =
     let x : Entry = with_answers (answer_of s i m (message_text m) at) e in
     omega (arith, replied_adds_none s i (head_of m).status (message_text m) (head_of m).to_tag at x, with_adds_none at s i m e)
 
--- fewer answers weigh no more
+-- fewer responses have no more deadlines
 less_weight : (at : ℕ) (xs : List ReliableAnswer) (e : Entry) → awaited at xs ≤ awaited at e.reliable → weight at (record e { reliable = xs }) ≤ weight at e
 less_weight at xs e l = either (is_idle e.plan) refl
   where
@@ -263,7 +263,7 @@ as_counted at es fs l = omega (arith, l, total_is at es, total_is at fs)
 pub begins_change_nothing : BeginsChangeNothing
 begins_change_nothing h step = live_new (DidBegin step) h (λ e. refl) ∙ append-nil (live h)
 
--- a call that hits one transaction
+-- an operation that changes one transaction
 hit_adds_none : (c : Done) (h : List Done) (at key : ℕ) (f : Entry → Entry) → live (c ∷ h) ≡ settle key f (live h) → ((e : Entry) → weight at (f e) ≤ weight at e) → due_by at (live (c ∷ h)) ≤ due_by at (live h)
 hit_adds_none c h at key f q l = subst (λ es. due_by at es ≤ due_by at (live h)) (sym q) (as_counted at (settle key f (live h)) (live h) (keeps_all at key f (live h) l))
 

@@ -1,4 +1,4 @@
--- The live transactions after one more call are those before it, changed.
+-- The live transactions after one more operation are those before it, changed.
 use Rattle.std.proofs.Common.{◌≡◌, ℕ, suc, ◌+◌, ◌≤◌, ◌<◌, List, [], ◌∷◌, ◌++◌, length, refl, true, false, Bool, not, ◌&&◌, ◌||◌, sym, ap, ◌∙◌, arith, map, cond, length-append, subst}
 use Rattle.std.specs.Prelude.{nat_lt, ◌==◌, filter, is_some, Option, Some, None}
 use Rattle.std.proofs.lemmas.List.{map-append}
@@ -57,7 +57,7 @@ pub rising_opened : (h : List Done) → Rising 0 (opened h) (length (opened h))
 rising_opened [] = omega arith
 rising_opened (c ∷ h) = subst (Rising 0 (opened (c ∷ h))) (sym (length-append (opened h) (opens (step_of h) (offers h) (length (opened h)) c))) (rising_append 0 (length (opened h)) _ (opened h) (opens (step_of h) (offers h) (length (opened h)) c) (rising_opened h) (rising_opens (step_of h) (offers h) (length (opened h)) c))
 
--- keys that rise are below the next one
+-- keys that rise are less than the next one
 rising_top : (lo hi : ℕ) (es : List Entry) → Rising lo es hi → lo ≤ hi
 rising_top lo hi [] r = r
 rising_top lo hi (e ∷ es) r = omega (arith, r.0, rising_top (suc e.key) hi es r.1)
@@ -69,7 +69,7 @@ changed : (c : Done) (h : List Done) (lo : ℕ) (es : List Entry) → Rising lo 
 changed c h lo [] r = refl
 changed c h lo (e ∷ es) r = rw (later e.key (length (opened h)) (omega (arith, rising_top (suc e.key) (length (opened h)) es r.1)), changed c h (suc e.key) es r.1) refl
 
--- a change keeps the key, the request, from or to whom it went, and the ending
+-- a change keeps the key, the request, the peer, and that it has ended
 pub record Keeps (e x : Entry) : Type 0 where
   pub key : x.key ≡ e.key
   pub server : x.is_server ≡ e.is_server
@@ -210,7 +210,7 @@ news h d s i (DidAck j m) = refl
 news h d s i (DidFire j) = refl
 news h d s i (DidSettle j own) = refl
 
--- the live transactions after one more call
+-- the live transactions after one more operation
 pub live_more : (c : Done) (h : List Done) → live (c ∷ h) ≡ filter is_live (map (change (step_of h) (offers h) c) (live h)) ++ opens (step_of h) (offers h) (length (opened h)) c
 live_more c h =
     let f = change (step_of h) (offers h) c in
@@ -255,7 +255,7 @@ pub all_live : (es : List Entry) → AllLive (filter is_live es)
 all_live [] = tt
 all_live (e ∷ es) = all_live_if (is_live e) e (filter is_live es) refl (all_live es)
 
--- one transaction is hit
+-- one transaction is changed
 no_hit : (k lo : ℕ) (f : Entry → Entry) (es : List Entry) (hi : ℕ) → k < lo → Rising lo es hi → AllLive es → filter is_live (map (hit k f) es) ≡ es
 no_hit k lo f [] hi l r a = refl
 no_hit k lo f (e ∷ es) hi l r a =

@@ -1,4 +1,4 @@
--- The orders of names and of what transactions wait for; what a search by name finds.
+-- The orders of match keys and of deadline keys; what a search by match key finds.
 use Rattle.std.proofs.Common.{◌≡◌, ℕ, ◌<◌, Bool, true, false, cond, not, ◌&&◌, nat_lt, nat_eq, List, [], ◌∷◌, refl, sym, ap, ◌∙◌, arith, Some, None}
 use Rattle.std.specs.Prelude.{slice_get, option_map, ◌==◌}
 use Rattle.std.specs.List.{find}
@@ -44,7 +44,7 @@ same_list [] (y ∷ ys) q = absurd cc
 same_list (x ∷ xs) [] q = absurd cc
 same_list (x ∷ xs) (y ∷ ys) q = same_first x y xs ys (nat_cmp x y) refl q (same_list xs ys)
 
--- of a mark and a later name: what does not come before the mark, and comes before the name, is alike
+-- of a search key and a later match key: what does not come before the search key, and comes before the match key, has the same parts
 decided : (t a b c d k z : Ordering) → ordering_then t (ordering_then a (ordering_then b (ordering_then c (ordering_then d k)))) ≡ Less → is_lt (ordering_then t (ordering_then a (ordering_then b (ordering_then c (ordering_then d z))))) ≡ false → (t ≡ Equal) × (a ≡ Equal) × (b ≡ Equal) × (c ≡ Equal) × (d ≡ Equal) × (k ≡ Less)
 decided Less a b c d k z l n = absurd cc
 decided Greater a b c d k z l n = absurd cc
@@ -107,7 +107,7 @@ module _ (b s m : List ℕ) (n : ℕ) where
       (ap (λ y. nat_cmp y n) a.number ∙ tied_itself nat_cmp_total n)
       (not_less x.key)
 
-  -- of one that is alike the bound says the same
+  -- for one with the same parts the bound says the same
   as_bound : (x y : Name) → Alike x → name_cmp y x ≡ Less → ordering_then (nat_cmp y.told (told_of b)) (ordering_then (slice_cmp nat_cmp y.id b) (ordering_then (slice_cmp nat_cmp y.from s) (ordering_then (slice_cmp nat_cmp y.method m) (ordering_then (nat_cmp y.number n) (nat_cmp y.key x.key))))) ≡ Less
   as_bound x y a l =
       ap (λ z. ordering_then (nat_cmp y.told z) (ordering_then (slice_cmp nat_cmp y.id b) (ordering_then (slice_cmp nat_cmp y.from s) (ordering_then (slice_cmp nat_cmp y.method m) (ordering_then (nat_cmp y.number n) (nat_cmp y.key x.key)))))) (sym a.told)
@@ -123,7 +123,7 @@ module _ (b s m : List ℕ) (n : ℕ) where
       let d = decided (nat_cmp y.told (told_of b)) (slice_cmp nat_cmp y.id b) (slice_cmp nat_cmp y.from s) (slice_cmp nat_cmp y.method m) (nat_cmp y.number n) (nat_cmp y.key x.key) (nat_cmp y.key 0) l t in
       (hits y (ranked y.told (told_of b) Equal (sym d.0)) (same_list y.id b d.1) (same_list y.from s d.2) (same_list y.method m d.3) (ranked y.number n Equal (sym d.4)), ranked y.key x.key Less (sym d.5))
 
--- of equal bytes one number is told
+-- equal bytes have the same hash
 pub told_alike : (bytes others : List ℕ) → bytes_eq bytes others ≡ true → (told_of bytes == told_of others) ≡ true
 told_alike bytes others q = eq-eqb (told_of bytes) (told_of others) (ap told_of ((bytes_eq-Decides bytes others).0 q))
 

@@ -20,7 +20,7 @@ use Rattle.mmtel_transaction.proofs.Having.{at_key, has_live, has_more_back, of_
 abbrev pub NotBefore : ℕ → Entry → Next → Type 0
 NotBefore a e n = is_before a e n.at n.entry ≡ false
 
--- of two the sooner
+-- of two the earlier
 sooner_none : (o : Option Next) (n : Next) → sooner None o ≡ Some n → o ≡ Some n
 sooner_none o n q = q
 
@@ -53,7 +53,7 @@ due_is now e (Some a) n q = either (nat_le a now) refl q
 due_some : (now a : ℕ) (e : Entry) → deadline e ≡ Some a → a ≤ now → due_one now e (deadline e) ≡ Some (record { at = a; entry = e })
 due_some now a e q l = ap (due_one now e) q ∙ ap (λ t. cond t (Some (let r : Next = record { at = a; entry = e } in r)) None) (le-leb a now l)
 
--- the next one stands among them, is due, and none that is due comes before it
+-- the next one is among them, is due, and none that is due comes before it
 pub record IsNext (now : ℕ) (es : List Entry) (n : Next) : Type 0 where
   pub stands : Has n.entry es
   pub moment : deadline n.entry ≡ Some n.at
@@ -140,7 +140,7 @@ first_due h now n q =
       first = λ k a e f d. first_of_all h now n q a e (of_key h k e f).0 d;
     }
 
--- nothing that a transaction waits for comes before what fires
+-- no deadline of a transaction comes before what fires
 first_of_alarms : (h : List Done) (now : ℕ) (n : Next) → next_due now (live h) ≡ Some n → (e : Entry) (p : Option ℕ) (b : Alarm) → Has e (live h) → alarm_in e p ≡ Some b → before b.at b.step b.order n.at (step_due n.entry) (order_due n.entry) ≡ false
 first_of_alarms h now n q e p b g r = either (deadline e) refl
   where
@@ -148,7 +148,7 @@ first_of_alarms h now n q e p b g r = either (deadline e) refl
     either None d = absurd (none-some b (sym (no_alarm e d p) ∙ r))
     either (Some a) d = through b.at b.step b.order a (step_due e) (order_due e) n.at (step_due n.entry) (order_due n.entry) (none_before e a d p b r) (first_of_all h now n q a e g d)
 
--- what a transaction waits for in one of its messages, after a deadline that fired
+-- the deadline of one message of a transaction, after a deadline that fired
 record IsAfter (x : Next) (e : Entry) (p : Option ℕ) (b : Alarm) : Type 0 where
   order : before b.at b.step b.order x.at (step_due x.entry) (order_due x.entry) ≡ false
   once : e.key ≡ x.entry.key → p ≡ message_due x.entry → x.at < b.at
@@ -163,7 +163,7 @@ abbrev Bound : Next → List Entry → Type 0
 Bound x es = (e : Entry) (p : Option ℕ) (b : Alarm) → Has e es → alarm_in e p ≡ Some b → IsAfter x e p b
 
 module _ (h : List Done) (now : ℕ) (n : Next) (q : next_due now (live h) ≡ Some n) where
-  -- it waits until later, or as before, and not for the message that fired
+  -- its deadline is later than what fired, or as before and not that of the message that fired
   record StoodSo (e : Entry) (p : Option ℕ) (b : Alarm) : Type 0 where
     entry : Entry
     stands : Has entry (live h)

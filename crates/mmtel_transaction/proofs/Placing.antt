@@ -1,4 +1,4 @@
--- Where the transaction of a key stands among transactions whose keys rise.
+-- The position of the transaction of a key among transactions whose keys rise.
 use Rattle.std.proofs.Common.{◌≡◌, ℕ, zero, suc, ◌+◌, ◌-◌, ◌≤◌, ◌<◌, Bool, true, false, cond, not, List, [], ◌∷◌, length, get_or, set, remove, ◌++◌, refl, sym, ap, ◌∙◌, subst, arith, inl, inr, Some, None, Option, Result, Ok, Err, IfOk, IfErr}
 use Rattle.std.specs.Prelude.{◌==◌, nat_lt, slice_get, option_map, Box}
 use Rattle.std.specs.List.{AllByRecursion, find, position, position_or_len}
@@ -107,7 +107,7 @@ searched_boxes k bs (Err i) rises range said =
     let w = searched (λ (b : Box Entry _). b.value.key) k bs (Err i) (boxes_rise bs rises) range said in
     record { found = tt; absent = position_unboxed k bs ∙ w.absent }
 
--- a box of the key, at its place
+-- a box of the key, at its position
 pub placed_box : {A : Type 0} (k : ℕ) (bs : List (Box Entry A)) (i : ℕ) (b : Box Entry A) → Rises (λ (e : Entry). e.key) (unboxed bs) → i < length bs → b ≡ get_or bs i b → b.value.key ≡ k → position (is_of k) (unboxed bs) ≡ Some i
 placed_box k bs i b rises inside at same = position_unboxed k bs ∙ placed (λ (c : Box Entry _). c.value.key) k bs i b (boxes_rise bs rises) inside at same
 
@@ -124,7 +124,7 @@ box_at k bs i b x at e q = read_unboxed bs i b x (unboxed bs) (position-Some (is
 pub removed_boxed : {X A : Type 0} (bs cs : List (Box X A)) (i : ℕ) (b : Box X A) → cs ≡ remove (set bs i b) i → unboxed cs ≡ remove (set (unboxed bs) i b.value) i
 removed_boxed bs cs i b e = ap unboxed e ∙ (remove_unboxed (set bs i b) i ∙ ap (λ xs. remove xs i) (set_unboxed bs i b))
 
--- the transaction of a key is the one at its place
+-- the transaction of a key is the one at its position
 pub found_there : (k : ℕ) (es : List Entry) (i : ℕ) (x : Entry) → position (is_of k) es ≡ Some i → x ≡ get_or es i x → Some x ≡ by_key k es
 found_there k es i x at q =
     let inside : i < length es = (position-Some (is_of k) es i x at).0 in

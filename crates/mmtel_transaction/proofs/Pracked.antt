@@ -1,4 +1,4 @@
--- A reliable answer is sent again until it is settled or a final is offered.
+-- A reliable response is retransmitted until it is settled or a final is sent.
 use Rattle.std.proofs.Common.{◌≡◌, ℕ, zero, suc, ◌+◌, ◌≤◌, ◌<◌, List, [], ◌∷◌, ◌++◌, length, refl, true, false, Bool, not, ◌&&◌, ◌||◌, inl, inr, sym, ap, ◌∙◌, arith, cond, subst}
 use Rattle.std.specs.Prelude.{Option, Some, None, ◌==◌, codes, filter, is_some, nat_le, nat_lt, option_map, slice_get}
 use Rattle.std.specs.Option.{option_or}
@@ -40,7 +40,7 @@ use Rattle.mmtel_transaction.proofs.Lists.{keeps_answered, keeps_change}
 use Rattle.mmtel_transaction.proofs.Order.{is_next, none_due}
 use Rattle.mmtel_transaction.proofs.Repeats.{no_answer}
 
--- ---- answers in a list
+-- ---- responses in a list
 
 get_left : (xs ys : List ReliableAnswer) (i : ℕ) (a : ReliableAnswer) → slice_get xs i ≡ Some a → slice_get (xs ++ ys) i ≡ Some a
 get_left [] ys i a q = absurd (none-some a q)
@@ -92,9 +92,9 @@ alarm_is [] i a q = absurd (none-some a q)
 alarm_is (x ∷ xs) zero a q = ap alarm_of (same_Some x a q)
 alarm_is (x ∷ xs) (suc i) a q = alarm_is xs i a q
 
--- ---- where answers wait
+-- ---- where responses wait
 
--- without a final the plan of a server transaction is idle; with one, and in a client transaction, no answer waits
+-- without a final the state of a server transaction has no deadline; with one, and in a client transaction, no response waits
 record IsOpen (e : Entry) : Type 0 where
   idle : e.is_server ≡ true → (e.done == 0) ≡ true → is_idle e.plan ≡ true
   none : (e.done == 0) ≡ false → e.reliable ≡ []
@@ -117,7 +117,7 @@ answered_same s st now e = same_answers (is_provisional st) (rang s now e) (fini
     (same_answers (not (is_invite e.asked)) _ _ e.reliable refl (same_answers (not (e.done == 0)) _ _ e.reliable refl refl))
 
 module _ (e : Entry) (o : IsOpen e) where
-  -- where the guard of offers lets through
+  -- where the condition for sending holds
   guard_server : (not e.is_server || not (e.done == 0)) ≡ false → e.is_server ≡ true
   guard_server q = not-false e.is_server (or_parts (not e.is_server) (not (e.done == 0)) q).0
 
@@ -233,7 +233,7 @@ is_open (c ∷ h) r e g = elim (has_more_back c h e g) [
 pub finals_end : FinalsEndAnswers
 finals_end h key e run q d = (is_open h run e (of_key h key e q).0).none (ne_eqb e.done 0 d)
 
--- ---- an answer with a number
+-- ---- a response with a number
 
 status_is : (m : Message Start) → (head_of m).status ≡ code_of m.start
 unfolding head_of
@@ -254,9 +254,9 @@ number_code m own q = (and_parts (nat_le 101 (code_of m.start)) (nat_lt (code_of
 is_early : (m : Message Start) (own : ℕ) → reliable_number m ≡ Some own → is_provisional (head_of m).status ≡ true
 is_early m own q = ap (λ n. nat_lt n 200) (status_is m) ∙ number_code m own q
 
--- ---- from call to call
+-- ---- from operation to operation
 
--- the transaction that a call leaves so
+-- the transaction that an operation leaves so
 module _ (c : Done) (h : List Done) (key : ℕ) (e x : Entry) (u : IsUnanswered key h e) (same : change (step_of h) (offers h) c e ≡ x) (alive : is_live x ≡ true) (server : x.is_server ≡ e.is_server) (undone : x.done ≡ e.done) where
   left_live : by_key key (live (c ∷ h)) ≡ Some x
   left_live =
@@ -267,7 +267,7 @@ module _ (c : Done) (h : List Done) (key : ℕ) (e x : Entry) (u : IsUnanswered 
   left_so : (place : ℕ) (a : ReliableAnswer) → slice_get x.reliable place ≡ Some a → (y : Entry) × (next : ℕ) × WaitsAt key (c ∷ h) y next a
   left_so place a q = (x, place, record { unanswered = record { live = left_live; server = server ∙ u.server; undone = undone ∙ u.undone }; there = q })
 
--- an early answer, reliable or not, that is offered there
+-- a provisional response, reliable or not, that is sent there
 abbrev more_answers : Option ReliableAnswer → List ReliableAnswer → List ReliableAnswer
 more_answers None xs = xs
 more_answers (Some a) xs = xs ++ a ∷ []
@@ -313,7 +313,7 @@ module _ (h : List Done) (key : ℕ) (e : Entry) (place : ℕ) (a : ReliableAnsw
   abbrev GoesOn : Done → ReliableAnswer → Type 0
   GoesOn c b = (x : Entry) × (next : ℕ) × WaitsAt key (c ∷ h) x next b
 
-  -- a call that changes nothing of it
+  -- an operation that changes nothing of it
   quiet : (c : Done) → change (step_of h) (offers h) c e ≡ e → GoesOn c a
   quiet c same = left_so c h key e e u same (alive h key e u) refl refl place a w.there
 
@@ -347,7 +347,7 @@ module _ (h : List Done) (key : ℕ) (e : Entry) (place : ℕ) (a : ReliableAnsw
   heard_on run p m now part.AckOf2xx q = quiet (DidHear p m now part.AckOf2xx) (ap (λ b. cond b (record e { is_acked = true; plan = End; step = step_of h }) e) (no_2xx run (head_of m)))
   heard_on run p m now part.Stray q = quiet (DidHear p m now part.Stray) refl
 
-  -- the test of a call's key, from both sides
+  -- the comparison of an operation's key, from both sides
   turned : (j : ℕ) → (e.key == j) ≡ (j == key)
   turned j = ap (λ n. n == j) (of_key h key e u.live).1 ∙ either (key == j) (j == key) refl refl
     where
@@ -392,7 +392,7 @@ module _ (h : List Done) (key : ℕ) (e : Entry) (place : ℕ) (a : ReliableAnsw
       either false k r = quiet (DidSettle j own) (hit_none j _ (turned j ∙ k))
       either true k r = by_own own (turned j ∙ k) r
 
-  -- its transaction waits for an answer
+  -- the next deadline of its transaction is that of a response
   next_answer : IsRun h → IsNextOf key h → (f : ℕ × Alarm) × (foremost_in e ≡ Some f)
   next_answer run r =
       let n : Next = r.next in
@@ -447,7 +447,7 @@ module _ (h : List Done) (key : ℕ) (e : Entry) (place : ℕ) (a : ReliableAnsw
       either None p = absurd (none-some (record { at = at; step = a.step; order = a.order }) (sym (no_alarm e p (Some place)) ∙ in_it))
       either (Some d) p = elim (cases_lt now at) [ inl l ↦ l | inr l ↦ absurd (late d p l) ]
 
-  -- the answer that is foremost is this one
+  -- the response that is first is this one
   foremost_it : (n : Next) (now : ℕ) → next_due now (live h) ≡ Some n → n.entry.key ≡ key → message_due n.entry ≡ Some place → (n.entry ≡ e) × ((f : ℕ × Alarm) × (foremost_in e ≡ Some f) × (f.0 ≡ place) × (f.1.at ≡ n.at))
   foremost_it n now q k m = (same, either (foremost_in e) refl (ap message_due (sym same) ∙ m))
     where

@@ -1,4 +1,4 @@
--- The tables after a transaction was added, and after it was not; the tables of none.
+-- The tables after a transaction was added, and after it was not; the empty tables.
 use Rattle.std.proofs.Common.{◌≡◌, ℕ, zero, suc, ◌≤◌, ◌<◌, true, false, List, [], ◌∷◌, ◌++◌, length, refl, sym, ap, ◌∙◌, subst, arith, insert, remove}
 use Rattle.std.specs.declared.cmp.Ordering.{Ordering}
 use Rattle.mmtel_timers.specs.Shelves.{Has}
@@ -26,7 +26,7 @@ undo zero y xs l = refl
 undo (suc p) y [] l = absurd (omega (arith, l))
 undo (suc p) y (x ∷ xs) l = ap (λ zs. x ∷ zs) (undo p y xs (omega (arith, l)))
 
--- what was put in and taken out again
+-- what was inserted and removed again
 pub undone : {X : Type 0} (R : X → X → Ordering) (y : X) (p : ℕ) (xs ys zs : List X) → Puts R y p xs ys → zs ≡ remove ys p → zs ≡ xs
 undone R y p xs ys zs u e = e ∙ (ap (λ l. remove l p) u.put ∙ undo p y xs u.within)
 

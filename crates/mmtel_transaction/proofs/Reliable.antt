@@ -1,4 +1,4 @@
--- Of reliable answers the one that is sent again first.
+-- The reliable response that is retransmitted first.
 use Rattle.std.proofs.Common.{◌≡◌, ℕ, zero, suc, ◌+◌, ◌≤◌, ◌<◌, ◌^◌, ◌⊎◌, inl, inr, Bool, true, false, cond, not, ◌&&◌, ◌||◌, List, [], ◌∷◌, length, drop, take, ◌++◌, refl, sym, ap, ◌∙◌, subst, add-one, arith}
 use Rattle.std.proofs.Common.{get_or, Some, None, Option}
 use Rattle.std.specs.Prelude.{nat_lt, nat_eq, ◌==◌, slice_get, IfSome, is_some, option_map}
@@ -105,7 +105,7 @@ not_sooner_then x y z p q =
     lex_not_then x.at y.at z.at (lex x.step y.step (nat_lt x.order y.order)) (lex y.step z.step (nat_lt y.order z.order)) (lex x.step z.step (nat_lt x.order z.order)) p q
     (λ r s. lex_not_then x.step y.step z.step (nat_lt x.order y.order) (nat_lt y.order z.order) (nat_lt x.order z.order) r s (least_not_then x.order y.order z.order))
 
--- of three the first, from whichever side it is looked for
+-- of three the first, from whichever side it is determined
 three : (x y z : ℕ × Alarm) (p q : Bool) → is_sooner y.1 x.1 ≡ p → is_sooner z.1 y.1 ≡ q → sooner_of (Some (cond p y x)) (Some z) ≡ sooner_of (Some x) (Some (cond q z y))
 three x y z true true e f = let w : is_sooner z.1 x.1 ≡ true = sooner_then z.1 y.1 x.1 f e in rw (f, w) refl
 three x y z true false e f = rw (f, e) refl
@@ -118,7 +118,7 @@ sooner_both (Some x) None z = refl
 sooner_both (Some x) (Some y) None = refl
 sooner_both (Some x) (Some y) (Some z) = three x y z (is_sooner y.1 x.1) (is_sooner z.1 y.1) refl refl
 
--- one answer after the other
+-- one response after the other
 pub foremost_next : (first : Option (ℕ × Alarm)) (answers : List ReliableAnswer) (place : ℕ) (answer : ReliableAnswer) → slice_get answers place ≡ Some answer →
     sooner_of (sooner_of first (at_place place (alarm_of answer))) (foremost_from (suc place) (drop (suc place) answers)) ≡ sooner_of first (foremost_from place (drop place answers))
 foremost_next first answers place answer at =
@@ -139,7 +139,7 @@ foremost_past first [] place (suc k) e = absurd (omega (arith, e))
 foremost_past first (x ∷ xs) place zero e = absurd (omega (arith, e))
 foremost_past first (x ∷ xs) place (suc k) e = foremost_past first xs place k (omega (arith, e))
 
--- the answer that is first stands at its place, and has its deadline
+-- the response that is first is at its position, and has its deadline
 pub record IsAt (answers : List ReliableAnswer) (place : ℕ) (alarm : Alarm) : Type 0 where
   pub answer : ReliableAnswer
   pub there : slice_get answers place ≡ Some answer
@@ -158,7 +158,7 @@ own_alarm : (place : ℕ) (o : Option Alarm) (f : ℕ × Alarm) → at_place pla
 own_alarm place None f q = absurd (none-some f q)
 own_alarm place (Some a) f q = let w = same_Some (place, a) f q in (ap (λ (p : ℕ × Alarm). p.0) w, ap (λ (p : ℕ × Alarm). Some p.1) w)
 
--- counted from a place on
+-- counted from a position on
 foremost_is : (from : ℕ) (answers : List ReliableAnswer) (f : ℕ × Alarm) → foremost_from from answers ≡ Some f → (k : ℕ) × (f.0 ≡ from + k) × IsAt answers k f.1
 foremost_is from [] f q = absurd (none-some f q)
 foremost_is from (x ∷ xs) f q = elim (sooner_one (at_place from (alarm_of x)) (foremost_from (suc from) xs) f q) [
@@ -169,7 +169,7 @@ foremost_is from (x ∷ xs) f q = elim (sooner_one (at_place from (alarm_of x)) 
 pub foremost_at : (answers : List ReliableAnswer) (f : ℕ × Alarm) → foremost answers ≡ Some f → IsAt answers f.0 f.1
 foremost_at answers f q = let w = foremost_is 0 answers f q in let same : w.0 ≡ f.0 = omega (arith, w.1) in subst (λ k. IsAt answers k f.1) same w.2
 
--- so of a transaction whose plan waits for nothing
+-- so of a transaction whose state has no deadline
 pub foremost_in_at : (e : Entry) (f : ℕ × Alarm) → foremost_in e ≡ Some f → IsAt e.reliable f.0 f.1
 foremost_in_at e f q = either (is_idle e.plan) q
   where
@@ -177,7 +177,7 @@ foremost_in_at e f q = either (is_idle e.plan) q
     either true r = foremost_at e.reliable f r
     either false r = absurd (none-some f r)
 
--- what is sent again was not sent so often that it cannot be counted
+-- what is retransmitted was not retransmitted so often that it cannot be counted
 pub few_answers : (answer : ReliableAnswer) (alarm : Alarm) → alarm_of answer ≡ Some alarm → answer.shots + 1 < 2 ^ 64
 few_answers answer alarm q =
     let w : is_some (counted answer.start (moments_of schedule.Invite) answer.shots) ≡ true = some (counted answer.start (moments_of schedule.Invite) answer.shots) q in
@@ -190,7 +190,7 @@ few_answers answer alarm q =
 pub few_there : (answers : List ReliableAnswer) (place : ℕ) (alarm : Alarm) → IsAt answers place alarm → IfSome (slice_get answers place) (λ answer. answer.shots + 1 < 2 ^ 64)
 few_there answers place alarm w = subst (λ o. IfSome o (λ (x : ReliableAnswer). x.shots + 1 < 2 ^ 64)) (sym w.there) (few_answers w.answer alarm w.alarmed)
 
--- ---- answers of a number
+-- ---- responses of a number
 
 module _ (own : ℕ) where
   abbrev pub has_own : ReliableAnswer → Bool
@@ -200,7 +200,7 @@ module _ (own : ℕ) where
   taken true x xs ys e q = q
   taken false x xs ys e q = absurd cc
 
-  -- the one at the place of the first one is left out
+  -- the one at the position of the first one is left out
   pub without_first : (xs : List ReliableAnswer) (k : ℕ) → k < length xs → (x : ReliableAnswer) → slice_get xs k ≡ Some x → has_own x ≡ true → without_own own (take k xs ++ drop (suc k) xs) ≡ without_own own xs
   without_first [] k l x e t = absurd (none-some x e)
   without_first (y ∷ xs) zero l x e t = sym (taken (has_own y) y xs (without_own own xs) (ap has_own (same_Some y x e) ∙ t) refl)

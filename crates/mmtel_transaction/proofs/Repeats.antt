@@ -1,4 +1,4 @@
--- A request that is heard again opens nothing until the end of its transaction was given.
+-- A request that is received again opens nothing until the end of its transaction was reported.
 use Rattle.std.proofs.Common.{◌≡◌, ℕ, ◌+◌, List, [], ◌∷◌, ◌++◌, length, refl, true, false, Bool, not, ◌&&◌, ◌||◌, ◌⊎◌, inl, inr, sym, ap, ◌∙◌, cond, subst, append-nil}
 use Rattle.std.specs.Prelude.{Option, Some, None, ◌==◌, is_some, option_map}
 use Rattle.std.specs.Option.{option_or}
@@ -73,12 +73,12 @@ serving_settled : (own : Option ℕ) (e : Entry) → IsServing e → IsServing (
 serving_settled None e s = record { live = s.live; plan = s.plan }
 serving_settled (Some own) e s = record { live = s.live; plan = s.plan }
 
--- for as long as a message of it is sent again
+-- for as long as a message of it is retransmitted
 serving_fired : (o : Option (ℕ × Alarm)) (step a : ℕ) (e : Entry) → IsServing e → option_or (option_map (λ (f : ℕ × Alarm). f.1.at) o) (planned_at e) ≡ Some a → IsServing (fired_by o step e)
 serving_fired (Some f) step a e s q = record { live = s.live; plan = s.plan }
 serving_fired None step a e s q = subst (λ o. IsServing (cond (is_some o) (record e { shots = e.shots + 1; step = step }) (record e { is_over = true }))) (sym q) (record { live = s.live; plan = s.plan })
 
--- a response is taken for one to a client transaction
+-- a response is classified as one to a client transaction
 ack_no_answer : (j : ℕ) (o : Option Entry) → part.Answer j ≡ part_ack o → ⊥
 ack_no_answer j None q = cc
 ack_no_answer j (Some e) q = either e.is_refused q
@@ -116,7 +116,7 @@ no_answer h m j e q g s k =
     let y : x ≡ e = same_entry h x e v.0 g (sym w.2 ∙ sym k) in
     both_ways e.is_server (ap (λ (z : Entry). z.is_server) (sym y) ∙ client_of m x v.1) s
 
--- the last deadline of a server transaction gives its end
+-- the last deadline of a server transaction reports its end
 ends_if : (p : Plan) (start at a : ℕ) → is_servers p ≡ true → last_by p start at ≡ Some a → ends p ≡ true
 ends_if Idle start at a s q = absurd (none-some a q)
 ends_if Invite start at a s q = absurd cc
@@ -144,7 +144,7 @@ gives_end h j e r g s k f =
       call = ap (fires h) r.first ∙ ap (λ i. DidFire i ∷ h) r.same;
     }
 
--- a server transaction after one more call of a run: it goes on, or its end was given
+-- a server transaction after one more operation of a run: it continues, or its end was reported
 module _ (h : List Done) (e : Entry) (g : Has e (live h)) (server : e.is_server ≡ true) (s : IsServing e) where
   fire_if : (t : Bool) (j : ℕ) → IsNextOf j h → (e.key == j) ≡ t → IsServing (cond t (fired (step_of h) e) e) ⊎ GivesEnd e.key (DidFire j) h
   fire_if false j r k = inl s
@@ -208,7 +208,7 @@ tracked_since h g p m t r =
 repeat_if : (r a full : Bool) (o : Option Entry) (x : Part) (e : Entry) → r ≡ true → a ≡ false → o ≡ Some e → cond r (cond a (part_ack o) (part_request full o)) x ≡ part.Repeat e.key
 repeat_if r a full o x e p q f = rw (p, q, f) refl
 
--- a repeat of its request belongs to it
+-- a retransmission of its request belongs to it
 module _ (h : List Done) (r : IsRun h) (k : ℕ) (p q : Peer) (m n : Message Start) (i : IsRepeatOf (head_of m) (head_of n)) (e : Entry) (g : Has e (live h)) (t : Tracks k p (head_of m) e) where
   is_its : is_server_of (head_of n) e ≡ true
   is_its =

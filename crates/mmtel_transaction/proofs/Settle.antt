@@ -1,4 +1,4 @@
--- Deadlines in a row come to an end.
+-- Successive deadlines terminate.
 use Rattle.std.proofs.Common.{◌≡◌, ℕ, zero, suc, ◌+◌, ◌≤◌, ◌<◌, List, [], ◌∷◌, refl, true, false, Bool, ◌⊎◌, inl, inr, sym, ap, ◌∙◌, arith, cond, subst}
 use Rattle.std.specs.Prelude.{Option, Some, None, ◌==◌, option_map, slice_get, sum_by}
 use Rattle.std.specs.Option.{option_or}
@@ -61,9 +61,9 @@ none_is_due h now key a e q f d = elim (cases_lt now a) [
   | inr l ↦ absurd (none_due now (live h) a e (no_next (next_due now (live h)) q) d l (of_key h key e f).0)
 ]
 
--- ---- what is left falls
+-- ---- the remaining time falls
 
--- what is sent again is sent again before the last moment
+-- what is retransmitted is retransmitted before the last moment
 within : (start a : ℕ) (ds : List ℕ) (k : ℕ) → ((d j : ℕ) → slice_get ds j ≡ Some d → d < 32000) → option_map (λ d. start + d) (slice_get ds k) ≡ Some a → a < start + 32000
 within start a ds k f q = let w = counted_at start (slice_get ds k) a q in omega (arith, w.2, f w.0 k w.1)
 
@@ -85,7 +85,7 @@ others_below = (omega arith, (omega arith, (omega arith, (omega arith, (omega ar
 answers_below : AreBelow 31501 (moments_of schedule.Invite)
 answers_below = (omega arith, (omega arith, (omega arith, (omega arith, (omega arith, (omega arith, tt))))))
 
--- a plan by which something is sent again has a last moment, which is later
+-- a state by which something is retransmitted has a last moment, which is later
 has_last : (p : Plan) (start opened k a : ℕ) → resend_by p start opened k ≡ Some a → (last : ℕ) × (last_by p start opened ≡ Some last) × (a < last)
 has_last Idle start opened k a q = absurd (none-some a q)
 has_last Invite start opened k a q = (start + 32000, refl, within start a (moments_of schedule.Invite) k (below_at 32000 (moments_of schedule.Invite) invites_below) q)
@@ -103,7 +103,7 @@ less_if : (a last : ℕ) (o : Option ℕ) → a < last → ((b : ℕ) → o ≡ 
 less_if a last None l f = omega (arith, l)
 less_if a last (Some b) l f = omega (arith, l, f b refl)
 
--- a plan that fires has less left, if its transaction is still live
+-- a state whose deadline fires has less time remaining, if its transaction is still live
 plan_less : (s a : ℕ) (e : Entry) → option_or (planned_at e) (last_at e) ≡ Some a → is_live (planned s e) ≡ true → suc (planned_left (planned s e)) ≤ planned_left e
 plan_less s a e q l = either (planned_at e) refl
   where
@@ -116,7 +116,7 @@ plan_less s a e q l = either (planned_at e) refl
         let less = less_if a w.0 (option_or (planned_at (planned s e)) (last_at (planned s e))) (omega (arith, same, w.2)) (λ c r. planned_later s a c e q l r) in
         subst (λ x. suc (left_by (option_or (planned_at (planned s e)) (last_at (planned s e))) x) ≤ planned_left e) (sym same_last) (subst (λ x. suc (left_by (option_or (planned_at (planned s e)) (last_at (planned s e))) (Some w.0)) ≤ left_by x (last_at e)) (sym q) (subst (λ x. suc (left_by (option_or (planned_at (planned s e)) (last_at (planned s e))) (Some w.0)) ≤ left_by (Some a) x) (sym w.1) less))
 
--- so has an answer that is sent again
+-- so has a response that is retransmitted
 moment_some : (o : Option Alarm) (b : ℕ) → option_map (λ (a : Alarm). a.at) o ≡ Some b → (c : Alarm) × (o ≡ Some c) × (c.at ≡ b)
 moment_some None b q = absurd (none-some b q)
 moment_some (Some c) b q = (c, refl, same_Some c.at b q)
@@ -159,14 +159,14 @@ answers_some zero (x ∷ xs) a q =
     omega (arith, l)
 answers_some (suc place) (x ∷ xs) a q = let l = answers_some place xs a q in omega (arith, l)
 
--- what is left of a transaction, by its plan
+-- the remaining time of a transaction, by its state
 idle_left : (e : Entry) → is_idle e.plan ≡ true → time_left e ≡ answers_left e.reliable
 idle_left e t = ap (λ b. cond b (sum_by answer_left e.reliable) (planned_left e)) t ∙ sym (are_left e.reliable)
 
 busy_left : (e : Entry) → is_idle e.plan ≡ false → time_left e ≡ planned_left e
 busy_left e t = ap (λ b. cond b (sum_by answer_left e.reliable) (planned_left e)) t
 
--- a transaction whose deadline fires has less left, if it is still live
+-- a transaction whose deadline fires has less time remaining, if it is still live
 fired_less : (s a : ℕ) (e : Entry) → deadline e ≡ Some a → is_live (fired s e) ≡ true → suc (time_left (fired s e)) ≤ time_left e
 fired_less s a e q l = elim (which e a q) [
   | inl w ↦
@@ -195,7 +195,7 @@ fires_some a e q = elim (which e a q) [
       omega (arith, before, some)
 ]
 
--- a sum over transactions falls where that of the one that is changed falls
+-- a sum over transactions falls where the term of the one that is changed falls
 abbrev pub total : (Entry → ℕ) → List Entry → ℕ
 total W [] = 0
 total W (e ∷ es) = W e + total W es

@@ -1,4 +1,4 @@
--- The tables after a transaction was changed at its place.
+-- The tables after a transaction was changed at its position.
 use Rattle.std.proofs.Common.{◌≡◌, ℕ, zero, suc, ◌<◌, true, false, not, cond, List, [], ◌∷◌, length, get_or, set, map, sym, refl, ap, ◌∙◌, subst, arith, inl, inr, Some, None, insert, remove, Bool}
 use Rattle.std.specs.Prelude.{slice_get}
 use Rattle.std.specs.List.{position}

@@ -1,4 +1,4 @@
--- A request that nobody answers: for each peer, message and moment.
+-- A request that gets no response: for each peer, message and moment.
 use Rattle.std.proofs.Common.{◌≡◌, ℕ, suc, ◌+◌, ◌≤◌, List, [], ◌∷◌, ◌++◌, length, map, refl, true, false, arith, Bool, sym, ap, ◌∙◌, cond}
 use Rattle.std.specs.Prelude.{nat_le, Option, Some, None, is_some, option_map, slice_get}
 use Rattle.std.specs.Option.{option_or}
@@ -38,7 +38,7 @@ pub dues_one : (n now at : ℕ) (h : List Done) (e : Entry) → live h ≡ e ∷
 unfolding said_in_turn
 dues_one n now at h e l d p = ap (λ o. says_due o ∷ said_in_turn n now (fires h o)) (ap (next_due now) l ∙ only now at e d p)
 
--- nothing is left
+-- nothing remains
 dues_last : (now : ℕ) (h : List Done) → live h ≡ [] → said_in_turn 1 now h ≡ due.Nothing ∷ []
 unfolding said_in_turn
 dues_last now h l = ap (λ es. says_due (next_due now es) ∷ []) l
@@ -52,7 +52,7 @@ live_one h e x l q v = fired_live h e l ∙ settle_one e x (fired (step_of h)) q
 pub live_none : (h : List Done) (e x : Entry) → live h ≡ e ∷ [] → fired (step_of h) e ≡ x → is_live x ≡ false → live (DidFire e.key ∷ h) ≡ []
 live_none h e x l q v = fired_live h e l ∙ settle_gone e x (fired (step_of h)) q v
 
--- what is said of a deadline, by whether the message is sent again
+-- the result of a deadline, by whether the message is retransmitted
 says_again : (n : Next) (x : ℕ) → is_idle n.entry.plan ≡ false → resend_at n.entry ≡ Some x → says_due (Some n) ≡ due.Again n.entry.peer n.at (text_planned n.entry)
 says_again n x b q =
     ap (λ o. cond (is_some o) (due.Again n.entry.peer n.at (text_again n.entry)) (cond (ends n.entry.plan) (due.Over (tkey n.entry.key) n.at) (due.Silent (tkey n.entry.key) n.entry.asked.branch n.entry.asked.method n.at))) q
@@ -73,7 +73,7 @@ AreWithin (d ∷ ds) = (d ≤ 32000) × AreWithin ds
 past : (a b c : ℕ) → a + 32000 ≤ c → b ≤ 32000 → nat_le (a + b) c ≡ true
 past a b c l m = grind (arith, nat_tests)
 
--- a request that was asked, of this plan, after so many times
+-- a request that was sent, in this state, after so many times
 abbrev waiting : ℕ → ℕ → ℕ → Peer → Message Start → ℕ → Plan → ℕ → Entry
 waiting s i key p m t plan k = record (asked_first s i key p (head_of m) (message_text m) t) { plan = plan; shots = k }
 
@@ -101,7 +101,7 @@ module _ (step i key : ℕ) (p : Peer) (m : Message Start) (t now : ℕ) (plan :
       (λ j. ap (slice_get moments) (let a : (k + 1) + j ≡ k + suc j = omega arith in a) ∙ q (suc j))
       w.1)))
 
--- it is asked where no transaction is live
+-- it is sent where no transaction is live
 asked_alone : (h : List Done) (p : Peer) (m : Message Start) (t : ℕ) (b : Bool) → live h ≡ [] → is_invite (head_of m) ≡ b → live (DidAsk p m t ∷ h) ≡ waiting (step_of h) (offers h) (length (opened h)) p m t (cond b Invite Other) 0 ∷ []
 asked_alone h p m t b l q =
     let e : Entry = asked_first (step_of h) (offers h) (length (opened h)) p (head_of m) (message_text m) t in

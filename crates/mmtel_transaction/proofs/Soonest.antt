@@ -1,4 +1,4 @@
--- What stands first among what transactions wait for is the next deadline.
+-- The first deadline key of the transactions is that of the next deadline.
 use Rattle.std.proofs.Common.{◌≡◌, ℕ, ◌-◌, ◌^◌, ◌<◌, ◌≤◌, Bool, true, false, cond, ◌&&◌, ◌||◌, nat_lt, List, [], ◌∷◌, refl, sym, ap, ◌∙◌, subst, arith, ◌⊎◌, inl, inr, Some, None, Option}
 use Rattle.std.specs.Prelude.{slice_get, option_map, nat_le, ◌==◌}
 use Rattle.std.specs.Ordering.{nat_cmp, ordering_then}
@@ -50,7 +50,7 @@ top_false a b s t i j k Equal e q =
     rw (f, g) (mid_false s t i j k (nat_cmp s t) refl q)
 top_false a b s t i j k Greater e q = absurd cc
 
--- and of two whose keys turn the other way, before
+-- and of two whose keys are in the other order, before
 last_true : (i j k l : ℕ) (r : Ordering) → r ≡ nat_cmp i j → ordering_then r (nat_cmp k l) ≡ Less → l < k → nat_lt i j ≡ true
 last_true i j k l Less e q m = let n : i < j = ranked i j Less e in grind (arith, nat_tests)
 last_true i j k l Equal e q m = let n : k < l = ranked k l Less (sym q) in absurd (omega (arith, n, m))
@@ -123,7 +123,7 @@ pub none_due : (now : ℕ) (es : List Entry) → ((e : Entry) (a : ℕ) → Has 
 none_due now [] l = refl
 none_due now (e ∷ es) l = rw (not_due now e (deadline e) (λ a q. l e a (inl refl) q), none_due now es (λ d a h q. l d a (inr h) q)) refl
 
--- the least is next
+-- the least is the next one
 module _ (now a : ℕ) (e : Entry) (d : deadline e ≡ Some a) (soon : a ≤ now) where
   abbrev first : Next
   first = record { at = a; entry = e }
@@ -166,7 +166,7 @@ module _ (now a : ℕ) (e : Entry) (d : deadline e ≡ Some a) (soon : a ≤ now
   least_next (x ∷ es) (inr h) r m =
       rw (least_next es h r.1 (λ y b g s. m y b (inr g) s)) (comes x es (deadline x) refl (all_has (λ (z : Entry). x.key < z.key) es e r.0 h) m)
 
--- the first of what transactions wait for
+-- the first deadline key of transactions
 abbrev pub told : Option Next → Option (ℕ × ℕ)
 told o = option_map (λ (n : Next). (n.at, n.entry.key)) o
 

@@ -1,4 +1,4 @@
--- What the transactions stand for after one more call.
+-- What the transactions represent after one more operation.
 use Rattle.std.proofs.Common.{◌≡◌, ℕ, ◌+◌, ◌-◌, ◌<◌, ◌^◌, List, [], ◌∷◌, ◌++◌, length, refl, true, false, Bool, sym, ap, ◌∙◌, arith, map, cond, subst, append-nil, length-append, inl, inr}
 use Rattle.std.specs.Prelude.{Option, Some, filter, IfOk, min, Result, Ok, Err}
 use Rattle.std.proofs.Math.Nat.{min-eq_left, min-eq_right}
@@ -37,18 +37,18 @@ all_kept : (f : Entry → Entry) (es : List Entry) → ((e : Entry) → f e ≡ 
 all_kept f [] q a = refl
 all_kept f (e ∷ es) q a = rw (q e, a.0, all_kept f es q a.1) refl
 
--- a call that hits one key
+-- an operation that changes the transaction of one key
 pub live_hit : (c : Done) (h : List Done) (k : ℕ) (f : Entry → Entry) → ((e : Entry) → change (step_of h) (offers h) c e ≡ hit k f e) → opens (step_of h) (offers h) (length (opened h)) c ≡ [] → live (c ∷ h) ≡ settle k f (live h)
 live_hit c h k f q o = live_more c h ∙ (ap (λ xs. filter is_live (map (change (step_of h) (offers h) c) (live h)) ++ xs) o ∙ (append-nil _ ∙ (ap (filter is_live) (map_as (change (step_of h) (offers h) c) (hit k f) (live h) q) ∙ settles_one k 0 f (live h) (length (opened h)) (rising h) (all_live (map (entry_of h) (opened h))))))
 
--- a call that changes nothing but what it opens
+-- an operation that changes nothing, except for what it opens
 pub live_new : (c : Done) (h : List Done) → ((e : Entry) → change (step_of h) (offers h) c e ≡ e) → live (c ∷ h) ≡ live h ++ opens (step_of h) (offers h) (length (opened h)) c
 live_new c h q = live_more c h ∙ ap (λ xs. xs ++ opens (step_of h) (offers h) (length (opened h)) c) (all_kept (change (step_of h) (offers h) c) (live h) q (all_live (map (entry_of h) (opened h))))
 
 none_opened : (c : Done) (h : List Done) → opens (step_of h) (offers h) (length (opened h)) c ≡ [] → length (opened (c ∷ h)) ≡ length (opened h)
 none_opened c h o = ap length (ap (λ xs. opened h ++ xs) o ∙ append-nil (opened h))
 
--- the count of what was opened, and what is drawn from it
+-- the count of what was opened, and the number that is drawn from it
 abbrev pub kept_count : ℕ → ℕ
 kept_count n = min n (2 ^ 64 - 1)
 
@@ -80,7 +80,7 @@ module _ (c : Done) (h : List Done) (old new : Transactions) (st : Stands old h)
     run = run;
   }
 
--- an answer that is offered: it is kept where it is reliable, and then it is offered as every other one
+-- a response that is sent: it is kept where it is reliable, and then it is sent as every other one
 module _ (old mid new : Transactions) (h : List Done) (key now : ℕ) (m : Message Start) (answer : Option ReliableAnswer) (change : Change) (st : Stands old h) (kept : mid ≡ record old { entries = map (hit key (with_answers answer)) old.entries }) (reliable : answer ≡ answer_of old.step old.offers m (message_text m) now) (made_so : made change ≡ replied mid.step mid.offers (head_of m).status (message_text m) (head_of m).to_tag now) where
   as_offered : settle key (made change) mid.entries ≡ settle key (offered old.step old.offers m now) old.entries
   as_offered =
@@ -99,7 +99,7 @@ module _ (old mid new : Transactions) (h : List Done) (key now : ℕ) (m : Messa
 length_both : (xs ys : List Entry) → length (xs ++ ys) ≡ length xs + length ys
 length_both xs ys = length-append xs ys
 
--- a call that opens a transaction
+-- an operation that opens a transaction
 pub stands_open : (c : Done) (h : List Done) (old new : Transactions) (N : ℕ → ℕ → ℕ → Entry) → Stands old h → HasRoom h → IsRun (c ∷ h) → new.offers ≡ offers (c ∷ h) → new.next ≡ min (old.next + 1) (2 ^ 64 - 1) → new.step ≡ old.step → new.entries ≡ old.entries ++ N old.step old.offers old.next ∷ [] → step_of (c ∷ h) ≡ step_of h → opens (step_of h) (offers h) (length (opened h)) c ≡ N (step_of h) (offers h) (length (opened h)) ∷ [] → ((e : Entry) → change (step_of h) (offers h) c e ≡ e) → Stands new (c ∷ h)
 stands_open c h old new N st room run offered next step items same o q =
     let key : old.next ≡ length (opened h) = st.next ∙ kept_few (length (opened h)) room in
@@ -145,7 +145,7 @@ fired_done old new h now f said st found offered step next items says =
       says ∙ ap says_due e,
     )
 
--- a message that was heard as what it is taken for
+-- a message that was received with the class that it has
 pub heard_done : (old new : Transactions) (p : Peer) (m : Message Start) (now at : ℕ) (head : Head) (taken : Part) (r : Result Heard HearFault) → head ≡ head_of m → taken ≡ part_of head old.entries → at ≡ now → (head ≡ head_of m → IfOk r (λ said. (h : List Done) → HasRoom h → HearsAs old new p m at taken said h)) → IfOk r (λ said. MayOpen old new (λ h. hears h p m now) (λ h. Some said ≡ hear_says h p m))
 heard_done old new p m now at head taken (Err fault) is part_is at_is done = tt
 heard_done old new p m now at head taken (Ok said) is part_is at_is done = λ h st room.

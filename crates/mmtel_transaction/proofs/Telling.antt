@@ -1,4 +1,4 @@
--- The number that is told from bytes, byte by byte.
+-- The hash of bytes, byte by byte.
 use Rattle.std.proofs.Common.{◌≡◌, ℕ, ◌+◌, ◌<◌, List, [], ◌∷◌, ◌++◌, length, get_or, refl, sym, ap, ◌∙◌, take}
 use Rattle.std.proofs.lemmas.List.{take_more}
 use Rattle.mmtel_transaction.specs.Told.{told_from, told_of, told_on}

@@ -52,7 +52,7 @@ twice_answers : (b : Bool) (xs : List ReliableAnswer) → blanks b (blanks b xs)
 twice_answers b [] = refl
 twice_answers b (x ∷ xs) = ap (λ y. y ∷ blanks b (blanks b xs)) (twice_answer b x) ∙ ap (λ ys. blank_answer b x ∷ ys) (twice_answers b xs)
 
--- a further answer, one that was sent again, and one that is left out
+-- a further response, one that was retransmitted, and one that is left out
 twice_more : (b : Bool) (x : ReliableAnswer) (xs : List ReliableAnswer) → blanks b (blanks b xs ++ x ∷ []) ≡ blanks b (xs ++ x ∷ [])
 twice_more b x [] = refl
 twice_more b x (y ∷ xs) = ap (λ z. z ∷ blanks b (blanks b xs ++ x ∷ [])) (twice_answer b y) ∙ ap (λ ys. blank_answer b y ∷ ys) (twice_more b x xs)
@@ -77,7 +77,7 @@ twice_without b own (x ∷ xs) = either (not (x.own == own)) (twice_without b ow
     either true q = ap (λ z. z ∷ blanks b (without_own own (blanks b xs))) (twice_answer b x) ∙ ap (λ ys. blank_answer b x ∷ ys) q
     either false q = q
 
--- which answer comes first does not rest on texts
+-- which response comes first does not depend on texts
 foremost_blank : (b : Bool) (k : ℕ) (xs : List ReliableAnswer) → foremost_from k (blanks b xs) ≡ foremost_from k xs
 foremost_blank b k [] = refl
 foremost_blank b k (x ∷ xs) = ap (sooner_of (at_place k (alarm_of x))) (foremost_blank b (suc k) xs)
@@ -96,14 +96,14 @@ blank_both v true x y x' y' p q = p
 blank_both v false x y x' y' p q = q
 
 module _ (v : Peer → Bool) where
-  -- a change that sees no text of a trusted peer's
+  -- a change that does not depend on the texts of a trusted peer
   abbrev pub Absorbs : (Entry → Entry) → Type 0
   Absorbs f = (e : Entry) → blank v (f (blank v e)) ≡ blank v (f e)
 
   again : Absorbs (λ e. e)
   again e = rw (twice (v e.peer) e.request, twice_maybe (v e.peer) e.last, twice_answers (v e.peer) e.reliable) refl
 
-  -- so what is equal but for those texts stays so
+  -- so what is equal except for those texts stays so
   carried : (f : Entry → Entry) → Absorbs f → (e x : Entry) → blank v e ≡ blank v x → blank v (f e) ≡ blank v (f x)
   carried f a e x q = sym (a e) ∙ (ap (λ (y : Entry). blank v (f y)) q ∙ a x)
 
@@ -173,7 +173,7 @@ module _ (v : Peer → Bool) where
       blank_both v (not e.is_server || not (e.done == 0)) _ _ _ _ refl
       (blank_both v (is_provisional st) _ _ _ _ (rw (blank_text (v e.peer) t u q) refl) (rw (blank_text (v e.peer) t u q) refl))
 
-  -- an answer of one head that is reliable or not
+  -- a response with the same head that is reliable or not
   other_answer : (s i now : ℕ) (m n : Message Start) (e : Entry) → reliable_number m ≡ reliable_number n → (v e.peer ≡ false → message_text m ≡ message_text n)
       → blank v (with_answers (answer_of s i m (message_text m) now) e) ≡ blank v (with_answers (answer_of s i n (message_text n) now) e)
   other_answer s i now m n e r q = ap (λ o. blank v (with_answers (option_map (λ own. record { own = own; text = message_text m; start = now; shots = 0; step = s; order = i }) o) e)) r ∙ either (reliable_number n)
@@ -363,7 +363,7 @@ module _ (v : Peer → Bool) where
   text_blank false true o r = or_blank o
   text_blank false false o r = refl
 
-  -- what is sent again is equal, but for a text of a trusted peer's
+  -- what is retransmitted is equal, except for a text of a trusted peer
   again_text : (e : Entry) → blank_if (v e.peer) (text_again (blank v e)) ≡ blank_if (v e.peer) (text_again e)
   again_text e =
       ap (λ (o : Option (ℕ × Alarm)). blank_if (v e.peer) (text_by (o >>= λ (f : ℕ × Alarm). slice_get (blanks (v e.peer) e.reliable) f.0) (blank v e))) (foremost_like e)
@@ -445,7 +445,7 @@ module _ (v : Peer → Bool) where
           sym (says_blank (next_due now (live g))) ∙ (ap (λ (o : Option Next). blank_due v (says_due o)) (sym (next_blank now (live g)) ∙ (ap (next_due now) a.live ∙ next_blank now (live h))) ∙ says_blank (next_due now (live h)));
     }
 
-  -- ---- one more call
+  -- ---- one more operation
 
   abbrev first_or : Entry → List Entry → Entry
   first_or d [] = d
@@ -494,7 +494,7 @@ module _ (v : Peer → Bool) where
       either false true r s ih = absurd cc
       either false false r s ih = rw (head, ih r) refl
 
-  -- what a call leaves of the live transactions, and what it opens
+  -- what an operation leaves of the live transactions, and what it opens
   abbrev left_by : ℕ → ℕ → ℕ → Done → List Entry → List Entry
   left_by s i k c es = filter is_live (map (change s i c) es) ++ opens s i k c
 
@@ -524,7 +524,7 @@ module _ (v : Peer → Bool) where
     goes_on : (c d : Done) → step_of (c ∷ g) ≡ step_of (d ∷ h) → offers (c ∷ g) ≡ offers (d ∷ h) → ((s i : ℕ) (e x : Entry) → blank v e ≡ blank v x → blank v (change s i c e) ≡ blank v (change s i d x)) → ((s i k : ℕ) → map (blank v) (opens s i k c) ≡ map (blank v) (opens s i k d)) → ((s i k : ℕ) → length (opens s i k c) ≡ length (opens s i k d)) → Alike v (c ∷ g) (d ∷ h)
     goes_on c d s w p q l = record { step = s; offers = w; next = opened_like c d l; live = live_after c d p q }
 
-    -- a call that hits one transaction, whose texts may differ
+    -- an operation that changes one transaction, whose texts may differ
     hits : (c d : Done) (key : ℕ) (F G : ℕ → ℕ → Entry → Entry) → step_of (c ∷ g) ≡ step_of (d ∷ h) → offers (c ∷ g) ≡ offers (d ∷ h)
         → ((s i : ℕ) (e : Entry) → change s i c e ≡ hit key (F s i) e) → ((s i : ℕ) (e : Entry) → change s i d e ≡ hit key (G s i) e)
         → ((s i k : ℕ) → opens s i k c ≡ []) → ((s i k : ℕ) → opens s i k d ≡ [])
@@ -541,7 +541,7 @@ module _ (v : Peer → Bool) where
           ∙ sym (ap (map (blank v)) (live_hit d h key (G (step_of h) (offers h)) (dg (step_of h) (offers h)) (od (step_of h) (offers h) (length (opened h))))))));
     }
 
-    -- of a message only the head matters where it is heard
+    -- of a message only the head matters where it is received
     heard_as : (s now : ℕ) (m n : Message Start) (t : Part) (e : Entry) → head_of m ≡ head_of n → heard_change s m now t e ≡ heard_change s n now t e
     heard_as s now m n part.Fresh e q = refl
     heard_as s now m n part.Full e q = refl

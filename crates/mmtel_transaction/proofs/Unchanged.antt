@@ -1,4 +1,4 @@
--- What is offered or settled where it has no place changes nothing.
+-- What is sent or settled in a transaction that does not allow it changes nothing.
 use Rattle.std.proofs.Common.{◌≡◌, ℕ, List, [], ◌∷◌, ◌++◌, refl, true, false, Bool, not, ◌||◌, sym, ap, ◌∙◌, cond}
 use Rattle.std.specs.Prelude.{Option, Some, None, ◌==◌}
 use Rattle.mmtel_message.specs.Message.{Message}
@@ -16,7 +16,7 @@ with_kept : (o : Option ReliableAnswer) (e : Entry) → (not e.is_server || not 
 with_kept None e q = refl
 with_kept (Some answer) e q = first_if (not e.is_server || not (e.done == 0)) e _ q
 
--- an answer is offered in a server transaction without a final one
+-- a response is sent in a server transaction without a final one
 offered_kept : (s i : ℕ) (m : Message Start) (now : ℕ) (e : Entry) → (not e.is_server || not (e.done == 0)) ≡ true → offered s i m now e ≡ e
 offered_kept s i m now e q =
     ap (replied s i (head_of m).status (message_text m) (head_of m).to_tag now) (with_kept (answer_of s i m (message_text m) now) e q)
@@ -32,7 +32,7 @@ offered_client s i m now e q = offered_kept s i m now e (ap (λ b. not b || not 
 pub offered_done : (s i : ℕ) (m : Message Start) (now : ℕ) (e : Entry) → (e.done == 0) ≡ false → offered s i m now e ≡ e
 offered_done s i m now e q = offered_kept s i m now e (of_done e.is_server (e.done == 0) q)
 
--- and nothing is settled where no answer waits
+-- and nothing is settled where no response waits
 pub settled_none : (own : Option ℕ) (e : Entry) → e.reliable ≡ [] → settled own e ≡ e
 settled_none None e q = ap (λ xs. (let r : Entry = record e { reliable = xs } in r)) (sym q)
 settled_none (Some own) e q = ap (λ xs. (let r : Entry = record e { reliable = without_own own xs } in r)) q ∙ ap (λ xs. (let r : Entry = record e { reliable = xs } in r)) (sym q)

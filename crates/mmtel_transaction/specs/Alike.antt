@@ -1,4 +1,4 @@
--- What of the transactions does not rest on the texts that are due to trusted peers: those texts are only ever sent to those peers, and decide nothing.
+-- What of the transactions does not depend on the texts that are due to trusted peers: those texts are only ever sent to those peers, and decide nothing.
 use Rattle.std.specs.Prelude.{◌≡◌, ℕ, Bool, false, if◌then◌else◌, List, [], ◌∷◌, length, map, Option, Some, option_map}
 use Rattle.mmtel_types.specs.declared.numbers.Peer.{Peer}
 use Rattle.mmtel_message.specs.Message.{Message}
@@ -55,18 +55,18 @@ blank_heard trusts (heard.Cancel key invite m) = heard.Cancel key invite m
 blank_heard trusts (heard.AckOf2xx m) = heard.AckOf2xx m
 blank_heard trusts heard.Stray = heard.Stray
 
--- the number of the transaction whose deadline comes next
+-- the number of the transaction with the next deadline
 abbrev pub next_key : Option Next → Option ℕ
 next_key o = option_map (λ n. n.entry.key) o
 
--- two lists of calls that leave the same transactions but for those texts
+-- two lists of operations that leave the same transactions except for those texts
 pub record Alike (trusts : Peer → Bool) (g h : List Done) : Type 0 where
   pub step : step_of g ≡ step_of h
   pub offers : offers g ≡ offers h
   pub next : length (opened g) ≡ length (opened h)
   pub live : map (blank trusts) (live g) ≡ map (blank trusts) (live h)
 
--- each call answers alike: equally, or equally but for those texts
+-- each operation has equivalent results: equal, or equal except for those texts
 pub record AnswerAlike (trusts : Peer → Bool) (g h : List Done) : Type 0 where
   pub hear : (p : Peer) (m : Message Start) → option_map (blank_heard trusts) (hear_says g p m) ≡ option_map (blank_heard trusts) (hear_says h p m)
   pub taken : (m : Head) → part_of m (live g) ≡ part_of m (live h)
@@ -82,11 +82,12 @@ pub record AnswerAlike (trusts : Peer → Bool) (g h : List Done) : Type 0 where
   pub fires : (now : ℕ) → next_key (next_due now (live g)) ≡ next_key (next_due now (live h))
   pub says : (now : ℕ) → blank_due trusts (says_due (next_due now (live g))) ≡ blank_due trusts (says_due (next_due now (live h)))
 
--- in this transaction one text is sent, unless its peer is trusted
+-- in this transaction the same text is sent, unless its peer is trusted
 abbrev pub SentAlike : (Peer → Bool) → ℕ → List Done → Message Start → Message Start → Type 0
 SentAlike trusts key h m n = (p : Peer) → peer_of key (live h) ≡ Some p → trusts p ≡ false → message_text m ≡ message_text n
 
--- and they go on alike: one more call of both leaves them alike, where its messages have one head, are one reliable answer or none, and differ in what only trusted peers are sent
+-- and they remain equivalent: one more operation on both leaves them equivalent, where its messages have the same head, are the same reliable response or none, and differ only
+-- in what trusted peers are sent
 pub record GoOnAlike (trusts : Peer → Bool) (g h : List Done) : Type 0 where
   pub begins : (n : ℕ) → Alike trusts (DidBegin n ∷ g) (DidBegin n ∷ h)
   pub hears : (p : Peer) (m n : Message Start) (now : ℕ) (taken : Part) → head_of m ≡ head_of n → Alike trusts (DidHear p m now taken ∷ g) (DidHear p n now taken ∷ h)

@@ -1,4 +1,4 @@
--- To which live transaction a message belongs (RFC 3261 §9.2, §17.1.1.3, §17.1.3, §17.2.3), and what `hear` says by that.
+-- To which live transaction a message belongs (RFC 3261 §9.2, §17.1.1.3, §17.1.3, §17.2.3), and what `hear` returns by that.
 use Rattle.std.specs.Prelude.{◌≡◌, ◌↔◌, Bool, false, true, not, ◌&&◌, if◌then◌else◌, List, length, Option, Some, None, option_map}
 use Rattle.std.specs.List.{find}
 use Rattle.mmtel_types.specs.declared.numbers.Peer.{Peer}
@@ -14,13 +14,13 @@ use Rattle.mmtel_transaction.specs.declared.words.TKey.{TKey}
 use Rattle.mmtel_transaction.specs.declared.words.Heard.{Heard}
 use Rattle.mmtel_transaction.specs.declared.words.Heard.TheVariants as heard
 
--- a server transaction, where it has offered a final from 300
+-- a server transaction, where it has sent a final from 300
 abbrev pub if_refused : Option Entry → Option Entry
 if_refused None = None
 if_refused (Some e) = if e.is_refused then Some e else None
 
 -- a response belongs to the client transaction that it answers; an ACK to the INVITE whose final from 300 it acknowledges, and to none where there is no such final;
--- a CANCEL to the INVITE that it cancels; any other request to the transaction of its key
+-- a CANCEL to the INVITE that it cancels; any other request to the server transaction that it matches
 abbrev pub owner : Head → List Entry → Option Entry
 owner m es =
     if not m.is_request then find (is_client_of m) es
@@ -32,31 +32,32 @@ owner m es =
 abbrev pub belongs : List Done → Message Start → Option TKey
 belongs h m = option_map key_of (owner (head_of m) (live h))
 
--- the live transaction that a request opened when it was heard before
+-- the live transaction that a request opened when it was received before
 abbrev pub own : List Done → Message Start → Option TKey
 own h m = option_map key_of (find (is_server_of (head_of m)) (live h))
 
--- whether a response is a final from 300 of an INVITE that has heard such a final before
+-- whether a response is a final from 300 of an INVITE that has received such a final before
 abbrev pub is_final_again : Head → Option Entry → Bool
 is_final_again m None = false
 is_final_again m (Some e) = is_invite e.asked && e.is_refused && is_refusal m.status
 
--- what is said of a response that belongs to this transaction: an answer, or a final that is heard again, which gives the kept ACK; it is stray where there is none
+-- the result for a response that belongs to this transaction: a response, or a final that is received again, for which the kept ACK is sent again; it is unmatched where there is
+-- none
 abbrev pub response_said : List Entry → Message Start → Option TKey → Heard
 response_said es m None = heard.Stray
 response_said es m (Some key) = if is_final_again (head_of m) (by_key key.0 es) then heard.Repeat (then_gives gives_same (by_key key.0 es)) else heard.Answer key m
 
--- of an ACK: it is of a 2xx where it belongs to none
+-- for an ACK: it is of a 2xx where it belongs to none
 abbrev pub ack_said : Message Start → Option TKey → Heard
 ack_said m None = heard.AckOf2xx m
 ack_said m (Some key) = heard.Acked key
 
--- of a request that opened this transaction when it was heard before; where there is none, it is refused or opens one, of which so much is said
+-- for a request that opened this transaction when it was received before; where there is none, the request is refused, or opens one with this result
 abbrev pub request_said : List Entry → Peer → Option TKey → Heard → Option Heard
 request_said es p (Some key) fresh = Some (heard.Repeat (then_gives (gives_again p) (by_key key.0 es)))
 request_said es p None fresh = if is_full es then None else Some fresh
 
--- of a message that belongs to this transaction
+-- for a message that belongs to this transaction
 abbrev pub said_by : List Done → Peer → Message Start → Option TKey → Option Heard
 said_by h p m to =
     if not (head_of m).is_request then Some (response_said (live h) m to)
@@ -64,7 +65,7 @@ said_by h p m to =
     else if is_cancel (head_of m) then request_said (live h) p (own h m) (heard.Cancel (tkey (length (opened h))) to m)
     else request_said (live h) p to (heard.Fresh (tkey (length (opened h))) m)
 
--- `hear` answers by the transaction to which the message belongs
+-- the result of `hear` is determined by the transaction to which the message belongs
 abbrev pub HearsByOwner : Type 0
 HearsByOwner = (h : List Done) (p : Peer) (m : Message Start) → hear_says h p m ≡ said_by h p m (belongs h m)
 
@@ -72,7 +73,7 @@ HearsByOwner = (h : List Done) (p : Peer) (m : Message Start) → hear_says h p 
 abbrev pub OwnersAreLive : Type 0
 OwnersAreLive = (h : List Done) (m : Message Start) (e : Entry) → owner (head_of m) (live h) ≡ Some e → by_key e.key (live h) ≡ Some e
 
--- a live server transaction of an INVITE of this branch and sent-by has offered a final from 300
+-- a live server transaction of an INVITE of this branch and sent-by has sent a final from 300
 pub record IsRefusedInvite (m : Head) (e : Entry) (h : List Done) : Type 0 where
   pub live : by_key e.key (live h) ≡ Some e
   pub server : e.is_server ≡ true
@@ -81,7 +82,7 @@ pub record IsRefusedInvite (m : Head) (e : Entry) (h : List Done) : Type 0 where
   pub sent_by : e.asked.sent_by ≡ m.sent_by
   pub final : is_refusal e.done ≡ true
 
--- in a run an ACK belongs to just that one
+-- in a run an ACK belongs exactly to that one
 abbrev pub AcksBelong : Type 0
 AcksBelong =
     (h : List Done) (m : Message Start) (e : Entry)

@@ -1,4 +1,4 @@
--- The calls that were made of the transactions, and which transactions they opened, changed and left live (RFC 3261 §17; RFC 6026).
+-- The operations that were called on the transactions, and which transactions they opened, changed and left live (RFC 3261 §17; RFC 6026).
 use Rattle.std.specs.Prelude.{ℕ, ◌+◌, ◌-◌, ◌^◌, min, Bool, not, nat_lt, if◌then◌else◌, List, [], ◌∷◌, ◌++◌, length, filter, map, Option}
 use Rattle.mmtel_types.specs.declared.numbers.Peer.{Peer}
 use Rattle.mmtel_message.specs.Message.{Message}
@@ -10,7 +10,7 @@ use Rattle.mmtel_transaction.specs.declared.entries.Entry.{Entry}
 use Rattle.mmtel_transaction.specs.declared.parts.Part.{Part}
 use Rattle.mmtel_transaction.specs.declared.parts.Part.TheVariants as part
 
--- a call, with what was heard taken for what the calls before make of it; the newest call stands first in a list
+-- an operation, where a received message has the class that the operations before determine; a list has the newest operation first
 pub data Done : Type 0 where
   DidBegin : (step : ℕ) → Done
   DidHear : (peer : Peer) → (m : Message Start) → (now : ℕ) → (taken : Part) → Done
@@ -20,7 +20,7 @@ pub data Done : Type 0 where
   DidFire : (key : ℕ) → Done
   DidSettle : (key : ℕ) → (own : Option ℕ) → Done
 
--- the number of the last `begin`
+-- the step number of the last `begin`
 abbrev pub step_of : List Done → ℕ
 step_of [] = 0
 step_of (DidBegin step ∷ h) = step
@@ -31,7 +31,7 @@ step_of (DidAck key m ∷ h) = step_of h
 step_of (DidFire key ∷ h) = step_of h
 step_of (DidSettle key own ∷ h) = step_of h
 
--- how many requests and answers were offered: a count that stays at its greatest number
+-- how many requests and responses were sent: a count that stays at its maximum
 abbrev pub offers : List Done → ℕ
 offers [] = 0
 offers (DidBegin step ∷ h) = offers h
@@ -42,7 +42,7 @@ offers (DidAck key m ∷ h) = offers h
 offers (DidFire key ∷ h) = offers h
 offers (DidSettle key own ∷ h) = offers h
 
--- a transaction after what was heard
+-- a transaction after a received message
 abbrev pub heard_change : ℕ → Message Start → ℕ → Part → Entry → Entry
 heard_change step m now part.Fresh e = e
 heard_change step m now part.Full e = e
@@ -53,7 +53,7 @@ heard_change step m now (part.Acked key) e = hit key (acked step now) e
 heard_change step m now part.AckOf2xx e = acked_2xx step (head_of m) e
 heard_change step m now part.Stray e = e
 
--- a transaction after one more call, which is made in this step and after so many offers
+-- a transaction after one more operation, which is called in this step and after so many messages were sent
 abbrev pub change : ℕ → ℕ → Done → Entry → Entry
 change step order (DidBegin n) e = e
 change step order (DidHear p m now taken) e = heard_change step m now taken e
@@ -73,7 +73,7 @@ heard_opens step key p m now (part.Acked k) = []
 heard_opens step key p m now part.AckOf2xx = []
 heard_opens step key p m now part.Stray = []
 
--- what a call opens: a request that is heard afresh a server transaction, one that is asked a client transaction
+-- what an operation opens: a new request that is received opens a server transaction, one that is sent a client transaction
 abbrev pub opens : ℕ → ℕ → ℕ → Done → List Entry
 opens step order key (DidBegin n) = []
 opens step order key (DidHear p m now taken) = heard_opens step key p m now taken
@@ -83,7 +83,7 @@ opens step order key (DidAck k m) = []
 opens step order key (DidFire k) = []
 opens step order key (DidSettle k own) = []
 
--- what was opened, once a call is made; a key is how many were opened before
+-- what was opened, after one more operation; a key is how many were opened before
 abbrev pub opened_by : ℕ → ℕ → Done → List Entry → List Entry
 opened_by step order c es = es ++ opens step order (length es) c
 
@@ -92,7 +92,7 @@ abbrev pub opened : List Done → List Entry
 opened [] = []
 opened (c ∷ h) = opened_by (step_of h) (offers h) c (opened h)
 
--- such a transaction after all calls that came after its opening, which are those before which more were opened than its key says
+-- such a transaction after all operations that came after its opening: those before which more were opened than its key
 abbrev pub entry_of : List Done → Entry → Entry
 entry_of [] e = e
 entry_of (c ∷ h) e = if nat_lt e.key (length (opened h)) then change (step_of h) (offers h) c (entry_of h e) else e

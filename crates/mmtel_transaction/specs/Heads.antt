@@ -1,4 +1,5 @@
--- What the transactions read of a message: what names its transaction (RFC 3261 §17.1.3, §17.2.3), its dialogue's names and number (§12, §13.2.2.4), and its status (§7.2, §21).
+-- What the transactions read of a message: what identifies its transaction (RFC 3261 §17.1.3, §17.2.3), the identifiers and CSeq number of its dialog (§12, §13.2.2.4), and its
+-- status (§7.2, §21).
 use Rattle.std.specs.Prelude.{ℕ, Bool, ◌&&◌, ◌==◌, nat_le, nat_lt, if◌then◌else◌, List, [], codes, Option, Some, None}
 use Rattle.std.specs.Str.{bytes_eq}
 use Rattle.mmtel_scan.specs.Chain.{◌>>=◌}
@@ -24,7 +25,7 @@ abbrev pub method_of : Start → List ℕ → List ℕ
 method_of (Request method uri) answered = method
 method_of (Status code phrase) answered = answered
 
--- a message whose five fields cannot be read has empty ones; `read` gives none
+-- a message whose five fields cannot be read has empty ones; `read` returns no such message
 abbrev pub head_with : Start → Option Five → Head
 head_with start None = record {
   is_request = is_request start;
@@ -50,7 +51,7 @@ head_with start (Some five) = record {
   number = five.cseq.number;
 }
 
--- the same of what its five fields say, as it is kept with a message; private functions alone cite this
+-- the same of its five fields, as they are kept with a message; private functions alone cite this
 abbrev pub head_by : Start → Identifiers → Head
 head_by start ids = record {
   is_request = is_request start;
@@ -68,7 +69,7 @@ head_by start ids = record {
 unfoldable pub head_of : Message Start → Head
 head_of m = head_with m.start (five_at m.lines)
 
--- the number of a reliable provisional answer, by its first RSeq line (RFC 3262 §7.1)
+-- the number of a reliable provisional response, by its first RSeq line (RFC 3262 §7.1)
 unfoldable pub reliable_number : Message Start → Option ℕ
 reliable_number m = if nat_le 101 (code_of m.start) && nat_lt (code_of m.start) 200 then first_value (codes "RSeq") m.lines >>= number_of 2147483647 else None
 
@@ -84,6 +85,6 @@ is_ack m = bytes_eq m.method (codes "ACK")
 abbrev pub is_cancel : Head → Bool
 is_cancel m = bytes_eq m.method (codes "CANCEL")
 
--- one Call-ID, one From tag and one number of CSeq
+-- the same Call-ID, From tag and number of CSeq
 abbrev pub is_same_call : Head → Head → Bool
 is_same_call m n = bytes_eq m.call_id n.call_id && bytes_eq m.from_tag n.from_tag && (m.number == n.number)

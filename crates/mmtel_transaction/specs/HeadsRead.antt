@@ -1,4 +1,4 @@
--- On what the head of a message rests: on method or status, and on its lines of five names (RFC 3261 §7.1, §7.2, §8.1.1).
+-- On what the head of a message depends: on method or status, and on its lines of five names (RFC 3261 §7.1, §7.2, §8.1.1).
 use Rattle.std.specs.Prelude.{◌≡◌, ℕ, List, [], codes, Option, option_map}
 use Rattle.mmtel_lex.specs.declared.values.NameAddr.{NameAddr}
 use Rattle.mmtel_message.specs.Fields.{call_in, party_in, via_in}
@@ -8,7 +8,7 @@ use Rattle.mmtel_message.specs.declared.messages.Start.{Start}
 use Rattle.mmtel_message.specs.declared.messages.Start.TheVariants.{Request, Status}
 use Rattle.mmtel_transaction.specs.Heads.{head_of, param_text}
 
--- what is read of the start line: the method of a request, or the status; neither Request-URI nor phrase
+-- what is read of the start line: the method of a request, or the status; neither Request-URI nor reason phrase
 abbrev pub start_read : Start → Start
 start_read (Request method uri) = Request method []
 start_read (Status code phrase) = Status code []
@@ -21,7 +21,7 @@ via_read ls = option_map (λ (via : Via). (param_text (codes "branch") via.param
 abbrev pub tag_read : List ℕ → List (List ℕ × List ℕ) → Option (List ℕ)
 tag_read name ls = option_map (λ (party : NameAddr). param_text (codes "tag") party.params) (party_in name ls)
 
--- two messages of which the same is read; of Call-ID and CSeq all is read
+-- two messages of which the same is read; Call-ID and CSeq are read entirely
 pub record ReadAlike (m n : Message Start) : Type 0 where
   pub start : start_read m.start ≡ start_read n.start
   pub via : via_read m.lines ≡ via_read n.lines
@@ -29,11 +29,11 @@ pub record ReadAlike (m n : Message Start) : Type 0 where
   pub to : tag_read (codes "To") m.lines ≡ tag_read (codes "To") n.lines
   pub call : call_in m.lines ≡ call_in n.lines
 
--- they have one head, whatever else their lines and bodies say
+-- they have the same head, whatever else their lines and bodies are
 abbrev pub HeadsRestOnFields : Type 0
 HeadsRestOnFields = (m n : Message Start) → ReadAlike m n → head_of m ≡ head_of n
 
--- two messages of whose start lines the same is read, and which have the same lines of the five names
+-- two messages whose start lines are read with the same result, and which have the same lines of the five names
 pub record LinesAlike (m n : Message Start) : Type 0 where
   pub start : start_read m.start ≡ start_read n.start
   pub via : named (codes "Via") m.lines ≡ named (codes "Via") n.lines
@@ -42,6 +42,6 @@ pub record LinesAlike (m n : Message Start) : Type 0 where
   pub call_id : named (codes "Call-ID") m.lines ≡ named (codes "Call-ID") n.lines
   pub cseq : named (codes "CSeq") m.lines ≡ named (codes "CSeq") n.lines
 
--- the same is read of them, so they have one head
+-- the same is read of them, so they have the same head
 abbrev pub HeadsRestOnFiveNames : Type 0
 HeadsRestOnFiveNames = (m n : Message Start) → LinesAlike m n → ReadAlike m n × (head_of m ≡ head_of n)

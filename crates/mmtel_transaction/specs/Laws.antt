@@ -1,4 +1,4 @@
--- Laws over whole lists of calls.
+-- Theorems about whole lists of operations.
 use Rattle.std.specs.Prelude.{◌≡◌, ℕ, zero, suc, ◌+◌, ◌-◌, ◌*◌, ◌^◌, ◌<◌, ◌≤◌, ◌⊎◌, true, false, List, [], ◌∷◌, ◌++◌, length, map, Option, Some, None, option_map, slice_get}
 use Rattle.std.specs.List.{AllByRecursion}
 use Rattle.mmtel_types.specs.declared.numbers.Peer.{Peer}
@@ -21,16 +21,16 @@ use Rattle.mmtel_transaction.specs.declared.words.Due.{Due}
 use Rattle.mmtel_transaction.specs.declared.words.Due.TheVariants as due
 use Rattle.mmtel_transaction.specs.declared.words.Heard.TheVariants as heard
 
--- what so many calls of `due` say in turn, where nothing else is called between them
+-- what so many calls of `due` return in turn, where nothing else is called between them
 unfoldable pub said_in_turn : ℕ → ℕ → List Done → List Due
 said_in_turn zero now h = []
 said_in_turn (suc n) now h = says_due (next_due now (live h)) ∷ said_in_turn n now (fires h (next_due now (live h)))
 
--- what is said of a request that was asked at t, sent again so long after
+-- the result of a request that was sent at t, retransmitted so long after
 abbrev pub sent_again : Peer → Message Start → ℕ → ℕ → Due
 sent_again p m t d = due.Again p (t + d) (message_text m)
 
--- a request that is asked at t where no transaction is live, and that nobody answers, is sent again at these moments after t, then given up, and then nothing is due
+-- a request that is sent at t where no transaction is live, and that gets no response, is retransmitted at these moments after t, then times out, and then nothing is due
 abbrev pub IsGivenUpAfter : List ℕ → Peer → Message Start → ℕ → Type 0
 IsGivenUpAfter moments p m t = (h : List Done) (now : ℕ) → live h ≡ [] → t + 32000 ≤ now →
     said_in_turn (length moments + 2) now (DidAsk p m t ∷ h) ≡ map (sent_again p m t) moments ++
@@ -43,7 +43,7 @@ InvitesAreGivenUp = (p : Peer) (m : Message Start) (t : ℕ) → is_invite (head
 abbrev pub OthersAreGivenUp : Type 0
 OthersAreGivenUp = (p : Peer) (m : Message Start) (t : ℕ) → is_invite (head_of m) ≡ false → IsGivenUpAfter (moments_of schedule.Other) p m t
 
--- how many messages were heard, and how many requests were asked
+-- how many messages were received, and how many requests were sent
 abbrev pub heard_in : List Done → ℕ
 heard_in [] = 0
 heard_in (DidBegin step ∷ h) = heard_in h
@@ -64,12 +64,12 @@ asked_in (DidAck key m ∷ h) = asked_in h
 asked_in (DidFire key ∷ h) = asked_in h
 asked_in (DidSettle key own ∷ h) = asked_in h
 
--- no more transactions are opened than messages are heard and requests asked
+-- no more transactions are opened than messages are received and requests sent
 abbrev pub FewAreOpened : Type 0
 FewAreOpened = (h : List Done) → length (opened h) ≤ heard_in h + asked_in h
 
--- so one more has a number of its own, where each step hears one message at most and each drawn branch is of two requests at most, an INVITE and its CANCEL, whatever else
--- is called, and there are fewer than 2^60 steps and draws
+-- so one more has its own number, where each step receives at most one message and each drawn branch is of at most two requests, an INVITE and its CANCEL, whatever else is
+-- called, and there are fewer than 2^60 steps and draws
 abbrev pub RoomIsLeft : Type 0
 RoomIsLeft = (h : List Done) (steps draws : ℕ) → heard_in h ≤ steps → asked_in h ≤ 2 * draws → steps < 2 ^ 60 → draws < 2 ^ 60 → HasRoom h
 
@@ -77,11 +77,11 @@ RoomIsLeft = (h : List Done) (steps draws : ℕ) → heard_in h ≤ steps → as
 abbrev pub NumbersCount : Type 0
 NumbersCount = (h : List Done) (k : ℕ) (e : Entry) → slice_get (opened h) k ≡ Some e → e.key ≡ k
 
--- and no two live transactions have one number
+-- and no two live transactions have the same number
 abbrev pub NumbersDiffer : Type 0
 NumbersDiffer = (h : List Done) (i j : ℕ) (e x : Entry) → slice_get (live h) i ≡ Some e → slice_get (live h) j ≡ Some x → e.key ≡ x.key → i ≡ j
 
--- two server transactions of one branch, sent-by and method (RFC 3261 §17.2.3)
+-- two server transactions with the same branch, sent-by and method (RFC 3261 §17.2.3)
 pub record HaveOneKey (e x : Entry) : Type 0 where
   pub first : e.is_server ≡ true
   pub second : x.is_server ≡ true
@@ -89,11 +89,11 @@ pub record HaveOneKey (e x : Entry) : Type 0 where
   pub sent_by : e.asked.sent_by ≡ x.asked.sent_by
   pub method : e.asked.method ≡ x.asked.method
 
--- of the live transactions of a run no two server transactions have one key
+-- of the live transactions of a run no two server transactions have the same branch, sent-by and method
 abbrev pub KeysAreTheirOwn : Type 0
 KeysAreTheirOwn = (h : List Done) → IsRun h → (j k : ℕ) (e x : Entry) → by_key j (live h) ≡ Some e → by_key k (live h) ≡ Some x → HaveOneKey e x → j ≡ k
 
--- a request other than ACK that has the key of another
+-- a request other than ACK that has the branch, sent-by and method of another
 pub record IsRepeatOf (m n : Head) : Type 0 where
   pub request : n.is_request ≡ true
   pub other : is_ack n ≡ false
@@ -101,36 +101,36 @@ pub record IsRepeatOf (m n : Head) : Type 0 where
   pub sent_by : m.sent_by ≡ n.sent_by
   pub method : m.method ≡ n.method
 
--- the call was one of `due`, which said that this transaction ends
+-- the operation was `due`, which reported that this transaction ends
 pub record GivesEnd (key : ℕ) (c : Done) (h : List Done) : Type 0 where
   pub now : ℕ
   pub at : ℕ
   pub says : says_due (next_due now (live h)) ≡ due.Over (tkey key) at
   pub call : fires h (next_due now (live h)) ≡ c ∷ h
 
--- among the calls that came after others, the newest first, one gave the end of this transaction
+-- among the operations that came after others, the newest first, one reported the end of this transaction
 abbrev pub EndWasGiven : ℕ → List Done → List Done → Type 0
 EndWasGiven key [] h = ⊥
 EndWasGiven key (c ∷ g) h = GivesEnd key c (g ++ h) ⊎ EndWasGiven key g h
 
--- a message is taken for a repeat of the request of this transaction, and opens nothing
+-- a message is classified as a retransmission of the request of this transaction, and opens nothing
 pub record OpensNothing (key : ℕ) (h : List Done) (p : Peer) (m : Message Start) : Type 0 where
   pub taken : part_of (head_of m) (live h) ≡ part.Repeat key
   pub nothing : (now : ℕ) → opened (hears h p m now) ≡ opened h
 
--- a request that opened a server transaction opens nothing when it is heard again, from whichever peer, until the end of that transaction was given
+-- a request that opened a server transaction opens nothing when it is received again, from whichever peer, until the end of that transaction was reported
 abbrev pub RepeatsOpenNothing : Type 0
 RepeatsOpenNothing = (h g : List Done) (p q : Peer) (m n : Message Start) (t : ℕ) → IsRun (g ++ DidHear p m t part.Fresh ∷ h) → IsRepeatOf (head_of m) (head_of n) →
     EndWasGiven (length (opened h)) g (DidHear p m t part.Fresh ∷ h) ⊎ OpensNothing (length (opened h)) (g ++ DidHear p m t part.Fresh ∷ h) q n
 
--- and from another peer than the one that opened it, it gets nothing
+-- and from another peer than the one that opened the transaction, it gets nothing
 abbrev pub StrangersGetNothing : Type 0
 StrangersGetNothing = (h g : List Done) (p q : Peer) (m n : Message Start) (t : ℕ) → IsRun (g ++ DidHear p m t part.Fresh ∷ h) → IsRepeatOf (head_of m) (head_of n) →
     (q.0 ≡ p.0 → ⊥) → EndWasGiven (length (opened h)) g (DidHear p m t part.Fresh ∷ h) ⊎ (hear_says (g ++ DidHear p m t part.Fresh ∷ h) q n ≡ Some (heard.Repeat None))
 
 -- what an ACK of the non-2xx final of this transaction leaves
 pub record EndsResends (key now : ℕ) (before after : List Entry) : Type 0 where
-  -- it is still live, and nothing of it is sent again
+  -- it is still live, and nothing of it is retransmitted
   pub ended : option_map resend_at (by_key key after) ≡ Some None
   -- after the first ACK it ends 5,000 ms later (Timer I)
   pub end : (e : Entry) → by_key key before ≡ Some e → e.is_acked ≡ false → option_map deadline (by_key key after) ≡ Some (Some (now + 5000))
@@ -150,8 +150,8 @@ unfoldable pub firings : ℕ → ℕ → List Done → List Next
 firings zero now h = []
 firings (suc n) now h = fired_then (next_due now (live h)) (firings n now (fires h (next_due now (live h))))
 
--- a deadline that fires after another does not come before it, by its moment, the step that armed it and the offer of its message; and of one message of a transaction it is of
--- a later moment
+-- a deadline that fires after another does not come before it, by its moment, the step that armed it and the order in which its message was sent; and of the same message of a
+-- transaction it has a later moment
 pub record FiresAfter (x y : Next) : Type 0 where
   pub order : is_before y.at y.entry x.at x.entry ≡ false
   pub once : y.entry.key ≡ x.entry.key → message_due y.entry ≡ message_due x.entry → x.at < y.at
@@ -174,14 +174,14 @@ pub record IsFirstDue (now : ℕ) (es : List Entry) (n : Next) : Type 0 where
 abbrev pub TheFirstFires : Type 0
 TheFirstFires = (h : List Done) (now : ℕ) (n : Next) → next_due now (live h) ≡ Some n → IsFirstDue now (live h) n
 
--- this is what `due` says last of a transaction: that it is given up, or that it ends
+-- this is what `due` returns last of a transaction: that it times out, or that it ends
 abbrev pub IsLast : ℕ → Due → Type 0
 IsLast key (due.Again peer at text) = ⊥
 IsLast key (due.Silent k branch method at) = k.0 ≡ key
 IsLast key (due.Over k at) = k.0 ≡ key
 IsLast key due.Nothing = ⊥
 
--- a transaction of which that was said is no longer live
+-- a transaction of which that was reported is no longer live
 abbrev pub LastOnesEnd : Type 0
 LastOnesEnd = (h : List Done) (now key : ℕ) → IsLast key (says_due (next_due now (live h))) → by_key key (live (fires h (next_due now (live h)))) ≡ None
 
@@ -189,6 +189,6 @@ LastOnesEnd = (h : List Done) (now key : ℕ) → IsLast key (says_due (next_due
 abbrev pub WhatEndedStays : Type 0
 WhatEndedStays = (h g : List Done) (key : ℕ) → key < length (opened h) → by_key key (live h) ≡ None → by_key key (live (g ++ h)) ≡ None
 
--- of two draws, both before the greatest number, the tokens differ
+-- of two draws, both before the maximum number, the tokens differ
 abbrev pub TokensDiffer : Type 0
 TokensDiffer = (token : List ℕ) (m n : ℕ) → m < 2 ^ 64 - 1 → n < 2 ^ 64 - 1 → token_text token (next_number m) ≡ token_text token (next_number n) → m ≡ n

@@ -1,4 +1,4 @@
--- A reliable provisional answer among other calls: it is sent again until it is settled, as its PRACK does, or a final answer is offered (RFC 3262 §3).
+-- A reliable provisional response among other operations: it is retransmitted until it is settled, as by its PRACK, or a final response is sent (RFC 3262 §3).
 use Rattle.std.specs.Prelude.{◌≡◌, ◌<◌, ℕ, ◌+◌, Bool, true, false, not, ◌&&◌, ◌==◌, if◌then◌else◌, List, [], ◌∷◌, Option, Some, None, slice_get}
 use Rattle.mmtel_message.specs.Message.{Message}
 use Rattle.mmtel_message.specs.Texts.{message_text}
@@ -20,17 +20,17 @@ pub record IsUnanswered (key : ℕ) (h : List Done) (e : Entry) : Type 0 where
   pub server : e.is_server ≡ true
   pub undone : e.done ≡ 0
 
--- and at this place of it this reliable answer, which waits for its PRACK
+-- and at this position of it this reliable response, which waits for its PRACK
 pub record WaitsAt (key : ℕ) (h : List Done) (e : Entry) (place : ℕ) (answer : ReliableAnswer) : Type 0 where
   pub unanswered : IsUnanswered key h e
   pub there : slice_get e.reliable place ≡ Some answer
 
--- whether an answer of this number is settled with one of that number, or with all
+-- whether a response of this number is settled with one of that number, or with all
 abbrev pub settles : ℕ → Option ℕ → Bool
 settles own None = true
 settles own (Some n) = own == n
 
--- this answer is settled, or a final is offered in its transaction
+-- this response is settled, or a final is sent in its transaction
 abbrev pub ends_answer : ℕ → ℕ → Done → Bool
 ends_answer key own (DidBegin step) = false
 ends_answer key own (DidHear p m now taken) = false
@@ -40,7 +40,7 @@ ends_answer key own (DidAck k m) = false
 ends_answer key own (DidFire k) = false
 ends_answer key own (DidSettle k n) = (k == key) && settles own n
 
--- the deadline of the answer at this place fires
+-- the deadline of the response at this position fires
 abbrev pub is_place : ℕ → Option ℕ → Bool
 is_place place None = false
 is_place place (Some p) = p == place
@@ -54,11 +54,11 @@ sends_it key place e (DidAck k m) = false
 sends_it key place e (DidFire k) = (k == key) && is_place place (message_due e)
 sends_it key place e (DidSettle k n) = false
 
--- then it was sent once more
+-- then it was retransmitted once more
 abbrev pub sent_if : Bool → ℕ → ReliableAnswer → ReliableAnswer
 sent_if b step answer = if b then record answer { shots = answer.shots + 1; step = step } else answer
 
--- an answer with a number that is offered in such a transaction waits there
+-- a response with a number that is sent in such a transaction waits there
 abbrev pub OfferedAnswersWait : Type 0
 OfferedAnswersWait =
     (h : List Done) (key : ℕ) (e : Entry) (m : Message Start) (t own : ℕ)
@@ -66,7 +66,7 @@ OfferedAnswersWait =
     → reliable_number m ≡ Some own
     → (x : Entry) × (place : ℕ) × WaitsAt key (DidReply key m t ∷ h) x place (record { own = own; text = message_text m; start = t; shots = 0; step = step_of h; order = offers h })
 
--- and goes on waiting whatever is called, changed by nothing but its own deadline, until it is ended
+-- and continues to wait whatever is called, changed by nothing but its own deadline, until it is ended
 abbrev pub AnswersGoOn : Type 0
 AnswersGoOn =
     (c : Done) (h : List Done) (key : ℕ) (e : Entry) (place : ℕ) (answer : ReliableAnswer)
@@ -75,11 +75,11 @@ AnswersGoOn =
     → ends_answer key answer.own c ≡ false
     → (x : Entry) × (next : ℕ) × WaitsAt key (c ∷ h) x next (sent_if (sends_it key place e c) (step_of h) answer)
 
--- what of it is due, and what is said of it
+-- what of it is due, and the result of that
 pub record IsSentAgain (h : List Done) (key : ℕ) (e : Entry) (place : ℕ) (answer : ReliableAnswer) : Type 0 where
-  -- where nothing is due its next moment is not past
+  -- where nothing is due its next moment is later than now
   pub waits : (now at : ℕ) → counted answer.start (moments_of schedule.Invite) answer.shots ≡ Some at → next_due now (live h) ≡ None → now < at
-  -- when its deadline fires, at that moment, it is sent again to the peer that asked
+  -- when its deadline fires, at that moment, it is retransmitted to the peer that sent the request
   pub moment : (now : ℕ) (n : Next) → next_due now (live h) ≡ Some n → n.entry.key ≡ key → message_due n.entry ≡ Some place
       → counted answer.start (moments_of schedule.Invite) answer.shots ≡ Some n.at
   pub says : (now : ℕ) (n : Next) → next_due now (live h) ≡ Some n → n.entry.key ≡ key → message_due n.entry ≡ Some place → says_due (Some n) ≡ due.Again e.peer n.at answer.text
@@ -87,7 +87,7 @@ pub record IsSentAgain (h : List Done) (key : ℕ) (e : Entry) (place : ℕ) (an
 abbrev pub AnswersAreSentAgain : Type 0
 AnswersAreSentAgain = (h : List Done) (key : ℕ) (e : Entry) (place : ℕ) (answer : ReliableAnswer) → IsRun h → WaitsAt key h e place answer → IsSentAgain h key e place answer
 
--- what was settled waits no more
+-- what was settled no longer waits
 abbrev pub SettledAreGone : Type 0
 SettledAreGone =
     (h : List Done) (key : ℕ) (own : Option ℕ) (x : Entry) (place : ℕ) (answer : ReliableAnswer)
@@ -95,6 +95,6 @@ SettledAreGone =
     → slice_get x.reliable place ≡ Some answer
     → settles answer.own own ≡ false
 
--- and a transaction with a final has no answer that waits
+-- and a transaction with a final has no response that waits
 abbrev pub FinalsEndAnswers : Type 0
 FinalsEndAnswers = (h : List Done) (key : ℕ) (e : Entry) → IsRun h → by_key key (live h) ≡ Some e → (e.done ≡ 0 → ⊥) → e.reliable ≡ []

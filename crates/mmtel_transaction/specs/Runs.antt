@@ -1,4 +1,4 @@
--- The lists of calls that can come about.
+-- The lists of operations that can occur.
 use Rattle.std.specs.Prelude.{◌≡◌, ℕ, List, [], ◌∷◌, Some}
 use Rattle.mmtel_transaction.specs.Heads.{head_of}
 use Rattle.mmtel_transaction.specs.Calls.{Done, DidBegin, DidHear, DidAsk, DidReply, DidAck, DidFire, DidSettle, live}
@@ -11,7 +11,7 @@ pub record IsNextOf (key : ℕ) (h : List Done) : Type 0 where
   pub first : next_due now (live h) ≡ Some next
   pub same : next.entry.key ≡ key
 
--- each message was taken for what the calls before make of it, and each deadline that fired was then the next one
+-- each message has the class that the operations before determine, and each deadline that fired was then the next one
 abbrev pub IsRun : List Done → Type 0
 IsRun [] = Unit {0}
 IsRun (DidBegin n ∷ h) = IsRun h

@@ -1,4 +1,4 @@
--- Deadlines in a row: which comes next, in which step it was armed, and that they come to an end where nothing else is called between them (RFC 3261 §17).
+-- Successive deadlines: which comes next, in which step it was armed, and that they terminate where nothing else is called between them (RFC 3261 §17).
 use Rattle.std.specs.Prelude.{◌≡◌, ◌↔◌, ℕ, zero, suc, ◌+◌, ◌-◌, ◌<◌, ◌≤◌, ◌⊎◌, Bool, nat_le, if◌then◌else◌, List, ◌∷◌, ◌++◌, Option, Some, None, option_map, slice_get}
 use Rattle.std.specs.Prelude.{count_by, sum_by}
 use Rattle.std.specs.Option.{option_or}
@@ -12,32 +12,32 @@ use Rattle.mmtel_transaction.specs.declared.entries.Alarm.{Alarm}
 use Rattle.mmtel_transaction.specs.declared.entries.Entry.{Entry}
 use Rattle.mmtel_transaction.specs.declared.entries.ReliableAnswer.{ReliableAnswer}
 
--- of the deadlines of live transactions this moment and this step are the least that is not past now: the moment, and of one moment the step
+-- of the deadlines of live transactions this moment and this step are the least that is not later than now: the moment, and of the same moment the step
 pub record IsLeast (now : ℕ) (h : List Done) (at step : ℕ) : Type 0 where
   pub not_past : at ≤ now
   pub stands : (e : Entry) × (by_key e.key (live h) ≡ Some e) × (deadline e ≡ Some at) × (step_due e ≡ step)
   pub least : (key a : ℕ) (e : Entry) → by_key key (live h) ≡ Some e → deadline e ≡ Some a → (at < a) ⊎ ((at ≡ a) × (step ≤ step_due e))
 
--- what `upcoming` gives is the least one
+-- what `upcoming` returns is the least one
 abbrev pub UpcomingIsLeast : Type 0
 UpcomingIsLeast = (h : List Done) (now at step : ℕ) → upcoming_of (next_due now (live h)) ≡ Some (at, step) → IsLeast now h at step
 
--- and where it gives none, every deadline is past now
+-- and where it returns none, every deadline is later than now
 abbrev pub NoneIsDue : Type 0
 NoneIsDue = (h : List Done) (now key a : ℕ) (e : Entry) → upcoming_of (next_due now (live h)) ≡ None → by_key key (live h) ≡ Some e → deadline e ≡ Some a → now < a
 
--- a transaction's deadline, as one more call leaves it, stood before with the same step and order among what its answers and its plan had next
+-- a transaction's deadline, as one more operation leaves it, was there before with the same step and order among the next deadlines of its responses and its state
 pub record StoodBefore (h : List Done) (key a : ℕ) (x : Entry) : Type 0 where
   pub entry : Entry
   pub live : by_key key (live h) ≡ Some entry
   pub place : ℕ
   pub stood : slice_get (answers_alarms entry ++ plan_alarms entry) place ≡ Some (record { at = a; step = step_due x; order = order_due x })
 
--- a deadline is armed in the step in which the call was made that brought it
+-- a deadline is armed in the step of the operation that caused it
 abbrev pub ArmedInItsStep : Type 0
 ArmedInItsStep = (c : Done) (h : List Done) (key a : ℕ) (x : Entry) → by_key key (live (c ∷ h)) ≡ Some x → deadline x ≡ Some a → (step_due x ≡ step_of h) ⊎ StoodBefore h key a x
 
--- how long a transaction's deadlines may go on: from the next one to the last one in milliseconds, and one; nothing where it has none
+-- how long a transaction's deadlines may continue: from the next one to the last one in milliseconds, and one; zero where it has none
 abbrev pub left_by : Option ℕ → Option ℕ → ℕ
 left_by None last = 0
 left_by (Some a) None = 1
@@ -46,14 +46,14 @@ left_by (Some a) (Some last) = suc (last - a)
 abbrev pub planned_left : Entry → ℕ
 planned_left e = left_by (option_or (planned_at e) (last_at e)) (last_at e)
 
--- of a reliable answer, which is sent again for the last time after 31,500
+-- for a reliable response, which is retransmitted for the last time after 31,500
 abbrev pub answer_left : ReliableAnswer → ℕ
 answer_left answer = left_by (option_map (λ alarm. alarm.at) (alarm_of answer)) (Some (answer.start + 31500))
 
 abbrev pub time_left : Entry → ℕ
 time_left e = if is_idle e.plan then sum_by answer_left e.reliable else planned_left e
 
--- so of all of them together
+-- the sum of these over all transactions
 abbrev pub all_left : List Entry → ℕ
 all_left es = sum_by time_left es
 
@@ -61,12 +61,12 @@ all_left es = sum_by time_left es
 abbrev pub FiringsUseUp : Type 0
 FiringsUseUp = (h : List Done) (now : ℕ) (n : Next) → next_due now (live h) ≡ Some n → suc (all_left (live (fires h (Some n)))) ≤ all_left (live h)
 
--- the calls after so many calls of `due`, one after the other
+-- the operations after so many calls of `due`, one after the other
 unfoldable pub settled : ℕ → ℕ → List Done → List Done
 settled zero now h = h
 settled (suc fuel) now h = settled fuel now (fires h (next_due now (live h)))
 
--- that many are enough: then nothing is due
+-- that many are enough: nothing is due after them
 abbrev pub FiringsEnd : Type 0
 FiringsEnd = (h : List Done) (now fuel : ℕ) → all_left (live h) ≤ fuel → next_due now (live (settled fuel now h)) ≡ None
 
@@ -74,14 +74,14 @@ FiringsEnd = (h : List Done) (now fuel : ℕ) → all_left (live h) ≤ fuel →
 abbrev pub MoreChangesNothing : Type 0
 MoreChangesNothing = (h : List Done) (now fuel more : ℕ) → next_due now (live (settled fuel now h)) ≡ None → settled (fuel + more) now h ≡ settled fuel now h
 
--- where other calls are made between, as those above make them of what a deadline says: how many deadlines are not later than a moment
+-- where other operations are called between, as the layers above do when a deadline fires: how many deadlines are not later than a moment
 abbrev pub is_not_later : ℕ → Alarm → Bool
 is_not_later at alarm = nat_le alarm.at at
 
 abbrev pub due_by : ℕ → List Entry → ℕ
 due_by at es = sum_by (λ e. count_by (is_not_later at) (alarms e)) es
 
--- nothing is due just where there are none
+-- nothing is due exactly where there are none
 abbrev pub DueIsCounted : Type 0
 DueIsCounted = (h : List Done) (at : ℕ) → (next_due at (live h) ≡ None) ↔ (due_by at (live h) ≡ 0)
 
@@ -89,11 +89,11 @@ DueIsCounted = (h : List Done) (at : ℕ) → (next_due at (live h) ≡ None) �
 abbrev pub FiringsLeaveFewer : Type 0
 FiringsLeaveFewer = (h : List Done) (now : ℕ) (n : Next) → next_due now (live h) ≡ Some n → suc (due_by n.at (live (fires h (Some n)))) ≤ due_by n.at (live h)
 
--- a step that begins changes no transaction
+-- the beginning of a step changes no transaction
 abbrev pub BeginsChangeNothing : Type 0
 BeginsChangeNothing = (h : List Done) (step : ℕ) → live (DidBegin step ∷ h) ≡ live h
 
--- and what is offered at that moment adds none
+-- and what is sent at that moment adds none
 pub record AddsNone (h : List Done) : Type 0 where
   pub asks : (p : Peer) (m : Message Start) (at : ℕ) → due_by at (live (DidAsk p m at ∷ h)) ≤ due_by at (live h)
   pub replies : (key : ℕ) (m : Message Start) (at : ℕ) → due_by at (live (DidReply key m at ∷ h)) ≤ due_by at (live h)

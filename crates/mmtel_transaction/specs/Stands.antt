@@ -1,4 +1,4 @@
--- Which calls the transactions stand for, and what is true of these after one more.
+-- Which operations the transactions represent, and what is true of these after one more.
 use Rattle.std.specs.Prelude.{◌≡◌, ◌<◌, ◌-◌, ◌^◌, min, List, length}
 use Rattle.mmtel_message.specs.Message.{Message}
 use Rattle.mmtel_message.specs.declared.messages.Start.{Start}
@@ -10,7 +10,7 @@ use Rattle.mmtel_transaction.specs.declared.words.HearFault.{HearFault}
 use Rattle.mmtel_transaction.specs.declared.words.HearFault.TheVariants as fault
 use Rattle.mmtel_transaction.specs.declared.transactions.Transactions.{Transactions}
 
--- these calls can come about, and the transactions are what they leave; the number of the next one stays at its greatest number
+-- these operations can occur, and the transactions are what they leave; the number of the next one stays at its maximum
 pub record Stands (t : Transactions) (h : List Done) : Type 0 where
   pub step : t.step ≡ step_of h
   pub offers : t.offers ≡ offers h
@@ -18,23 +18,23 @@ pub record Stands (t : Transactions) (h : List Done) : Type 0 where
   pub entries : t.entries ≡ live h
   pub run : IsRun h
 
--- so few transactions were opened that one more has a number of its own
+-- so few transactions were opened that one more has its own number
 abbrev pub HasRoom : List Done → Type 0
 HasRoom h = length (opened h) < 2 ^ 64
 
--- whatever calls they stood for, they stand for those and more, and so much is true of those
+-- whatever operations they represented, they represent those and more, and this is true of those
 abbrev pub Does : Transactions → Transactions → (List Done → List Done) → (List Done → Type 0) → Type 0
 Does old new more P = (h : List Done) → Stands old h → Stands new (more h) × P h
 
--- so it is of a call that may open a transaction, where one more has a number of its own
+-- so it is after an operation that may open a transaction, where one more has its own number
 abbrev pub MayOpen : Transactions → Transactions → (List Done → List Done) → (List Done → Type 0) → Type 0
 MayOpen old new more P = (h : List Done) → Stands old h → HasRoom h → Stands new (more h) × P h
 
--- whatever calls they stood for, they still do, and so much is true of those
+-- whatever operations they represented, they still do, and this is true of those
 abbrev pub Stays : Transactions → Transactions → (List Done → Type 0) → Type 0
 Stays old new P = (h : List Done) → Stands old h → Stands new h × P h
 
--- why `hear` refuses a message that is taken for this: one too many, which is handed back, or want of memory, which is free
+-- why `hear` refuses a message of this class: one transaction too many, where the message is handed back, or out of memory, where nothing else is claimed
 abbrev pub IsRefusal : Part → Message Start → HearFault → Type 0
 IsRefusal taken m (fault.Full x) = (x ≡ m) × (taken ≡ part.Full)
 IsRefusal taken m fault.NoMemory = Unit {0}

@@ -1,4 +1,4 @@
--- What the code does to its table: a change of one transaction, and what a reference to one shows.
+-- What the code does to its table: a change of one transaction, and the value behind a reference to one.
 use Rattle.std.specs.Prelude.{◌≡◌, ℕ, ◌==◌, if◌then◌else◌, List, [], ◌∷◌, length, Some}
 use Rattle.std.specs.Borrow.{Bor}
 use Rattle.mmtel_types.specs.declared.numbers.Peer.{Peer}
@@ -17,12 +17,12 @@ use Rattle.mmtel_transaction.specs.declared.words.Heard.{Heard}
 use Rattle.mmtel_transaction.specs.declared.tables.Found.{Found}
 use Rattle.mmtel_transaction.specs.declared.transactions.Transactions.{Transactions}
 
--- the transaction of a key changed, and left out where that ends it
+-- the transaction of a key changed, and removed where the change ends it
 abbrev pub settle : ℕ → (Entry → Entry) → List Entry → List Entry
 settle key f [] = []
 settle key f (e ∷ es) = if e.key == key then (if is_live (f e) then f e ∷ es else es) else e ∷ settle key f es
 
--- what a change makes of a transaction
+-- the effect of a change on a transaction
 abbrev pub made : Change → (Entry → Entry)
 made (change.Fire step) = fired step
 made (change.Reply step order status text to_tag now) = replied step order status text to_tag now
@@ -39,7 +39,7 @@ now_of e = e.now
 abbrev pub found_of : Found → Next
 found_of f = record { at = f.at; entry = f.of.now }
 
--- whatever calls they stood for that make this of the message, they stand for those and the hearing of it, and so much is said
+-- whatever operations they represented that give the message this class, they represent those and its receipt, and this is the result
 abbrev pub HearsAs : Transactions → Transactions → Peer → Message Start → ℕ → Part → Heard → List Done → Type 0
 HearsAs old new p m now taken said h = Stands old h → taken ≡ part_of (head_of m) (live h) →
     Stands new (DidHear p m now taken ∷ h) × (Some said ≡ says (length (opened h)) (live h) p m taken)

@@ -1,4 +1,4 @@
--- A number that is told from bytes: equal ones are told by one number. Others may be too, so who finds something by it asks that whether it is the one.
+-- A hash of bytes: equal bytes have equal hashes. Different bytes may have the same one too, so what is found by it is compared with what is sought.
 use Rattle.std.specs.Prelude.{ℕ, ◌+◌, ◌*◌, ◌%◌, ◌^◌, List, [], ◌∷◌}
 
 abbrev pub told_on : ℕ → ℕ → ℕ

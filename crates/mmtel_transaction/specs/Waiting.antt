@@ -1,5 +1,5 @@
--- One transaction among others: when its message is sent again, given up or ended, whatever else is called meanwhile
--- (RFC 3261 §13.3.1.4, §17.1.1.2, §17.1.1.3, §17.1.2.2, §17.2.1; RFC 6026 §8).
+-- One transaction among others: when its message is retransmitted, when it times out or ends, whatever else is called meanwhile (RFC 3261 §13.3.1.4, §17.1.1.2, §17.1.1.3,
+-- §17.1.2.2, §17.2.1; RFC 6026 §8).
 use Rattle.std.specs.Prelude.{◌≡◌, ℕ, suc, ◌+◌, ◌≤◌, Bool, true, false, not, ◌&&◌, ◌==◌, if◌then◌else◌, List, [], ◌∷◌, ◌++◌, length, map, Some, None, option_map, slice_get}
 use Rattle.std.specs.List.{list_any}
 use Rattle.std.specs.Str.{bytes_eq}
@@ -29,7 +29,7 @@ use Rattle.mmtel_transaction.specs.declared.words.Heard.TheVariants as heard
 abbrev pub new_key : List Done → ℕ
 new_key h = length (opened h)
 
--- none of these calls is such a one
+-- none of these operations is such a one
 abbrev pub Lacks : (Done → Bool) → List Done → Type 0
 Lacks is_one g = list_any is_one g ≡ false
 
@@ -44,16 +44,16 @@ times_fired key (DidAck k m ∷ g) = times_fired key g
 times_fired key (DidFire k ∷ g) = if k == key then suc (times_fired key g) else times_fired key g
 times_fired key (DidSettle k own ∷ g) = times_fired key g
 
--- a transaction that goes by a closed list of moments after a start, once so many of its deadlines fired
+-- a transaction that follows a closed list of moments after a start, once so many of its deadlines fired
 pub record GoesBy (key start : ℕ) (moments : List ℕ) (said : List Due) (fired : ℕ) (h : List Done) : Type 0 where
   -- its next deadline is the next moment of the list, after these 32,000; and after that it is no longer live
   pub next : option_map deadline (by_key key (live h)) ≡ option_map (λ d. Some (start + d)) (slice_get (moments ++ 32000 ∷ []) fired)
-  -- this is what `due` says of it when that deadline fires
+  -- this is what `due` returns of it when that deadline fires
   pub says : (now : ℕ) (n : Next) → next_due now (live h) ≡ Some n → n.entry.key ≡ key → Some (says_due (Some n)) ≡ slice_get said fired
   -- where nothing is due at its last moment or later, it is no longer live
   pub over : (now : ℕ) → start + 32000 ≤ now → next_due now (live h) ≡ None → by_key key (live h) ≡ None
 
--- an answer to this client transaction is heard
+-- a response to this client transaction is received
 abbrev pub answers : ℕ → Part → Bool
 answers key part.Fresh = false
 answers key part.Full = false
@@ -83,15 +83,15 @@ is_final_to key (DidAck k m) = false
 is_final_to key (DidFire k) = false
 is_final_to key (DidSettle k own) = false
 
--- the moments at which a request is sent again that nobody answers
+-- the moments at which a request that gets no response is retransmitted
 abbrev pub request_moments : Head → List ℕ
 request_moments m = moments_of (if is_invite m then schedule.Invite else schedule.Other)
 
--- what `due` says in turn of a request that was asked at t: it is sent again, and at last given up
+-- what `due` returns in turn of a request that was sent at t: it is retransmitted, and at last times out
 abbrev pub said_of_request : ℕ → Peer → Message Start → ℕ → List Due
 said_of_request key p m t = map (sent_again p m t) (request_moments (head_of m)) ++ due.Silent (tkey key) (head_of m).branch (head_of m).method (t + 32000) ∷ []
 
--- a request that was asked at t goes by its closed list for as long as no answer to it is heard, whatever else is called (Timers A, B, E and F)
+-- a request that was sent at t follows its closed list for as long as no response to it is received, whatever else is called (Timers A, B, E and F)
 abbrev pub UnansweredAreGivenUp : Type 0
 UnansweredAreGivenUp =
     (h g : List Done) (p : Peer) (m : Message Start) (t : ℕ)
@@ -99,7 +99,7 @@ UnansweredAreGivenUp =
     → Lacks (is_answer_to (new_key h)) g
     → GoesBy (new_key h) t (request_moments (head_of m)) (said_of_request (new_key h) p m t) (times_fired (new_key h) g) (g ++ DidAsk p m t ∷ h)
 
--- an INVITE that had a provisional answer waits for nothing until it has a final one: it is neither sent again nor given up
+-- an INVITE that had a provisional response waits for no deadline until it has a final one: it is neither retransmitted nor timed out
 abbrev pub RingingIsNotGivenUp : Type 0
 RingingIsNotGivenUp =
     (h g f : List Done) (p q : Peer) (m n : Message Start) (t s : ℕ)
@@ -117,7 +117,7 @@ pub record AwaitsFinal (key : ℕ) (e : Entry) (h : List Done) : Type 0 where
   pub invite : is_invite e.asked ≡ true
   pub undone : e.done ≡ 0
 
--- the ACK of this final of this INVITE is heard: of a non-2xx in its transaction; of a 2xx by Call-ID, both tags and the number of CSeq
+-- the ACK of this final of this INVITE is received: of a non-2xx in its transaction; of a 2xx by Call-ID, both tags and the number of CSeq
 abbrev pub acknowledges : ℕ → Head → Head → Message Start → Part → Bool
 acknowledges key asked final m part.Fresh = false
 acknowledges key asked final m part.Full = false
@@ -137,11 +137,11 @@ is_ack_to key asked final (DidAck k m) = false
 is_ack_to key asked final (DidFire k) = false
 is_ack_to key asked final (DidSettle k own) = false
 
--- what `due` says in turn of a final that was offered at t: it is sent again, and at last its transaction ends
+-- what `due` returns in turn of a final that was sent at t: it is retransmitted, and at last its transaction ends
 abbrev pub said_of_final : ℕ → Peer → Message Start → ℕ → List Due
 said_of_final key p m t = map (sent_again p m t) (moments_of schedule.Other) ++ due.Over (tkey key) (t + 32000) ∷ []
 
--- a final of an INVITE that was offered at t goes by its closed list for as long as its ACK is not heard, whatever else is called (Timers G and H, and those of a 2xx)
+-- a final of an INVITE that was sent at t follows its closed list for as long as its ACK is not received, whatever else is called (Timers G and H, and those of a 2xx)
 abbrev pub FinalsAwaitTheirAck : Type 0
 FinalsAwaitTheirAck =
     (h g : List Done) (key : ℕ) (e : Entry) (m : Message Start) (t : ℕ)
@@ -153,10 +153,10 @@ FinalsAwaitTheirAck =
 
 -- what the ACK of the 2xx of this transaction leaves
 pub record EndsSuccess (e : Entry) (m : Head) (before after : List Entry) : Type 0 where
-  -- the 2xx is not sent again, and the transaction ends when it would have ended
+  -- the 2xx is not retransmitted, and the transaction ends when it would have ended
   pub ended : option_map resend_at (by_key e.key after) ≡ Some None
   pub end : option_map deadline (by_key e.key after) ≡ Some (Some (e.start + 32000))
-  -- a transaction whose 2xx it is not of is as before
+  -- a transaction whose 2xx it does not acknowledge is as before
   pub others : (key : ℕ) (x : Entry) → by_key key before ≡ Some x → is_ack_of m x ≡ false → by_key key after ≡ Some x
 
 abbrev pub AcksOf2xxEndResends : Type 0
@@ -167,7 +167,7 @@ AcksOf2xxEndResends =
     → part_of (head_of m) (live h) ≡ part.AckOf2xx
     → EndsSuccess e (head_of m) (live h) (live (hears h p m now))
 
--- and once the ACK of its final was heard, nothing of a transaction is sent again, whatever is called
+-- and once the ACK of its final was received, a transaction retransmits nothing, whatever is called
 abbrev pub WhatIsAckedIsSilent : Type 0
 WhatIsAckedIsSilent =
     (h g : List Done) (key : ℕ) (e x : Entry)
@@ -177,14 +177,14 @@ WhatIsAckedIsSilent =
     → by_key key (live (g ++ h)) ≡ Some x
     → resend_at x ≡ None
 
--- a live client INVITE transaction that has heard a final from 300
+-- a live client INVITE transaction that has received a final from 300
 pub record HeardRefusal (key : ℕ) (e : Entry) (h : List Done) : Type 0 where
   pub live : by_key key (live h) ≡ Some e
   pub client : e.is_server ≡ false
   pub invite : is_invite e.asked ≡ true
   pub refused : e.is_refused ≡ true
 
--- an ACK is offered in this transaction
+-- an ACK is sent in this transaction
 abbrev pub is_ack_in : ℕ → Done → Bool
 is_ack_in key (DidBegin step) = false
 is_ack_in key (DidHear p m now taken) = false
@@ -194,7 +194,8 @@ is_ack_in key (DidAck k m) = k == key
 is_ack_in key (DidFire k) = false
 is_ack_in key (DidSettle k own) = false
 
--- each non-2xx final that is heard in a client INVITE transaction after its ACK was offered gives that ACK again, to the peer that was asked, until another is offered (§17.1.1.3)
+-- for each non-2xx final that is received in a client INVITE transaction after its ACK was sent, that ACK is sent again, to the peer of the request, until another ACK is sent
+-- (§17.1.1.3)
 abbrev pub KeptAcksAreGiven : Type 0
 KeptAcksAreGiven =
     (h g : List Done) (key : ℕ) (e : Entry) (m n : Message Start) (p : Peer)

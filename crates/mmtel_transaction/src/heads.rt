@@ -12,7 +12,7 @@ pub struct Head {
     pub is_request: bool,
     /// The status; 0 of a request.
     pub status: u16,
-    /// That of the request which is made or answered.
+    /// The method: of the request, or of the one that a response answers.
     pub method: Text,
     /// The branch of the first Via.
     pub branch: Text,
@@ -41,7 +41,7 @@ impl Drop for Head {
     }
 }
 
-/// A copy of the value of a parameter, no bytes where there is none.
+/// A copy of the value of a parameter, empty where there is none.
 fn or_empty(alloc: Global, value: Option<&[u8]>) -> Result<Text, NoMemory>
     ensures { IfOk result (λ text. text ≡ unwrap_or (option_copied value.entry) []) }
 {
@@ -88,7 +88,7 @@ fn head_without(alloc: Global, start: &Start) -> Result<Head, NoMemory>
     })
 }
 
-/// What is read of a message whose five fields say this.
+/// What is read of a message with these five fields.
 fn head_by(alloc: Global, start: &Start, identifiers: &Identifiers<'_>) -> Result<Head, NoMemory>
     ensures { IfOk result (λ head. head ≡ head_by start.now identifiers.now) }
 {
@@ -105,11 +105,11 @@ fn head_by(alloc: Global, start: &Start, identifiers: &Identifiers<'_>) -> Resul
     })
 }
 
-/// The status and the To tag of an answer, and nothing else of its head.
+/// The status and the To tag of a response, and nothing else of its head.
 ///
 /// # Errors
 ///
-/// Want of memory alone.
+/// Out of memory only.
 #[tactic(auto, unfolding(crate::specs::Heads::head_of))]
 pub fn status_and_tag(alloc: Global, m: &Msg) -> Result<(u16, Text), NoMemory>
     ensures { IfOk result (λ said. said ≡ ((head_of m.now).status, (head_of m.now).to_tag)) }
@@ -123,10 +123,10 @@ pub fn status_and_tag(alloc: Global, m: &Msg) -> Result<(u16, Text), NoMemory>
     }
 }
 
-/// The greatest number of a reliable answer (RFC 3262 §7.1).
+/// The greatest number of a reliable response (RFC 3262 §7.1).
 const GREATEST_NUMBER: u64 = 2_147_483_647;
 
-/// The number of a reliable provisional answer, by its first RSeq line (RFC 3262 §7.1); None of any other message. It takes no memory.
+/// The number of a reliable provisional response, by its first RSeq line (RFC 3262 §7.1); None of any other message. It allocates nothing.
 #[tactic(auto, unfolding(crate::specs::Heads::reliable_number))]
 pub fn reliable_number(m: &Msg) -> Option<u32>
     ensures { result ≡ reliable_number m.now }
@@ -149,7 +149,7 @@ impl Head {
     ///
     /// # Errors
     ///
-    /// Want of memory alone.
+    /// Out of memory only.
     #[tactic(auto, using(crate::proofs::Identified::head_known, crate::proofs::Identified::head_unknown), unfolding(crate::specs::Heads::head_of))]
     pub fn of(alloc: Global, m: &Msg) -> Result<Head, NoMemory>
         ensures { IfOk result (λ head. head ≡ head_of m.now) }
@@ -181,7 +181,7 @@ impl Head {
         self.method.bytes() == b"CANCEL".as_slice()
     }
 
-    /// Whether Call-ID, From tag and number of CSeq are one.
+    /// Whether Call-ID, From tag and number of CSeq are equal.
     pub fn is_same_call(&self, other: &Head) -> bool
         ensures { result ≡ is_same_call self.now other.now }
     {

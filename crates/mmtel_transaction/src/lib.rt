@@ -1,6 +1,6 @@
-//! SIP transactions: which message belongs to which, what is sent again and when, and when a transaction ends (RFC 3261 §17, RFC 6026).
+//! SIP transactions: which message belongs to which, what is retransmitted and when, and when a transaction ends (RFC 3261 §17, RFC 6026).
 //!
-//! Transactions are kept by their numbers, and looked up by shelves of names and of deadlines.
+//! Transactions are kept by their numbers, and looked up in ordered indexes (shelves) of match keys and of deadlines.
 #![tactic(auto)]
 
 mod entries;

@@ -1,4 +1,4 @@
-//! By what live transactions are looked up: their names, and what they wait for.
+//! Keys by which live transactions are looked up: match keys, and the deadlines that transactions wait for.
 ghost use Rattle.std.specs.Prelude.{◌≡◌, IfOk, option_copied};
 ghost use Rattle.std.specs.Ordering.{ordering_then};
 ghost use Rattle.mmtel_timers.specs.Shelves.{answer, comes_before};
@@ -11,7 +11,7 @@ use mmtel_timers::{Mark, Ranked};
 use std::alloc::Global;
 use std::cmp::Ordering;
 
-/// A number that is told from bytes: equal ones have one number.
+/// A hash of bytes: equal bytes have equal hashes.
 pub fn told(bytes: &[u8]) -> u64
     ensures { result ≡ told_of bytes.now }
 {
@@ -24,13 +24,13 @@ pub fn told(bytes: &[u8]) -> u64
     sum
 }
 
-/// By what a message finds a transaction, and which transaction it is.
+/// A match key: the parts by which a message finds its transaction, and the number of that transaction.
 pub struct Name {
-    /// The number that is told from the branch or the Call-ID, by which names are ordered first: most of them are alike in many bytes.
+    /// The hash of the branch or the Call-ID, by which match keys are ordered first, since most of these share many bytes.
     pub told: u64,
     /// The branch, or the Call-ID.
     pub id: Text,
-    /// Whence the request came: the sent-by beside a branch, none of a client transaction, or the From tag beside a Call-ID.
+    /// The source of the request: the sent-by beside a branch, empty for a client transaction, or the From tag beside a Call-ID.
     pub from: Text,
     pub method: Text,
     /// The number of CSeq beside a Call-ID; 0 beside a branch.
@@ -52,7 +52,7 @@ impl Drop for Name {
     }
 }
 
-/// A name that is looked for: of those that are alike the first from a key on.
+/// A match key that is sought: of those with the same parts, the first one whose transaction has this number or a greater one.
 #[derive(Clone, Copy)]
 pub struct NameMark<'a> {
     pub told: u64,
@@ -63,7 +63,7 @@ pub struct NameMark<'a> {
     pub key: u64,
 }
 
-/// What of two answers decides.
+/// The lexicographic combination of two comparisons: the first of them that is not equal decides.
 fn or_then(first: Ordering, then: Ordering) -> Ordering
     ensures { result ≡ ordering_then first then }
 {
@@ -75,7 +75,7 @@ fn or_then(first: Ordering, then: Ordering) -> Ordering
 }
 
 impl<'a> NameMark<'a> {
-    /// What is looked for by these parts of a name.
+    /// The search key with these parts of a match key.
     pub fn of(id: &'a [u8], from: &'a [u8], method: &'a [u8], number: u32, key: u64) -> NameMark<'a>
         ensures { mark_name result ≡ named id.now from.now method.now number key }
     {
@@ -90,7 +90,7 @@ impl<'a> NameMark<'a> {
     }
 }
 
-/// Whether a name comes before a mark by what it says, or after it.
+/// Whether a match key comes before a search key, or after it, by its parts other than the hash.
 fn said_order(name: &Name, mark: &NameMark<'_>) -> Ordering
     ensures { result ≡ said_cmp name.now (mark_name mark.now) }
 {
@@ -107,7 +107,7 @@ fn said_order(name: &Name, mark: &NameMark<'_>) -> Ordering
     }
 }
 
-/// Whether a name comes before a mark, or after it.
+/// Whether a match key comes before a search key, or after it.
 fn name_order(name: &Name, mark: &NameMark<'_>) -> Ordering
     ensures { result ≡ name_cmp name.now (mark_name mark.now) }
 {
@@ -142,7 +142,7 @@ impl<'a> Mark<Name> for NameMark<'a> {
     }
 }
 
-/// The key of a name, if it is the one that is looked for.
+/// The transaction number of a match key, if it is the one that is sought.
 pub fn key_if(name: Option<&Name>, mark: &NameMark<'_>) -> Option<u64>
     ensures { result ≡ answer (has_name (mark_name mark.now)) (λ x. x.key) (option_copied name.entry) }
 {
@@ -164,7 +164,7 @@ pub fn key_if(name: Option<&Name>, mark: &NameMark<'_>) -> Option<u64>
 }
 
 impl Name {
-    /// Itself, as what is looked for.
+    /// Itself, as a search key.
     pub fn mark(&self) -> NameMark<'_>
         ensures { mark_name result ≡ self.now }
     {
@@ -178,11 +178,11 @@ impl Name {
         }
     }
 
-    /// The name of a server transaction.
+    /// The match key of a server transaction.
     ///
     /// # Errors
     ///
-    /// Want of memory alone.
+    /// Out of memory only.
     pub fn of_server(alloc: Global, e: &Entry) -> Result<Name, NoMemory>
         ensures name { IfOk result (λ name. name ≡ server_named e.now) }
     {
@@ -196,11 +196,11 @@ impl Name {
         })
     }
 
-    /// The name of a client transaction.
+    /// The match key of a client transaction.
     ///
     /// # Errors
     ///
-    /// Want of memory alone.
+    /// Out of memory only.
     pub fn of_client(alloc: Global, e: &Entry) -> Result<Name, NoMemory>
         ensures name { IfOk result (λ name. name ≡ client_named e.now) }
     {
@@ -214,11 +214,11 @@ impl Name {
         })
     }
 
-    /// The call and CSeq of the request of a server transaction.
+    /// The match key with call and CSeq of the request of a server transaction.
     ///
     /// # Errors
     ///
-    /// Want of memory alone.
+    /// Out of memory only.
     pub fn of_call(alloc: Global, e: &Entry) -> Result<Name, NoMemory>
         ensures name { IfOk result (λ name. name ≡ call_named e.now) }
     {
@@ -233,7 +233,7 @@ impl Name {
     }
 }
 
-/// What a live transaction waits for: the moment of its deadline, or the greatest number, and what orders those of one moment.
+/// The deadline key of a live transaction: the moment of its deadline, or the greatest number, and what orders those of the same moment.
 #[derive(Clone, Copy)]
 pub struct Waits {
     pub at: u128,
@@ -242,7 +242,7 @@ pub struct Waits {
     pub key: u64,
 }
 
-/// Which of two comes before the other.
+/// Which of two deadline keys comes before the other.
 fn waits_order(x: &Waits, y: &Waits) -> Ordering
     ensures { result ≡ waits_cmp x.now y.now }
 {
@@ -282,7 +282,7 @@ impl Mark<Waits> for Waits {
     }
 }
 
-/// What a transaction waits for.
+/// The deadline key of a transaction.
 pub fn waits_of(e: &Entry) -> Waits
     ensures { result ≡ waits e.now }
 {

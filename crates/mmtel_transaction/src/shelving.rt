@@ -1,4 +1,4 @@
-//! Taking items out of shelves, and putting others in.
+//! Removing items from shelves, and inserting others.
 ghost use Rattle.std.specs.Prelude.{◌≡◌, IfOk, OnErr, slice_get};
 ghost use Rattle.mmtel_timers.specs.Shelves.{answer, Ascends, Has};
 ghost use Rattle.mmtel_transaction.specs.Indexes.{ack_mark, call_named, client_named, has_name, mark_name, Moves, name_cmp, Puts, server_named, Takes, twin_mark, waits_cmp};
@@ -10,7 +10,7 @@ use mmtel_scan::NoMemory;
 use mmtel_timers::{Shelf, Steps};
 use std::sync::ledger::Ledger;
 
-/// What a transaction waits for changes. It takes no memory.
+/// Changes the deadline key of a transaction. It allocates nothing.
 pub fn rearm<L: Ledger>(due: &mut Shelf<Waits>, old: &Waits, new: Waits, steps: &mut Steps<L>)
     requires ascends { Ascends waits_cmp due.old }
     requires there { Has old.now due.old }
@@ -20,7 +20,7 @@ pub fn rearm<L: Ledger>(due: &mut Shelf<Waits>, old: &Waits, new: Waits, steps: 
     let _ = due.exchange(from, &new, new, steps);
 }
 
-/// A transaction no longer waits.
+/// Removes the deadline key of a transaction.
 pub fn take_waits<L: Ledger>(due: &mut Shelf<Waits>, old: &Waits, steps: &mut Steps<L>)
     requires ascends { Ascends waits_cmp due.old }
     requires there { Has old.now due.old }
@@ -30,7 +30,7 @@ pub fn take_waits<L: Ledger>(due: &mut Shelf<Waits>, old: &Waits, steps: &mut St
     let _ = due.remove(from);
 }
 
-/// A name is taken out.
+/// Removes a match key.
 pub fn take_name<L: Ledger>(names: &mut Shelf<Name>, old: &NameMark<'_>, steps: &mut Steps<L>)
     requires ascends { Ascends name_cmp names.old }
     requires there { Has (mark_name old.now) names.old }
@@ -40,7 +40,7 @@ pub fn take_name<L: Ledger>(names: &mut Shelf<Name>, old: &NameMark<'_>, steps: 
     let _ = names.remove(from);
 }
 
-/// The name of a server transaction.
+/// The match key of a server transaction.
 pub fn server_mark(e: &Entry) -> NameMark<'_>
     ensures { mark_name result ≡ server_named e.now }
 {
@@ -53,7 +53,7 @@ pub fn server_mark(e: &Entry) -> NameMark<'_>
     )
 }
 
-/// The name of a client transaction.
+/// The match key of a client transaction.
 pub fn client_mark(e: &Entry) -> NameMark<'_>
     ensures { mark_name result ≡ client_named e.now }
 {
@@ -66,7 +66,7 @@ pub fn client_mark(e: &Entry) -> NameMark<'_>
     )
 }
 
-/// The call and CSeq of the request of a server transaction.
+/// The match key with call and CSeq of the request of a server transaction.
 pub fn call_mark(e: &Entry) -> NameMark<'_>
     ensures { mark_name result ≡ call_named e.now }
 {
@@ -79,7 +79,7 @@ pub fn call_mark(e: &Entry) -> NameMark<'_>
     )
 }
 
-/// What stands before the names of all server transactions of the call and CSeq of this one.
+/// The search key that precedes the match keys of all server transactions with the call and CSeq of this one.
 pub fn twin_name(e: &Entry) -> NameMark<'_>
     ensures { mark_name result ≡ twin_mark e.now }
 {
@@ -92,7 +92,7 @@ pub fn twin_name(e: &Entry) -> NameMark<'_>
     )
 }
 
-/// What stands before the names of all INVITEs of whose 2xx this may be the ACK.
+/// The search key that precedes the match keys of all INVITEs whose 2xx this ACK may acknowledge.
 pub fn ack_name(m: &Head) -> NameMark<'_>
     ensures { mark_name result ≡ ack_mark m.now }
 {
@@ -105,7 +105,7 @@ pub fn ack_name(m: &Head) -> NameMark<'_>
     )
 }
 
-/// The key of the name at a place, if it is like the one that is looked for.
+/// The transaction number of the match key at a position, if it has the same parts as the one that is sought.
 pub fn key_at<L: Ledger>(
     names: &Shelf<Name>,
     place: usize,
@@ -117,11 +117,11 @@ pub fn key_at<L: Ledger>(
     key_if(names.look(place, steps), mark)
 }
 
-/// A transaction waits.
+/// Inserts the deadline key of a transaction.
 ///
 /// # Errors
 ///
-/// Want of memory alone; the shelf is then as before.
+/// Out of memory only; the shelf is then as before.
 pub fn put_waits<L: Ledger>(
     due: &mut Shelf<Waits>,
     new: Waits,
@@ -138,11 +138,11 @@ pub fn put_waits<L: Ledger>(
     }
 }
 
-/// A transaction has a name.
+/// Inserts a match key of a transaction.
 ///
 /// # Errors
 ///
-/// Want of memory alone; the shelf is then as before.
+/// Out of memory only; the shelf is then as before.
 pub fn put_name<L: Ledger>(
     names: &mut Shelf<Name>,
     new: Name,

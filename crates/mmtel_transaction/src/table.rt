@@ -1,4 +1,4 @@
-//! The live transactions, and what is looked up in them.
+//! The live transactions, and the look-ups in them.
 ghost use Rattle.std.specs.Prelude.{◌≡◌, [], ◌++◌, ◌∷◌, ◌^◌, ◌-◌, ◌*◌, ◌+◌, ◌≤◌, OnOk, OnErr, IfOk, IsTrue, false, map, option_map, Some};
 ghost use Rattle.std.specs.List.{find, list_any};
 ghost use Rattle.mmtel_transaction.specs.Changes.{acked_2xx, hit, with_answer};
@@ -21,7 +21,7 @@ use std::alloc::Global;
 use std::marker::Model;
 use std::sync::ledger::Ledger;
 
-/// The live transactions, the oldest first, which contracts see as their list.
+/// The live transactions, the oldest first; in contracts their list.
 #[derive(Drop)]
 pub struct Entries {
     kept: Option<Tables>,
@@ -38,7 +38,7 @@ impl Model for Entries {
 }
 
 impl Entries {
-    /// No transactions. It takes no memory.
+    /// No transactions. It allocates nothing.
     pub fn new() -> Entries
         ensures { result ≡ [] }
     {
@@ -49,7 +49,7 @@ impl Entries {
     ///
     /// # Errors
     ///
-    /// Want of memory, and that of numbers, where its key is not above all others; the transactions are then as before.
+    /// Out of memory, and out of numbers where its key is not greater than all others; the transactions are then as before.
     pub fn push<L: Ledger>(
         &mut self,
         alloc: Global,
@@ -71,7 +71,7 @@ impl Entries {
         pushed
     }
 
-    /// Changes the transaction of a key, and leaves it out where that ends it.
+    /// Changes the transaction of a key, and removes it where the change ends it.
     pub fn settle<L: Ledger>(&mut self, key: u64, change: Change, steps: &mut Steps<L>)
         ensures { self.new ≡ settle key (made change) self.old }
     {
@@ -81,11 +81,11 @@ impl Entries {
         }
     }
 
-    /// The server transaction of a key offers a reliable answer, which waits for its PRACK.
+    /// A reliable response is sent in the server transaction of a key, and waits for its PRACK.
     ///
     /// # Errors
     ///
-    /// Want of memory alone; the transactions are then as before.
+    /// Out of memory only; the transactions are then as before.
     pub fn add_answer<L: Ledger>(
         &mut self,
         alloc: Global,
@@ -105,7 +105,7 @@ impl Entries {
         }
     }
 
-    /// Hears the ACK of a 2xx.
+    /// Receives the ACK of a 2xx.
     pub fn ack_2xx<L: Ledger>(&mut self, step: u64, m: &Head, steps: &mut Steps<L>)
         ensures { self.new ≡ map (acked_2xx step m.now) self.old }
     {
@@ -193,7 +193,7 @@ impl Entries {
     }
 }
 
-/// What is sent again.
+/// The text that is retransmitted.
 fn text_of(alloc: Global, e: &Entry) -> Result<Text, NoMemory>
     ensures { IfOk result (λ t. t ≡ text_again e.now) }
 {
@@ -203,7 +203,7 @@ fn text_of(alloc: Global, e: &Entry) -> Result<Text, NoMemory>
     }
 }
 
-/// What is sent again by the plan of a transaction.
+/// The text that a transaction retransmits by its state.
 fn planned_text(alloc: Global, e: &Entry) -> Result<Text, NoMemory>
     ensures { IfOk result (λ t. t ≡ text_planned e.now) }
 {
@@ -217,7 +217,7 @@ fn planned_text(alloc: Global, e: &Entry) -> Result<Text, NoMemory>
     }
 }
 
-/// What is said of a deadline that fires.
+/// The result of a deadline that fires.
 pub fn say_due(alloc: Global, found: Found<'_>) -> Result<Due, NoMemory>
     ensures { IfOk result (λ d. d ≡ says_due (Some (found_of found.entry))) }
 {
@@ -271,7 +271,7 @@ fn find_client<'a, L: Ledger>(
     entries.find_client(m.branch.bytes(), m.method.bytes(), steps)
 }
 
-/// What an ACK is taken for.
+/// The class of an ACK.
 fn take_ack<L: Ledger>(entries: &Entries, m: &Head, steps: &mut Steps<L>) -> Part
     ensures { IsTrue (is_ack m.now) → result ≡ part_ack (find (is_server_of m.now) entries.now) }
 {
@@ -285,7 +285,7 @@ fn take_ack<L: Ledger>(entries: &Entries, m: &Head, steps: &mut Steps<L>) -> Par
     }
 }
 
-/// What another request is taken for.
+/// The class of another request.
 fn take_request<L: Ledger>(entries: &Entries, m: &Head, steps: &mut Steps<L>) -> Part
     ensures { is_ack m.now ≡ false → result ≡ part_request (is_full entries.now) (find (is_server_of m.now) entries.now) }
 {
@@ -299,7 +299,7 @@ fn take_request<L: Ledger>(entries: &Entries, m: &Head, steps: &mut Steps<L>) ->
     }
 }
 
-/// What a response is taken for.
+/// The class of a response.
 fn take_response<L: Ledger>(entries: &Entries, m: &Head, steps: &mut Steps<L>) -> Part
     ensures { result ≡ part_response m.now (find (is_client_of m.now) entries.now) }
 {
@@ -315,7 +315,7 @@ fn take_response<L: Ledger>(entries: &Entries, m: &Head, steps: &mut Steps<L>) -
     }
 }
 
-/// What a message is taken for.
+/// The class of a message.
 pub fn take_part<L: Ledger>(entries: &Entries, m: &Head, steps: &mut Steps<L>) -> Part
     ensures { result ≡ part_of m.now entries.now }
 {
@@ -343,7 +343,7 @@ fn last_sent(alloc: Global, e: &Entry) -> Result<Option<(Peer, Text)>, NoMemory>
     }
 }
 
-/// What the request of this transaction gives, heard again.
+/// What is retransmitted when the request of this transaction is received again.
 fn give_again(alloc: Global, e: &Entry, p: Peer) -> Result<Option<(Peer, Text)>, NoMemory>
     ensures { IfOk result (λ g. g ≡ gives_again p e.now) }
 {
@@ -355,7 +355,7 @@ fn give_again(alloc: Global, e: &Entry, p: Peer) -> Result<Option<(Peer, Text)>,
     }
 }
 
-/// What the request of the transaction of a key gives, heard again.
+/// What is retransmitted when the request of the transaction of a key is received again.
 pub fn give_key(
     alloc: Global,
     entries: &Entries,
@@ -370,7 +370,7 @@ pub fn give_key(
     }
 }
 
-/// What the final of the transaction of a key gives, heard again.
+/// What is retransmitted when the final of the transaction of a key is received again.
 pub fn same_key(
     alloc: Global,
     entries: &Entries,
@@ -384,7 +384,7 @@ pub fn same_key(
     }
 }
 
-/// The key of the INVITE that a CANCEL is of; of no other request is it looked for.
+/// The key of the INVITE that a CANCEL cancels; it is looked up for a CANCEL alone.
 pub fn cancelled_key<L: Ledger>(entries: &Entries, m: &Head, steps: &mut Steps<L>) -> Option<TKey>
     ensures { IsTrue (is_cancel m.now) → result ≡ option_map key_of (find (is_invite_of m.now) entries.now) }
 {
@@ -397,7 +397,7 @@ pub fn cancelled_key<L: Ledger>(entries: &Entries, m: &Head, steps: &mut Steps<L
     }
 }
 
-/// Whether the transaction of a key has a twin.
+/// Whether the request of the transaction of a key is merged with that of another live one (RFC 3261 §8.2.2.2).
 pub fn twin_of<L: Ledger>(entries: &Entries, key: u64, steps: &mut Steps<L>) -> bool
     ensures { result ≡ is_merged key entries.now }
 {

@@ -1,4 +1,4 @@
-//! The live transactions with what they are looked up by: their numbers, which rise, and shelves of their names and deadlines.
+//! The live transactions with their indexes: their numbers, which rise, and shelves of their match keys and deadlines.
 ghost use Rattle.std.specs.Prelude.{◌≡◌, ◌-◌, ◌+◌, ◌*◌, ◌^◌, ◌≤◌, ◌<◌, true, false, List, [], ◌++◌, ◌∷◌};
 ghost use Rattle.std.specs.Prelude.{OnOk, OnErr, IfOk, IfErr, IfSome, IsTrue, length, remove, map, option_map, option_copied, position, Some, None};
 ghost use Rattle.std.specs.List.{find, list_any};
@@ -33,7 +33,7 @@ pub struct Found<'a> {
     pub of: &'a Entry,
 }
 
-/// The live transactions, the oldest first, which contracts see as their list.
+/// The live transactions, the oldest first; in contracts their list.
 #[derive(Drop)]
 pub struct Tables {
     entries: VecDeque<Box<Entry>>,
@@ -43,7 +43,7 @@ pub struct Tables {
     clients: Shelf<Name>,
     /// The Call-IDs of server transactions, with From tag and CSeq.
     calls: Shelf<Name>,
-    /// What each transaction waits for; one that waits for nothing stands last.
+    /// The deadline keys of the transactions; one that waits for no deadline comes last.
     due: Shelf<Waits>,
 }
 
@@ -61,7 +61,7 @@ impl Model for Tables {
 }
 
 impl Tables {
-    /// No transactions. It takes no memory.
+    /// No transactions. It allocates nothing.
     #[tactic(auto, using(crate::proofs::Pushed::no_tables))]
     pub fn new(alloc: Global) -> Tables
         ensures { result ≡ [] }
@@ -188,7 +188,7 @@ impl Tables {
     ///
     /// # Errors
     ///
-    /// Want of memory, and that of numbers, where its key is not above all others; the transactions are then as before.
+    /// Out of memory, and out of numbers where its key is not greater than all others; the transactions are then as before.
     pub fn push<L: Ledger>(
         &mut self,
         alloc: Global,
@@ -208,7 +208,7 @@ impl Tables {
         }
     }
 
-    /// Whether a key is above all others.
+    /// Whether a key is greater than all others.
     fn is_above(&self, key: u64) -> bool
         ensures { IsTrue result → (e : Entry) → Has e self.now → e.key < key }
     {
@@ -218,7 +218,7 @@ impl Tables {
         }
     }
 
-    /// Adds a server transaction, whose key is above all others.
+    /// Adds a server transaction, whose key is greater than all others.
     fn push_server<L: Ledger>(
         &mut self,
         alloc: Global,
@@ -262,7 +262,7 @@ impl Tables {
         Ok(())
     }
 
-    /// Adds a client transaction, whose key is above all others.
+    /// Adds a client transaction, whose key is greater than all others.
     fn push_client<L: Ledger>(
         &mut self,
         alloc: Global,
@@ -296,7 +296,7 @@ impl Tables {
         Ok(())
     }
 
-    /// Changes the transaction of a key, and leaves it out where that ends it. It takes no memory.
+    /// Changes the transaction of a key, and removes it where the change ends it. It allocates nothing.
     pub fn settle<L: Ledger>(&mut self, key: u64, change: Change, steps: &mut Steps<L>)
         ensures { self.new ≡ settle key (made change) self.old }
     {
@@ -320,11 +320,11 @@ impl Tables {
         }
     }
 
-    /// The server transaction of a key offers a reliable answer, which waits for its PRACK.
+    /// A reliable response is sent in the server transaction of a key, and waits for its PRACK.
     ///
     /// # Errors
     ///
-    /// Want of memory alone; the transactions are then as before.
+    /// Out of memory only; the transactions are then as before.
     pub fn add_answer<L: Ledger>(
         &mut self,
         alloc: Global,
@@ -351,7 +351,7 @@ impl Tables {
         }
     }
 
-    /// Hears the ACK of a 2xx. It takes no memory.
+    /// Receives the ACK of a 2xx. It allocates nothing.
     pub fn ack_2xx<L: Ledger>(&mut self, step: u64, m: &Head, steps: &mut Steps<L>)
         ensures { self.new ≡ map (acked_2xx step m.now) self.old }
     {
@@ -368,7 +368,7 @@ impl Tables {
     }
 }
 
-/// Where the transaction of a key stands, or would stand.
+/// The position of the transaction of a key, or the one that it would have.
 fn search(entries: &VecDeque<Box<Entry>>, key: u64) -> Result<usize, usize>
     requires rises { Rises (λ e. e.key) (unboxed entries.now.items) }
     ensures found { IfOk result (λ i. position (is_of key) (unboxed entries.now.items) ≡ Some i) }
@@ -380,7 +380,8 @@ fn search(entries: &VecDeque<Box<Entry>>, key: u64) -> Result<usize, usize>
     }
 }
 
-/// Where a transaction stands, if none of those that were opened after it has ended: as far from the last one as its key is from that one's. So one that is young is found by one look.
+/// The position of a transaction if none of those that were opened after it has ended: as far from the last one as its key is from the key of that one. So a recent transaction
+/// is found by one comparison.
 fn search_from_end(entries: &VecDeque<Box<Entry>>, key: u64) -> Option<usize>
     requires rises { Rises (λ e. e.key) (unboxed entries.now.items) }
     ensures { IfSome result (λ i. position (is_of key) (unboxed entries.now.items) ≡ Some i) }
@@ -406,7 +407,7 @@ fn search_from_end(entries: &VecDeque<Box<Entry>>, key: u64) -> Option<usize>
     }
 }
 
-/// Takes the transaction at a place out.
+/// Removes the transaction at a position.
 fn let_go(entries: &mut VecDeque<Box<Entry>>, place: usize)
     requires { place < length entries.old.items }
     ensures { entries.new.items ≡ remove entries.old.items place }
@@ -414,7 +415,7 @@ fn let_go(entries: &mut VecDeque<Box<Entry>>, place: usize)
     drop(entries.remove(place));
 }
 
-/// A transaction in a block of its own, so that tables move little.
+/// A transaction in a block of its own, so that the tables move few bytes.
 fn boxed(alloc: Global, entry: Entry) -> Result<Box<Entry>, NoMemory>
     ensures value { IfOk result (λ b. b.value ≡ entry) }
 {
@@ -424,7 +425,7 @@ fn boxed(alloc: Global, entry: Entry) -> Result<Box<Entry>, NoMemory>
     }
 }
 
-/// The moment and the key of the deadline that stands first, if it is due.
+/// The moment and the key of the first deadline, if it is due.
 fn due_now(first: Option<&Waits>, now: u64) -> Option<(u64, u64)>
     ensures { result ≡ due_first now (option_copied first.entry) }
 {
@@ -440,7 +441,7 @@ fn due_now(first: Option<&Waits>, now: u64) -> Option<(u64, u64)>
     }
 }
 
-/// Whether, of the names from a place on that are like one, one is of another transaction than that of a key.
+/// Whether, of the match keys from a position on that have the same parts as a given one, one belongs to another transaction than that of a key.
 fn has_other<L: Ledger>(
     calls: &Shelf<Name>,
     from: usize,
@@ -463,7 +464,7 @@ fn has_other<L: Ledger>(
     false
 }
 
-/// The ACK of a 2xx is heard by the transaction of a key, if it is of that one's.
+/// The transaction of a key receives the ACK of a 2xx, if the ACK acknowledges the 2xx of that transaction.
 fn ack_key<L: Ledger>(
     entries: &mut VecDeque<Box<Entry>>,
     due: &mut Shelf<Waits>,
@@ -486,7 +487,7 @@ fn ack_key<L: Ledger>(
     }
 }
 
-/// The ACK of a 2xx is heard by the INVITEs of its call and number, whose names stand from a place on.
+/// The INVITEs of the call and number of the ACK of a 2xx, whose match keys begin at a position, receive it.
 fn ack_from<L: Ledger>(
     entries: &mut VecDeque<Box<Entry>>,
     due: &mut Shelf<Waits>,

@@ -6,7 +6,7 @@ use mmtel_scan::{NoMemory, Text, token_text};
 use std::alloc::Global;
 use std::marker::Model;
 
-/// A text, and the number of the last token that was drawn from it.
+/// A text, and the number of the last token drawn from it.
 #[derive(Drop)]
 pub struct Tokens {
     token: Text,
@@ -22,7 +22,7 @@ impl Model for Tokens {
 }
 
 impl Tokens {
-    /// No token was drawn yet. It takes no memory.
+    /// No token was drawn yet. It allocates nothing.
     pub fn new(token: Text) -> Tokens
         ensures { result ≡ record { token = token; drawn = 0 } }
     {
@@ -33,7 +33,7 @@ impl Tokens {
     ///
     /// # Errors
     ///
-    /// Want of memory alone; no number is then drawn.
+    /// Out of memory only; no number is then drawn.
     pub fn draw(&mut self, alloc: Global) -> Result<Text, NoMemory>
         ensures text { IfOk result (λ text. text ≡ token_text self.old.token (next_number self.old.drawn)) }
         ensures counted { OnOk result (self.new ≡ record { token = self.old.token; drawn = next_number self.old.drawn }) }

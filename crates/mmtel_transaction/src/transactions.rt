@@ -26,23 +26,23 @@ use std::alloc::Global;
 use std::mem;
 use std::sync::ledger::Ledger;
 
-/// The transactions of a server, which stand for the calls that were made of them.
+/// The transactions of a server, which represent the operations that were called.
 #[derive(Drop)]
 pub struct Transactions {
-    /// The number that deadlines carry which are armed from here on.
+    /// The step number of deadlines that are armed from now on.
     step: u64,
-    /// How many requests and answers were offered.
+    /// How many requests and responses were sent.
     offers: u128,
     /// How many transactions were opened, which is the number of the next one.
     next: u64,
     /// The live transactions, the oldest first.
     entries: Entries,
-    /// The text of the message that was offered last, until it is handed out.
+    /// The text of the message that was sent last, until it is handed out.
     offered: Text,
 }
 
 impl Transactions {
-    /// No transactions. It takes no memory.
+    /// No transactions. It allocates nothing.
     pub fn new() -> Transactions
         ensures stands { Stands result [] }
     {
@@ -55,14 +55,14 @@ impl Transactions {
         }
     }
 
-    /// Deadlines that are armed from here on carry this number, which is at least that of the `begin` before.
+    /// Deadlines that are armed from now on have this step number, which is at least that of the `begin` before.
     pub fn begin(&mut self, step: u64)
         ensures done { (h : List Done) → Stands self.old h → Stands self.new (DidBegin step ∷ h) }
     {
         self.step = step;
     }
 
-    /// The text of the message that `ask`, `reply` or `ack` offered last, which goes out now; no bytes where it was handed out before. It takes no memory.
+    /// The text of the message that `ask`, `reply` or `ack` was given last, which is to be sent now; empty where it was handed out before. It allocates nothing.
     ///
     /// A message is printed once: the transaction keeps a copy of this text.
     pub fn take_offered(&mut self) -> Text
@@ -72,11 +72,11 @@ impl Transactions {
         mem::replace(&mut self.offered, Text::new())
     }
 
-    /// A request is sent in a client transaction of its own, whose key is given.
+    /// Sends a request in a client transaction of its own, whose key is returned.
     ///
     /// # Errors
     ///
-    /// Want of memory alone; the transactions are then as before.
+    /// Out of memory only; the transactions are then as before.
     pub fn ask<L: Ledger>(
         &mut self,
         alloc: Global,
@@ -104,7 +104,7 @@ impl Transactions {
         Ok(TKey(key))
     }
 
-    /// The reliable answer that an answer is, which waits for its PRACK (RFC 3262 §3); None of any other one.
+    /// The reliable response that a response is, which waits for its PRACK (RFC 3262 §3); None for any other response.
     fn reliable_answer(
         &self,
         alloc: Global,
@@ -127,7 +127,7 @@ impl Transactions {
         }
     }
 
-    /// The transaction of a key offers this reliable answer, or none.
+    /// This reliable response, if any, is sent in the transaction of a key.
     fn add_answer<L: Ledger>(
         &mut self,
         alloc: Global,
@@ -144,12 +144,12 @@ impl Transactions {
         }
     }
 
-    /// An answer is offered in a live server transaction without a final answer; in any other nothing changes. A reliable provisional answer, which has a number by its RSeq
-    /// line, is sent again until it is settled, or a final answer is offered (RFC 3262 §3).
+    /// Sends a response in a live server transaction without a final response; in any other nothing changes. A reliable provisional response, which has a number by its RSeq
+    /// line, is retransmitted until it is settled, or a final response is sent (RFC 3262 §3).
     ///
     /// # Errors
     ///
-    /// Want of memory alone; the transactions are then as before.
+    /// Out of memory only; the transactions are then as before.
     pub fn reply<L: Ledger>(
         &mut self,
         alloc: Global,
@@ -174,11 +174,12 @@ impl Transactions {
         Ok(())
     }
 
-    /// The ACK of the non-2xx final that this live client INVITE transaction heard is kept, to be sent again when that final is heard again; in any other nothing changes.
+    /// Keeps the ACK of the non-2xx final that this live client INVITE transaction received, to be sent again when that final is received again; in any other transaction nothing
+    /// changes.
     ///
     /// # Errors
     ///
-    /// Want of memory alone; the transactions are then as before.
+    /// Out of memory only; the transactions are then as before.
     pub fn ack<L: Ledger>(
         &mut self,
         alloc: Global,
@@ -197,19 +198,19 @@ impl Transactions {
         Ok(())
     }
 
-    /// The reliable answer of this number to the server transaction of a key, or each of them, is sent no more (RFC 3262 §3). Nothing changes where there is none. It takes no
-    /// memory.
+    /// The reliable response of this number in the server transaction of a key, or with None each of them, is no longer retransmitted (RFC 3262 §3). Nothing changes where there
+    /// is none. It allocates nothing.
     pub fn settle<L: Ledger>(&mut self, k: TKey, own: Option<u32>, steps: &mut Steps<L>)
         ensures done { (h : List Done) → Stands self.old h → Stands self.new (DidSettle k.0 own ∷ h) }
     {
         self.entries.settle(k.0, Change::Settle(own), steps);
     }
 
-    /// Hears a message: says which transaction it opens or belongs to, and what is sent again because of it.
+    /// Receives a message: returns which transaction it opens or belongs to, and what is retransmitted because of it.
     ///
     /// # Errors
     ///
-    /// `Full`, which hands the message back, exactly where it would open a server transaction and 16,384 are live; and want of memory. The transactions are then as before.
+    /// `Full`, which hands the message back, exactly where it would open a server transaction and 16,384 are live; and out of memory. The transactions are then as before.
     pub fn hear<L: Ledger>(
         &mut self,
         alloc: Global,
@@ -226,11 +227,11 @@ impl Transactions {
         self.hear_as(alloc, p, m, head, now.ms(), taken, steps)
     }
 
-    /// The first deadline that is not past now fires: by its moment, then the step that armed it, then the offer of its message.
+    /// The first deadline that is not later than now fires: by its moment, then the step that armed it, then the order in which its message was sent.
     ///
     /// # Errors
     ///
-    /// Want of memory alone; the transactions are then as before.
+    /// Out of memory only; the transactions are then as before.
     pub fn due<L: Ledger>(
         &mut self,
         alloc: Global,
@@ -251,7 +252,7 @@ impl Transactions {
         }
     }
 
-    /// The moment and the step of the deadline that `due` would take; None exactly where there is none. It looks at one item at most.
+    /// The moment and the step of the deadline that `due` would take; None exactly where there is none. It examines one item at most.
     pub fn upcoming<L: Ledger>(&self, now: Moment, steps: &mut Steps<L>) -> Option<(u64, u64)>
         ensures next { (h : List Done) → Stands self.now h → result ≡ upcoming_of (next_due now (live h)) }
         ensures cost { steps.new ≤ steps.old + 1 }
@@ -260,7 +261,8 @@ impl Transactions {
         next_at(&self.entries, now.ms(), steps)
     }
 
-    /// The peer from which a live server transaction was opened, or to which a live client transaction was asked; None exactly where the key's is not live. It is found by its number, without a step.
+    /// The peer from which the request of a live server transaction came, or to which that of a live client transaction was sent; None exactly where the transaction of the key
+    /// is not live. It is found by its number, without a step.
     pub fn peer<L: Ledger>(&self, key: TKey, steps: &mut Steps<L>) -> Option<Peer>
         ensures live { (h : List Done) → Stands self.now h → result ≡ peer_of key.0 (live h) }
         ensures cost { steps.new ≡ steps.old }
@@ -277,7 +279,7 @@ impl Transactions {
 
     /// The live server transaction of this first Via branch, sent-by and method; None exactly where there is none.
     ///
-    /// Of n live server transactions it looks at so few that 2 to their number is at most 2n + 1.
+    /// Of n live server transactions it examines so few that 2 to their number is at most 2n + 1.
     pub fn server_of<L: Ledger>(
         &self,
         branch: &[u8],
@@ -295,9 +297,9 @@ impl Transactions {
         }
     }
 
-    /// Of the live client transactions of this branch and method the first that was asked; None exactly where there is none.
+    /// Of the live client transactions of this branch and method, the one whose request was sent first; None exactly where there is none.
     ///
-    /// Of n live client transactions it looks at so few that 2 to their number is at most 2n + 1.
+    /// Of n live client transactions it examines so few that 2 to their number is at most 2n + 1.
     pub fn client_of<L: Ledger>(
         &self,
         branch: &[u8],
@@ -315,7 +317,7 @@ impl Transactions {
     }
 }
 
-/// What is said of a request that opens a server transaction.
+/// The result for a request that opens a server transaction.
 fn say_fresh(key: u64, invite: Option<TKey>, is_cancel: bool, m: Msg) -> Heard
     ensures { result ≡ says_opened is_cancel key invite m }
 {
@@ -326,9 +328,9 @@ fn say_fresh(key: u64, invite: Option<TKey>, is_cancel: bool, m: Msg) -> Heard
     }
 }
 
-/// One method for each thing that a message may be taken for. What was read of the message is its second part.
+/// One method for each class of a message. Its parameter `head` is what was read of the message.
 impl Transactions {
-    /// A request is heard that opens a server transaction.
+    /// Receives a request that opens a server transaction.
     fn hear_fresh<L: Ledger>(
         &mut self,
         alloc: Global,
@@ -350,7 +352,7 @@ impl Transactions {
         Ok(say_fresh(key, invite, is_cancel, m))
     }
 
-    /// A request is heard again.
+    /// Receives a retransmitted request.
     fn hear_repeat(
         &self,
         alloc: Global,
@@ -365,7 +367,7 @@ impl Transactions {
         Ok(Heard::Repeat(given))
     }
 
-    /// A non-2xx final is heard again.
+    /// Receives a non-2xx final again.
     fn hear_same(
         &self,
         alloc: Global,
@@ -380,7 +382,7 @@ impl Transactions {
         Ok(Heard::Repeat(given))
     }
 
-    /// A response is heard that answers a client transaction.
+    /// Receives a response to a live client transaction.
     fn hear_answer<L: Ledger>(
         &mut self,
         p: Peer,
@@ -404,7 +406,7 @@ impl Transactions {
         Heard::Answer(TKey(key), m)
     }
 
-    /// The ACK of a non-2xx final is heard.
+    /// Receives the ACK of a non-2xx final.
     fn hear_acked<L: Ledger>(
         &mut self,
         p: Peer,
@@ -426,7 +428,7 @@ impl Transactions {
         Heard::Acked(TKey(key))
     }
 
-    /// Any other ACK is heard.
+    /// Receives any other ACK.
     fn hear_ack<L: Ledger>(
         &mut self,
         p: Peer,
@@ -441,14 +443,14 @@ impl Transactions {
         Heard::AckOf2xx(m)
     }
 
-    /// A response is heard that answers nothing.
+    /// Receives a response that matches no client transaction.
     fn hear_stray(&self, p: Peer, m: Msg, now: u64) -> Heard
         ensures { (h : List Done) → HearsAs self.now self.now p m now Stray result h }
     {
         Heard::Stray
     }
 
-    /// A message is heard that is taken for this.
+    /// Receives a message of this class.
     fn hear_as<L: Ledger>(
         &mut self,
         alloc: Global,

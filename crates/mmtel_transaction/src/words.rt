@@ -1,4 +1,4 @@
-//! What the layers above hear of transactions, and what they hand down.
+//! What the layers above receive from the transactions, and the commands that they pass down.
 ghost use Rattle.std.specs.Prelude.{◌≡◌};
 ghost use Rattle.mmtel_transaction.specs.declared.words.HearFault.TheVariants as fault;
 
@@ -10,14 +10,14 @@ use mmtel_types::{CallNo, Peer, RoomNo};
 #[derive(Clone, Copy, Debug, PartialEq, Eq, PartialOrd, Ord)]
 pub struct TKey(pub u64);
 
-/// What is due of a call, with the number of the attempt, reliable answer or 2xx, counted within the call, for which it was armed.
+/// A deadline of a call, with the number of the attempt, reliable response or 2xx, counted within the call, for which it was armed.
 ///
-/// A deadline whose attempt, answer or 2xx no longer waits for it emits nothing.
+/// A deadline whose attempt, response or 2xx no longer waits for it emits nothing.
 #[derive(Clone, Copy, Debug, PartialEq, Eq)]
 pub enum DueWord {
     /// The target did not answer in time.
     NoReply(u64),
-    /// No PRACK of a reliable provisional answer came (RFC 3262 §3).
+    /// No PRACK of a reliable provisional response came (RFC 3262 §3).
     NoPrack(u64),
     /// The longest time for which a call may ring is over.
     Cap(u64),
@@ -27,7 +27,7 @@ pub enum DueWord {
     Expired(u64),
 }
 
-/// What is due of a room, with the number of the invitation or 2xx, counted within the room, for which it was armed.
+/// A deadline of a conference, with the number of the invitation or 2xx, counted within the conference, for which it was armed.
 ///
 /// A deadline whose invitation or 2xx no longer waits for it emits nothing.
 #[derive(Clone, Copy, Debug, PartialEq, Eq)]
@@ -38,7 +38,7 @@ pub enum RoomWord {
     NoAck(u64),
 }
 
-/// What a call or a room wants done.
+/// A command of a call or of a conference.
 #[derive(Drop)]
 pub enum Emit {
     /// A request is sent in a client transaction of its own.
@@ -46,22 +46,22 @@ pub enum Emit {
         peer: Peer,
         msg: Msg,
     },
-    /// A server transaction is answered.
+    /// A response is sent in a server transaction.
     Reply {
         key: TKey,
         msg: Msg,
     },
-    /// An ACK is sent that is not of a non-2xx final.
+    /// An ACK that is not of a non-2xx final is sent.
     Plain {
         peer: Peer,
         text: Text,
     },
-    /// The ACK of the non-2xx final that the client transaction heard is sent.
+    /// The ACK of the non-2xx final that the client transaction received is sent.
     Ack {
         key: TKey,
         msg: Msg,
     },
-    /// The reliable provisional answer of this number to a server transaction, or each of them, is sent no more (RFC 3262 §3).
+    /// The reliable provisional response of this number in a server transaction, or with None each of them, is no longer retransmitted (RFC 3262 §3).
     Settled {
         key: TKey,
         own: Option<u32>,
@@ -72,7 +72,7 @@ pub enum Emit {
         what: DueWord,
         at: u64,
     },
-    /// A deadline of a seat of a room is armed, for a moment in milliseconds since 1970-01-01T00:00:00Z.
+    /// A deadline of a participant of a conference is armed, for a moment in milliseconds since 1970-01-01T00:00:00Z.
     ArmSeat {
         room: RoomNo,
         seat: u64,
@@ -81,29 +81,29 @@ pub enum Emit {
     },
 }
 
-/// What a call or a room wants done, in order.
+/// The commands of a call or of a conference, in order.
 pub type Emits = List<Emit>;
 
-/// What a message that was heard is.
+/// What a received message is.
 #[derive(Drop)]
 pub enum Heard {
     /// A request that opened this server transaction.
     Fresh(TKey, Msg),
     /// A response to the request of this client transaction.
     Answer(TKey, Msg),
-    /// A request, or a non-2xx final of an INVITE, that is heard again; what is to be sent again, and to whom, None where nothing is.
+    /// A request, or a non-2xx final of an INVITE, that is received again; what is to be retransmitted, and to whom, None where nothing is.
     Repeat(Option<(Peer, Text)>),
     /// The ACK of the non-2xx final of this server transaction.
     Acked(TKey),
-    /// A CANCEL that opened this server transaction, and the live INVITE transaction that it is of, if there is one.
+    /// A CANCEL that opened this server transaction, and the live INVITE transaction that it cancels, if there is one.
     Cancel(TKey, Option<TKey>, Msg),
     /// Any other ACK.
     AckOf2xx(Msg),
-    /// A response to no live client transaction.
+    /// A response that matches no live client transaction.
     Stray,
 }
 
-/// Why a message was not heard.
+/// Why a message was refused.
 #[derive(Drop)]
 pub enum HearFault {
     /// It would open a server transaction, and as many are live as may be; the message is handed back.
@@ -120,12 +120,12 @@ impl From<NoMemory> for HearFault {
     }
 }
 
-/// What a deadline brings. Moments are in milliseconds since 1970-01-01T00:00:00Z.
+/// The effect of a deadline. Moments are in milliseconds since 1970-01-01T00:00:00Z.
 #[derive(Drop)]
 pub enum Due {
-    /// This text is sent to the peer again: the deadline's moment is the second part.
+    /// This text is retransmitted to the peer: the deadline's moment is the second field.
     Again(Peer, u64, Text),
-    /// The request of this client transaction is given up, which ends it.
+    /// The request of this client transaction timed out, which ends the transaction.
     Silent {
         key: TKey,
         branch: Text,

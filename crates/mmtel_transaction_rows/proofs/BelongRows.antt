@@ -1,4 +1,4 @@
--- They compute, once the heads are put in.
+-- They compute, once the heads are substituted.
 use Rattle.std.proofs.Common.{◌≡◌, [], ◌∷◌, refl}
 use Rattle.std.specs.Prelude.{Some, None}
 use Rattle.mmtel_transaction.specs.Answers.{hear_says, tkey}

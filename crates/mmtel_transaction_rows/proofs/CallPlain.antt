@@ -1,4 +1,4 @@
--- The answers of a call that are no reliable provisional ones.
+-- The responses of a call that are not reliable provisional ones.
 use Rattle.std.proofs.Common.{◌≡◌, None, codes, refl}
 use Rattle.mmtel_transaction.specs.Heads.{reliable_number}
 use Rattle.mmtel_transaction_rows.specs.CallMessages.{Messages, response}

@@ -1,4 +1,4 @@
--- They compute, each of the five fields by itself; nothing parts the value of Via.
+-- They compute, each of the five fields by itself; the value of Via is not split.
 use Rattle.std.proofs.Common.{◌≡◌, ◌+◌, ◌∷◌, [], List, ℕ, Option, Some, None, codes, refl, ap, ◌∙◌, inl, inr}
 use Rattle.std.specs.Option.{option_map}
 use Rattle.std.proofs.lemmas.Bool.{cases_Bool}
@@ -27,7 +27,7 @@ unmapped : (o : Option ℕ) → option_map (λ n. n + 1) o ≡ None → o ≡ No
 unmapped None e = refl
 unmapped (Some n) e = absurd cc
 
--- where nothing parts a value it is its only part
+-- where a value is not split it is its only part
 pub one_part : (m : Mode) (s : List ℕ) → parting m s ≡ None → parts m s ≡ s ∷ []
 unfolding parting parts
 one_part m [] e = refl

@@ -1,4 +1,4 @@
--- They compute, once the head is put in.
+-- They compute, once the head is substituted.
 use Rattle.std.proofs.Common.{◌≡◌, List, [], ◌∷◌, codes, refl, ap, ◌∙◌, true}
 use Rattle.std.specs.Prelude.{Some, None}
 use Rattle.mmtel_message.specs.Texts.{message_text}
@@ -20,7 +20,7 @@ module _ (c : Worked) where
   abbrev begun_in_five : List Done
   begun_in_five = DidBegin 5 ∷ asked_in_three
 
-  -- the transaction as it is opened, and after its first deadline in these steps
+  -- the transaction when it is opened, and after its first deadline in these steps
   abbrev opening : Entry
   opening = asked_first 3 0 0 (peer 1) (known true 0 (codes "a")) (message_text c.first) 0
 

@@ -1,4 +1,4 @@
--- They compute, once the heads are put in.
+-- They compute, once the heads are substituted.
 use Rattle.std.proofs.Common.{◌≡◌, [], ◌∷◌, refl, ap, List, ℕ}
 use Rattle.std.specs.Prelude.{Some, None}
 use Rattle.mmtel_message.specs.Texts.{message_text}

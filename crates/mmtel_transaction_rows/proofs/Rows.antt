@@ -1,4 +1,4 @@
--- They compute, once the heads are put in.
+-- They compute, once the heads are substituted.
 use Rattle.std.proofs.Common.{◌≡◌, ℕ, zero, suc, List, [], ◌∷◌, drop, true, false, ◌&&◌, append-nil, codes, refl, ap, ◌∙◌}
 use Rattle.std.specs.Prelude.{Some, None, nat_le, nat_lt}
 use Rattle.mmtel_types.specs.declared.numbers.Peer.{Peer}
@@ -19,9 +19,9 @@ use Rattle.mmtel_transaction_rows.specs.Rows.{EndsAfterTheAck, RepeatedInvite, S
 use Rattle.mmtel_transaction_rows.proofs.Stages.{again, fires_one, fresh, front, last_turn, next, not_numbered, replies, turn}
 use Rattle.mmtel_transaction_rows.proofs.WorkedHeads.{Worked, known, worked}
 
--- ---- silence
+-- ---- a timeout
 
--- an INVITE of this branch that is asked at t, and its deadline fired so often
+-- an INVITE of this branch that is sent at t, and whose deadline fired so often
 abbrev asked : Peer → Message Start → ℕ → ℕ → List Done
 asked p m t zero = DidAsk p m t ∷ []
 asked p m t (suc k) = DidFire 0 ∷ asked p m t k
@@ -101,12 +101,12 @@ second_of c =
 pub second_silence : SecondSilence
 second_silence = second_of worked
 
--- ---- the repeated INVITE
+-- ---- the retransmitted INVITE
 
 abbrev invite : Head
 invite = known true 0 (codes "a")
 
--- the transaction as the INVITE opens it
+-- the transaction when the INVITE opens it
 abbrev opening : Entry
 opening = heard_first 0 0 (peer 1) invite 0
 

@@ -1,4 +1,4 @@
--- Transactions from call to call, and what is said of one, each head put in where its message comes.
+-- Transactions from operation to operation, and the result for one, each head substituted where its message comes.
 use Rattle.std.proofs.Common.{◌≡◌, ◌∙◌, ℕ, suc, Bool, true, false, ◌&&◌, cond, List, [], ◌∷◌, length, map, None, refl, sym, ap, codes}
 use Rattle.std.specs.Prelude.{Option, Some, filter, nat_le, nat_lt, option_map}
 use Rattle.std.specs.List.{find}
@@ -21,13 +21,13 @@ use Rattle.mmtel_transaction.specs.declared.parts.Part.TheVariants as part
 use Rattle.mmtel_transaction.specs.declared.words.Due.{Due}
 use Rattle.mmtel_transaction.specs.declared.words.Heard.TheVariants as heard
 
--- a transaction after one more call
+-- a transaction after one more operation
 pub next : (c : Done) (h : List Done) (opening e x : Entry) → nat_lt opening.key (length (opened h)) ≡ true → entry_of h opening ≡ e → change (step_of h) (offers h) c e ≡ x
     → entry_of (c ∷ h) opening ≡ x
 next c h opening e x later is to =
     ap (λ (b : Bool). cond b (change (step_of h) (offers h) c (entry_of h opening)) opening) later ∙ (ap (change (step_of h) (offers h) c) is ∙ to)
 
--- a message of such a head is no reliable provisional answer
+-- a message of such a head is no reliable provisional response
 status_of : (start : Start) (o : Option Five) → (head_with start o).status ≡ code_of start
 status_of start None = refl
 status_of start (Some five) = refl
@@ -55,7 +55,7 @@ front h opening e more o is = ap (λ (xs : List Entry). filter is_live (map (ent
 pub pair : (h : List Done) (opening other e x : Entry) → opened h ≡ opening ∷ other ∷ [] → entry_of h opening ≡ e → entry_of h other ≡ x → live h ≡ filter is_live (e ∷ x ∷ [])
 pair h opening other e x o is also = front h opening e (other ∷ []) o is ∙ ap (λ (y : Entry). filter is_live (e ∷ y ∷ [])) also
 
--- a message that is heard again, and one that opens a transaction
+-- a message that is received again, and one that opens a transaction
 pub again : (h : List Done) (p : Peer) (m : Message Start) (head : Head) (es : List Entry) (key : ℕ) → live h ≡ es → head_of m ≡ head → part_of head es ≡ part.Repeat key
     → hear_says h p m ≡ Some (heard.Repeat (then_gives (gives_again p) (by_key key es)))
 again h p m head es key l is q =

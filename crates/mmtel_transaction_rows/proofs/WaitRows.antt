@@ -1,4 +1,4 @@
--- They compute, once the heads are put in.
+-- They compute, once the heads are substituted.
 use Rattle.std.proofs.Common.{◌≡◌, ◌∙◌, ℕ, true, List, [], ◌∷◌, refl, ap, codes}
 use Rattle.std.specs.Prelude.{None, Some, filter}
 use Rattle.mmtel_message.specs.Texts.{message_text}
@@ -92,7 +92,7 @@ module _ (c : Messages) where
   other_6 : entry_of (fired_times 6 (among c)) other ≡ other_over
   other_6 = next (DidFire 0) (fired_times 5 (among c)) other other_over other_over refl other_5 refl
 
-  -- the two of these calls, which leave them so
+  -- the two transactions of these operations, which leave them so
   pair_said : (h : List Done) (e x : Entry) → opened h ≡ shot 0 ∷ other ∷ [] → entry_of h (shot 0) ≡ e → entry_of h other ≡ x → said h ≡ says_due (next_due 40000 (filter is_live (e ∷ x ∷ [])))
   pair_said h e x opens is also = said_of h (filter is_live (e ∷ x ∷ [])) (pair h (shot 0) other e x opens is also)
 
@@ -139,7 +139,7 @@ module _ (c : Messages) where
   abbrev final : ℕ → Entry
   final k = record (hit 0 (replied 0 0 486 (message_text c.busy) (codes "t") 300) opening) { shots = k }
 
-  -- the one transaction of these calls, which leave it so
+  -- the one transaction of these operations, which leave it so
   final_said : (h : List Done) (e : Entry) → opened h ≡ opening ∷ [] → entry_of h opening ≡ e → said h ≡ says_due (next_due 40000 (filter is_live (e ∷ [])))
   final_said h e opens is = said_of h (filter is_live (e ∷ [])) (front h opening e [] opens is)
 
@@ -225,7 +225,7 @@ module _ (c : Messages) where
   acks_kept : hear_says (DidAck 0 c.ack ∷ DidHear (peer 2) c.busy 300 (part.Answer 0) ∷ asked_invite c) (peer 2) c.busy ≡ Some (heard.Repeat (Some (peer 2, message_text c.ack)))
   acks_kept = rw (c.of_busy, c.of_invite) refl
 
-  -- ---- a reliable answer
+  -- ---- a reliable response
 
   abbrev answer : ℕ → ReliableAnswer
   answer k = record { own = 1; text = message_text c.ringing; start = 100; shots = k; step = 0; order = 0 }

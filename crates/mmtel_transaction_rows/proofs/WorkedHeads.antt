@@ -33,7 +33,7 @@ cseq = record { number = 1; method = codes "INVITE" }
 abbrev five : List ℕ → Five
 five branch = record { via = via branch; from = party (codes "sip:a@h") (codes "a"); to = party (codes "sip:b@h") (codes "b"); call_id = codes "c"; cseq = cseq }
 
--- the five fields by each of them; nothing parts the value of Via
+-- the five fields by each of them; the value of Via is not split
 by_fields : (ls : List Line) (via : Via) (p : NameAddr × NameAddr) (d : List ℕ × CSeq) → via_in ls ≡ Some via → parties_in ls ≡ Some p → call_in ls ≡ Some d
     → five_at ls ≡ Some (record { via = via; from = p.0; to = p.1; call_id = d.0; cseq = d.1 })
 unfolding five_at
@@ -110,7 +110,7 @@ pub plain_180 : reliable_number (response 180 (codes "a")) ≡ None
 unfolding reliable_number
 plain_180 = refl
 
--- messages of these heads, whatever else they say; of some the heads do not matter
+-- messages of these heads, whatever else they contain; for some the heads do not matter
 pub record Worked : Type 0 where
   pub first : Message Start
   pub of_first : head_of first ≡ known true 0 (codes "a")

@@ -1,4 +1,4 @@
--- To which transaction the messages of a call belong, and what `hear` says of them (RFC 3261 §9.2, §17.1.1.3, §17.1.3, §17.2.3).
+-- The transactions to which the messages of a call belong, and what `hear` returns for them (RFC 3261 §9.2, §17.1.1.3, §17.1.3, §17.2.3).
 use Rattle.std.specs.Prelude.{◌≡◌, [], ◌∷◌, Some, None}
 use Rattle.mmtel_transaction.specs.Answers.{hear_says, tkey}
 use Rattle.mmtel_transaction.specs.Belonging.{belongs}
@@ -19,7 +19,7 @@ pub record RequestsBelong : Type 0 where
   pub bye : (c : Messages) → belongs (accepted c) c.bye ≡ None
   pub bye_says : (c : Messages) → hear_says (accepted c) (peer 1) c.bye ≡ Some (heard.Fresh (tkey 1) c.bye)
 
--- a response belongs to the request that it answers, by branch and method, and to none that was heard
+-- a response belongs to the request that it answers, by branch and method, and to none that was received
 pub record ResponsesBelong : Type 0 where
   pub answer : (c : Messages) → belongs (asked_invite c) c.busy ≡ Some (tkey 0)
   pub second : (c : Messages) → belongs (DidAsk (peer 2) c.options 0 ∷ asked_invite c) c.answered ≡ Some (tkey 1)

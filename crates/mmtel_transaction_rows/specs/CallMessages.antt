@@ -1,4 +1,4 @@
--- The messages of one call, by what is read of them alone: whatever else they say, the rows hold of them (RFC 3261 §7.1, §8.1.1).
+-- The messages of one call, by what is read of them alone: whatever else they contain, the examples hold of them (RFC 3261 §7.1, §8.1.1).
 use Rattle.std.specs.Prelude.{◌≡◌, ℕ, true, false, List, [], ◌∷◌, codes}
 use Rattle.mmtel_types.specs.declared.numbers.Peer.{Peer}
 use Rattle.mmtel_message.specs.Message.{Message}
@@ -40,7 +40,7 @@ response status method branch =
       number = 1;
     }
 
--- an INVITE, its answers, its ACK and its CANCEL; an OPTIONS and its answer; a BYE
+-- an INVITE, its responses, its ACK and its CANCEL; an OPTIONS and its response; a BYE
 pub record Messages : Type 0 where
   pub invite : Message Start
   pub of_invite : head_of invite ≡ request (codes "INVITE") (codes "i") []
@@ -63,7 +63,7 @@ pub record Messages : Type 0 where
   pub bye : Message Start
   pub of_bye : head_of bye ≡ request (codes "BYE") (codes "b") (codes "t")
 
--- the INVITE is heard of peer 1, and answered at 300
+-- the INVITE is received from peer 1, and answered at 300
 abbrev pub heard_invite : Messages → List Done
 heard_invite c = DidHear (peer 1) c.invite 0 part.Fresh ∷ []
 

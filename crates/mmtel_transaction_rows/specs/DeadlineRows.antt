@@ -1,11 +1,11 @@
--- Worked sequences of calls of deadlines in a row.
+-- Worked sequences of operations with successive deadlines.
 use Rattle.std.specs.Prelude.{◌≡◌, List, [], ◌∷◌, Some, None}
 use Rattle.mmtel_transaction.specs.Answers.{next_due, upcoming_of}
 use Rattle.mmtel_transaction.specs.Calls.{Done, DidAsk, DidBegin, DidFire, live}
 use Rattle.mmtel_transaction.specs.Settling.{all_left, due_by, settled}
 use Rattle.mmtel_transaction_rows.specs.Rows.{first_invite, peer}
 
--- an INVITE that is asked in step 3, whose first deadline fires in step 5: its next one was armed in that step
+-- an INVITE that is sent in step 3, whose first deadline fires in step 5: its next one was armed in that step
 abbrev pub asked_in_three : List Done
 asked_in_three = DidAsk (peer 1) first_invite 0 ∷ DidBegin 3 ∷ []
 

@@ -1,4 +1,4 @@
--- What is read of three INVITEs (RFC 3261 §7.1, §8.1.1): another Request-URI, and another name and URI in From, leave the head as it is; another From tag does not.
+-- What is read of three INVITEs (RFC 3261 §7.1, §8.1.1): another Request-URI, and another name and URI in From, do not change the head; another From tag does.
 use Rattle.std.specs.Prelude.{◌≡◌, ℕ, List, [], ◌∷◌, codes}
 use Rattle.mmtel_message.specs.Message.{Message}
 use Rattle.mmtel_message.specs.declared.messages.Start.{Start}

@@ -16,7 +16,7 @@ trusts_two p = p.0 == 2
 abbrev pub trusts_none : Peer → Bool
 trusts_none p = false
 
--- two INVITEs of one head, each sent to peer 2: alike where peer 2 is trusted; where it is not, only if their texts are equal
+-- two INVITEs with the same head, each sent to peer 2: equivalent where peer 2 is trusted; where it is not, only if their texts are equal
 pub record TextsRow : Type 0 where
   pub alike : (c d : Messages) → Alike trusts_two (asked_invite c) (asked_invite d)
   pub deadline : (c : Messages) → upcoming_of (next_due 40000 (live (asked_invite c))) ≡ Some (500, 0)
@@ -24,7 +24,7 @@ pub record TextsRow : Type 0 where
   pub without : (c : Messages) → blank_due trusts_two (says_due (next_due 500 (live (asked_invite c)))) ≡ due.Again (peer 2) 500 []
   pub strangers : (c d : Messages) → Alike trusts_none (asked_invite c) (asked_invite d) → message_text c.invite ≡ message_text d.invite
 
--- the INVITE of peer 1 is passed on to peer 2
+-- the INVITE of peer 1 is relayed to peer 2
 abbrev pub passed_on : Messages → List Done
 passed_on c = DidAsk (peer 2) c.invite 0 ∷ heard_invite c
 
@@ -32,9 +32,9 @@ pub record PeersRow : Type 0 where
   pub caller : (c : Messages) → peer_of 0 (live (passed_on c)) ≡ Some (peer 1)
   pub callee : (c : Messages) → peer_of 1 (live (passed_on c)) ≡ Some (peer 2)
   pub unopened : (c : Messages) → peer_of 2 (live (passed_on c)) ≡ None
-  -- with a final it is of the same peer, and peer 3 gets nothing for the same request
+  -- with a final it has the same peer, and peer 3 gets nothing for the same request
   pub kept : (c : Messages) → peer_of 0 (live (refused c)) ≡ Some (peer 1)
   pub again : (c : Messages) → hear_says (refused c) (peer 1) c.invite ≡ Some (heard.Repeat (Some (peer 1, message_text c.busy)))
   pub stranger : (c : Messages) → hear_says (refused c) (peer 3) c.invite ≡ Some (heard.Repeat None)
-  -- once it ended it has none
+  -- once it ended it has no peer
   pub ended : (c : Messages) → peer_of 0 (live (DidFire 0 ∷ DidHear (peer 1) c.ack 400 (part.Acked 0) ∷ refused c)) ≡ None

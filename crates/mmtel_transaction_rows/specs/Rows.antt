@@ -1,4 +1,4 @@
--- Worked sequences of calls: a repeated INVITE and its final, and silence.
+-- Worked sequences of operations: a retransmitted INVITE and its final, and a timeout.
 use Rattle.std.specs.Prelude.{◌≡◌, ℕ, ◌++◌, List, [], ◌∷◌, codes, Option, Some, None}
 use Rattle.mmtel_types.specs.declared.numbers.Peer.{Peer}
 use Rattle.mmtel_message.specs.Message.{Message}
@@ -31,7 +31,7 @@ response status branch = worded (Status status (codes "X")) branch (codes "INVIT
 abbrev pub peer : ℕ → Peer
 peer n = record { 0 = n }
 
--- silence: an INVITE to peer 1 that nobody answers, up to 40,000 ms; it is given up at 32,000
+-- timeout: an INVITE to peer 1 that gets no response, up to 40,000 ms; it times out at 32,000
 abbrev pub first_invite : Message Start
 first_invite = request (codes "INVITE") (codes "a")
 
@@ -48,7 +48,7 @@ abbrev pub SecondSilence : Type 0
 SecondSilence = said_in_turn 5 40000 (DidAsk (peer 2) second_invite 32000 ∷ []) ≡ sent_again (peer 2) second_invite 32000 500 ∷ sent_again (peer 2) second_invite 32000 1500
     ∷ sent_again (peer 2) second_invite 32000 3500 ∷ sent_again (peer 2) second_invite 32000 7500 ∷ due.Nothing ∷ []
 
--- a repeated INVITE and its final: the INVITE of peer 1, which is passed on to peer 2
+-- a retransmitted INVITE and its final: the INVITE of peer 1, which is relayed to peer 2
 abbrev pub invite_heard : List Done
 invite_heard = DidAsk (peer 2) second_invite 0 ∷ DidReply 0 (response 100 (codes "a")) 0 ∷ DidHear (peer 1) first_invite 0 part.Fresh ∷ []
 
@@ -56,26 +56,26 @@ invite_heard = DidAsk (peer 2) second_invite 0 ∷ DidReply 0 (response 100 (cod
 abbrev pub ringing : List Done
 ringing = DidReply 0 (response 180 (codes "a")) 100 ∷ DidHear (peer 2) (response 180 (codes "b")) 100 (part.Answer 1) ∷ invite_heard
 
--- the INVITE is heard again at 200, peer 2 refuses at 300
+-- the INVITE is received again at 200, peer 2 refuses at 300
 abbrev pub refused : List Done
 refused = DidReply 0 (response 486 (codes "a")) 300 ∷ DidAck 1 (request (codes "ACK") (codes "b")) ∷ DidHear (peer 2) (response 486 (codes "b")) 300 (part.Answer 1)
     ∷ DidHear (peer 1) first_invite 200 (part.Repeat 0) ∷ ringing
 
--- the INVITE is heard again at 350, its ACK at 400
+-- the INVITE is received again at 350, its ACK at 400
 abbrev pub acknowledged : List Done
 acknowledged = DidHear (peer 1) (request (codes "ACK") (codes "a")) 400 (part.Acked 0) ∷ DidHear (peer 1) first_invite 350 (part.Repeat 0) ∷ refused
 
 abbrev pub repeat_of : ℕ → Option Heard
 repeat_of status = Some (heard.Repeat (Some (peer 1, message_text (response status (codes "a")))))
 
--- the INVITE opens a transaction; heard again, it gives the 180, then the 486, and nothing after the ACK
+-- the INVITE opens a transaction; received again, it gets the 180, then the 486, and nothing after the ACK
 pub record RepeatedInvite : Type 0 where
   pub opens : hear_says [] (peer 1) first_invite ≡ Some (heard.Fresh (tkey 0) first_invite)
   pub ringing_again : hear_says ringing (peer 1) first_invite ≡ repeat_of 180
   pub refused_again : hear_says refused (peer 1) first_invite ≡ repeat_of 486
   pub nothing_again : hear_says acknowledged (peer 1) first_invite ≡ Some (heard.Repeat None)
 
--- the calls on the caller's side alone, up to the ACK
+-- the operations on the caller's side alone, up to the ACK
 abbrev pub callers_side : List Done
 callers_side = DidHear (peer 1) (request (codes "ACK") (codes "a")) 400 (part.Acked 0) ∷ DidReply 0 (response 486 (codes "a")) 300
     ∷ DidHear (peer 1) first_invite 0 part.Fresh ∷ []

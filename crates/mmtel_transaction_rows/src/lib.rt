@@ -1,5 +1,5 @@
-//! Worked rows of `mmtel_transaction`: sequences of calls made of it, which compute; and rows of its laws, for every message of the heads that they name, so that nothing
-//! is parsed. They stand in a crate of their own, so that the edits of the transactions do not pay for them.
+//! Worked examples of `mmtel_transaction`: sequences of its operations, which compute; and examples of its theorems, for every message with the named heads, so that nothing is
+//! parsed. They are in a crate of their own, so that a change of the transactions does not require them to be proved again.
 #![tactic(auto)]
 
 mod laws;

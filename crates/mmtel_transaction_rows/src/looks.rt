@@ -1,4 +1,4 @@
-//! How many items a look-up of a transaction looks at, where so many are live.
+//! How many items a look-up of a transaction examines, where so many are live.
 ghost use Rattle.std.specs.Prelude.{◌≡◌, ◌≤◌, ◌+◌, List};
 ghost use Rattle.mmtel_transaction.specs.Calls.{Done, live};
 ghost use Rattle.mmtel_transaction.specs.Answers.{clients, servers};
@@ -8,7 +8,7 @@ use mmtel_timers::Steps;
 use mmtel_transaction::{TKey, Transactions};
 use std::sync::ledger::Ledger;
 
-/// Looks up a server transaction: among 1,000 live ones in at most 10 steps, among 16,384, which are as many as may be, in at most 15, and among none in none.
+/// Looks up a server transaction: among 1,000 live ones in at most 10 steps, among 16,384, which is the maximum, in at most 15, and among none in none.
 pub fn look_up_server<L: Ledger>(
     transactions: &Transactions,
     branch: &[u8],

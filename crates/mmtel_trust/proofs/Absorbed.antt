@@ -1,4 +1,4 @@
--- What is unchanged where each item is replaced by items that give the same
+-- What is unchanged where each item is replaced by items that give the same.
 use Rattle.std.proofs.Common.{◌≡◌, List, [], ◌∷◌, ◌++◌, refl, sym, ap, ◌∙◌, Bool}
 use Rattle.std.specs.Prelude.{filter}
 use Rattle.std.specs.List.{flat_map}

@@ -69,7 +69,7 @@ stays_as p Personal v name n e = stays_if p.personal v name n e
 stays_as p Trusted v name n e = refl
 stays_as p Other v name n e = refl
 
--- a line of another name is not of the name, left or not
+-- a line of another name does not have the name, whether the line remains or not
 other_line : (name n : List ℕ) (o : Option (List ℕ)) → str_eq_ignore_ascii_case n name ≡ false → is_there name n o ≡ false
 other_line name n None e = refl
 other_line name n (Some v) e = e

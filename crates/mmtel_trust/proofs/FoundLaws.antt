@@ -20,7 +20,7 @@ found_more found (v ∷ vs) ws = found_more (with_word found v) vs ws
 abbrev has : List ℕ → List (List ℕ) → Bool
 has word vs = list_any (λ v. str_eq_ignore_ascii_case v word) vs
 
--- the words found before and those of a list, each asked of the whole list
+-- the words found before and those of a list, each compared with the whole list
 abbrev found_in : PrivacySet → List (List ℕ) → PrivacySet
 found_in found vs = record {
   header = found.header || has (codes "header") vs;
@@ -49,6 +49,6 @@ words_are ls = values_are Words (codes "Privacy") ls
 pub all_found : (ls : List Line) → with_words (wants []) (words_of (line_texts (codes "Privacy") ls)) ≡ wants ls
 all_found ls = ap (λ (ws : List (List ℕ)). with_words (wants []) ws) (words_are ls) ∙ found_are (wants []) (words ls)
 
--- one value more
+-- one more value
 pub value_found : (found : PrivacySet) (value : List ℕ) (values : List (List ℕ)) → with_words found (words_of (value ∷ values)) ≡ with_words (with_words found (values_in Words value)) (words_of values)
 value_found found value values = found_more found (values_in Words value) (words_of values)

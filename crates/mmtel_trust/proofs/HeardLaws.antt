@@ -1,4 +1,4 @@
--- What is heard of a masked message: each field that is never private is that of the message, and the others are hidden.
+-- What is read of a masked message: each field that is never private is that of the message, and the others are hidden.
 use Rattle.std.proofs.Common.{◌≡◌, ◌++◌, ◌∷◌, [], ℕ, List, refl, sym, ap, ◌∙◌, Bool, true, false, ◌||◌, codes, Option, Some, None, cond, map}
 use Rattle.std.specs.Prelude.{is_some, option_to_list}
 use Rattle.std.specs.Option.{option_map}
@@ -136,7 +136,7 @@ is_some_mapped : {A B : Type 0} (f : A → B) (o : Option A) → is_some (option
 is_some_mapped f None = refl
 is_some_mapped f (Some x) = refl
 
--- a value that is hidden can be read where it could
+-- a value that is hidden parses where it parsed before
 readable_hidden : (b : Bool) (v : List ℕ) → is_readable (hide_if b v) ≡ is_readable v
 readable_hidden b v =
     sym (is_some_mapped (λ n. n.params) (name_addr_of (hide_if b v)))

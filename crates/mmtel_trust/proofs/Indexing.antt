@@ -1,4 +1,4 @@
--- What the tables keep of their lists: what is looked up is covered, and stays so as the tables grow.
+-- The indexes that the tables keep of their lists: what is looked up is covered, and stays so as the tables grow.
 use Rattle.std.proofs.Common.{◌≡◌, ◌==◌, ℕ, ◌≤◌, Bool, true, false, List, length, subst, arith}
 use Rattle.std.proofs.lemmas.Bool.Decides.{nat_tests}
 use Rattle.mmtel_scan.proofs.Runs.{and_true}

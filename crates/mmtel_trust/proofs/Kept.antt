@@ -1,4 +1,4 @@
--- What masking leaves alone
+-- What masking does not change.
 use Rattle.std.proofs.Common.{◌≡◌, ℕ, List, [], ◌∷◌, ◌++◌, refl, sym, ap, ◌∙◌, Bool, true, false, Option, Some, None, codes, not}
 use Rattle.std.specs.Prelude.{filter}
 use Rattle.std.specs.List.{flat_map}
@@ -26,7 +26,7 @@ use Rattle.mmtel_trust.specs.declared.kinds.HeaderKind.TheVariants.{From, To, Co
 use Rattle.mmtel_trust.proofs.Absorbed.{filtered}
 use Rattle.mmtel_trust.proofs.Masked.{hidden_params}
 
--- ---- names that are equal without case are of one kind
+-- ---- names that are equal without case have the same kind
 
 pub kind_like : (a b : List ℕ) → str_eq_ignore_ascii_case a b ≡ true → kind_of a ≡ kind_of b
 unfolding kind_of
@@ -77,7 +77,7 @@ kept_if false p name l k e = rw e (not_named name l.0 (masked_value p (kind_of l
 pub named-masked : (p : Places) (name : List ℕ) (ls : List Line) → is_kept p (kind_of name) ≡ true → named name (masked_lines p ls) ≡ named name ls
 named-masked p name ls k = filtered (masked_line p) (λ x. is_line name x) (λ l. kept_if (is_line name l) p name l k refl) ls
 
--- ---- a look-up by name looks at the lines of the name alone
+-- ---- a look-up by name depends on the lines of that name alone
 
 abbrev pub head_value : List Line → Option (List ℕ)
 head_value [] = None
@@ -124,13 +124,13 @@ wants_like ms ls e = rw e refl
 pub wants-masked : (p : Places) (ls : List Line) → wants (masked_lines p ls) ≡ wants ls
 wants-masked p ls = wants_like (masked_lines p ls) ls (words-masked p ls)
 
--- ---- lines whose value is changed alone
+-- ---- lines of which the value alone is changed
 
 skipped : (name n : List ℕ) (o : Option (List ℕ)) (more : List Line) → str_eq_ignore_ascii_case n name ≡ false → head_value (named name (with_name n o ++ more)) ≡ first_value name more
 skipped name n None more e = sym (first_named name more)
 skipped name n (Some v) more e = rw e (sym (first_named name more))
 
--- the first value of a name whose lines stay is changed by masking as a value
+-- the first value of a name whose lines stay is changed by masking as a single value is
 changed_if : (b : Bool) (p : Places) (name : List ℕ) (f : List ℕ → List ℕ) (l : Line) (ls : List Line) → ((v : List ℕ) → masked_value p (kind_of name) v ≡ Some (f v)) → is_line name l ≡ b → first_value name (masked_lines p ls) ≡ option_map f (first_value name ls) → first_value name (masked_lines p (l ∷ ls)) ≡ option_map f (first_value name (l ∷ ls))
 unfolding masked_line
 changed_if true p name f l ls k e ih = rw (kind_like l.0 name e, k l.1, e) refl
@@ -197,7 +197,7 @@ shown_alone : (es : Entries) (f : Facing) (to_trusted : Bool) (l : Line) → fil
 unfolding masked_line
 shown_alone es f to_trusted l = shown_kind es f to_trusted (kind_of l.0) l refl
 
--- what is passed of a message, to whomever
+-- what is passed of a message, to whichever peer
 pub passed-entries : (es : Entries) (f : Facing) (to_trusted : Bool) (history ls : List Line) → passed f to_trusted history (masked_lines (only es) ls) ≡ passed f to_trusted history ls
 passed-entries es f to_trusted history ls =
     rw (

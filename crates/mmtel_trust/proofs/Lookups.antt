@@ -1,4 +1,4 @@
--- Lists that only grow, and what is found in them by the places that are kept of their items.
+-- Lists that only grow, and what is found in them by the positions that are kept of their items.
 use Rattle.std.proofs.Common.{◌≡◌, Bor, ℕ, ◌+◌, ◌<◌, ◌≤◌, Bool, true, false, ◌⊎◌, zero, suc, List, [], ◌∷◌, ◌++◌, length, drop, Option, Some, None, refl, sym, ap, subst, ◌∙◌, arith, inl, inr, cond, add-one}
 use Rattle.std.specs.Prelude.{find, slice_get, is_some}
 use Rattle.std.specs.List.{list_any}
@@ -7,7 +7,7 @@ use Rattle.std.proofs.Math.Seq.{drop-nil}
 use Rattle.std.proofs.lemmas.Bool.{cases_Bool}
 use Rattle.mmtel_trust.specs.Places.{Covers, IsIndex, IsMore, IsNext, may_stand}
 
--- ---- what stands in a list
+-- ---- what is in a list
 
 never_there : (b : Bool) → b ≡ true → b ≡ false → ⊥
 never_there b y n = let e : true ≡ false = sym y ∙ n in cc
@@ -16,7 +16,7 @@ unless : (b : Bool) → (b ≡ true → ⊥) → b ≡ false
 unless true f = absurd (f refl)
 unless false f = refl
 
--- items that do not pass are passed over
+-- items that do not pass are skipped
 over : {A : Type 0} (p : A → Bool) (xs : List A) (from place : ℕ) → from ≤ place →
     ((i : ℕ) (x : A) → from ≤ i → i < place → slice_get xs i ≡ Some x → p x ≡ false) → find p (drop from xs) ≡ find p (drop place xs)
 over p [] from place e each = ap (find p) (drop-nil from) ∙ ap (find p) (sym (drop-nil place))
@@ -33,7 +33,7 @@ none_from p [] from each = ap (find p) (drop-nil from)
 none_from p (x ∷ xs) zero each = let front : p x ≡ false = each 0 x (omega arith) refl in rw front (none_from p xs 0 (λ i y a is. each (suc i) y (omega arith) is))
 none_from p (x ∷ xs) (suc m) each = none_from p xs m (λ i y a is. each (suc i) y (omega (arith, a)) is)
 
--- ---- what is found by the places that are kept
+-- ---- what is found by the positions that are kept
 
 passed_over : {A : Type 0} (p : A → Bool) (h : ℕ) (xs : List A) (pairs : List (ℕ × ℕ)) (from place : ℕ) →
     Covers p h xs pairs → IsNext pairs h from (Some place) → find p (drop from xs) ≡ find p (drop place xs)
@@ -45,7 +45,7 @@ none_left : {A : Type 0} (p : A → Bool) (h : ℕ) (xs : List A) (pairs : List 
 none_left p h xs pairs from covers next =
     none_from p xs from (λ i x a is. unless (p x) (λ y. never_there (may_stand pairs h i) (covers.each i x is y) (next i a)))
 
--- the item at a place comes first from there on
+-- the item at a position is the first from there on
 at_place : {A : Type 0} (p : A → Bool) (xs : List A) (place : ℕ) (x : A) → slice_get xs place ≡ Some x → find p (drop place xs) ≡ cond (p x) (Some x) (find p (drop (suc place) xs))
 at_place p [] place x e = absurd cc
 at_place p (y ∷ ys) zero x e = let same : y ≡ x = cc in ap (λ z. cond (p z) (Some z) (find p ys)) same
@@ -65,7 +65,7 @@ miss p xs place x e n =
     ∙ (ap (λ b. cond b (Some x) (find p (drop (suc place) xs))) n
     ∙ ap (λ k. find p (drop k xs)) (sym (add-one place)))
 
--- ---- one step of a look-up: it was nowhere before, and may stand at the place
+-- ---- one step of a look-up: the item was nowhere before, and may be at the position
 
 pub given : {A : Type 0} (p : A → Bool) (h : ℕ) (xs : List A) (pairs : List (ℕ × ℕ)) (from place : ℕ) (x : A) → Covers p h xs pairs → find p xs ≡ find p (drop from xs) → IsNext pairs h from (Some place) →
     slice_get xs place ≡ Some x → p x ≡ true → Some x ≡ find p xs
@@ -90,7 +90,7 @@ index_none hash pairs = record { kept = λ i x e. absurd cc }
 pub index_kept : {A : Type 0} (hash : A → ℕ) (xs : List A) (h place : ℕ) (old new : List (ℕ × ℕ)) → IsIndex hash xs old → IsMore h place old new → IsIndex hash xs new
 index_kept hash xs h place old new index more = record { kept = λ i x e. more.others (hash x) i (index.kept i x e) }
 
--- where an item of the longer list stands
+-- where an item of the longer list is
 stands : {A : Type 0} (xs : List A) (y : A) (i : ℕ) (x : A) → slice_get (xs ++ y ∷ []) i ≡ Some x → (slice_get xs i ≡ Some x) ⊎ ((i ≡ length xs) × (y ≡ x))
 stands [] y zero x e = inr (refl, cc)
 stands [] y (suc i) x e = absurd cc
@@ -108,7 +108,7 @@ index_more {A = A} hash xs y old new index more = record {
   ];
 }
 
--- an index covers what has one hash
+-- an index covers what has the same hash
 pub covered : {A : Type 0} (p : A → Bool) (hash : A → ℕ) (h : ℕ) (xs : List A) (pairs : List (ℕ × ℕ)) → IsIndex hash xs pairs → ((x : A) → p x ≡ true → hash x ≡ h) → Covers p h xs pairs
 covered p hash h xs pairs index same = record { each = λ i x e y. subst (λ n. may_stand pairs n i ≡ true) (same x y) (index.kept i x e) }
 

@@ -1,4 +1,4 @@
--- What is decided of two messages of equal masks, and what they show.
+-- What is decided of two messages with equal masks, and what they show.
 use Rattle.std.proofs.Common.{◌≡◌, ℕ, List, refl, sym, ap, ◌∙◌, Bool, true, false, ◌&&◌, Option, Some, None, cond}
 use Rattle.std.specs.Prelude.{is_some}
 use Rattle.mmtel_history.specs.HistoryInfo.{masked_list}
@@ -31,7 +31,7 @@ unplaced start es = rw (same_if (is_request start) false, same_if (redirects sta
 abbrev places_if : Bool → HeardMessage → Places
 places_if b m = joined (opening_if b) (only (private_entries m))
 
--- what does not see entries of History-Info sees nothing of what is hidden of it
+-- what does not depend on entries of History-Info does not depend on what is hidden of it
 unseen : {B : Type 0} (f : List Line → B) → ((es : Entries) (ls : List Line) → f (masked_lines (only es) ls) ≡ f ls) → (b : Bool) (m : HeardMessage) → b ≡ false → f (hide (places_if b m) m).lines ≡ f m.lines
 unseen f law true m e = absurd cc
 unseen f law false m e = ap (λ (p : Places). f (masked_lines p m.lines)) (unplaced m.start (private_entries m)) ∙ law (private_entries m) m.lines
@@ -48,9 +48,9 @@ absorbed_by : (b private all : Bool) (h : List Entry) → masked_list all (hidde
 absorbed_by true private all h = absorbed_if private all h
 absorbed_by false private all h = absorbed_if private all h
 
--- ---- the answers
+-- ---- what is determined of the caller
 
--- nobody's
+-- where nothing is determined: no account, and no identity
 abbrev answers_in : Option Answers → Answers
 answers_in None = record { account = None; somebody = false }
 answers_in (Some a) = a
@@ -79,7 +79,7 @@ module _ (restricts : Restriction) (accounts others : List AccountIdentity) (m n
   trusted_alike : m.trusted ≡ n.trusted
   trusted_alike = ap (λ (x : HeardMessage). x.trusted) public_alike
 
-  -- what does not see entries of History-Info sees the same, where they are not private
+  -- what does not depend on entries of History-Info is the same, where they are not private
   seen_alike : {B : Type 0} (f : List Line → B) → ((es : Entries) (ls : List Line) → f (masked_lines (only es) ls) ≡ f ls) → is_private restricts accounts m ≡ false → f m.lines ≡ f n.lines
   seen_alike f law none =
       sym (unseen f law (is_private restricts accounts m) m none)

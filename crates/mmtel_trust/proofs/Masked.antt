@@ -1,4 +1,4 @@
--- What is masked once is masked, and what an untrusted peer is shown of a restricted message is shown of the masked one too.
+-- Masking twice is masking once, and what an untrusted peer is shown of a restricted message it is shown of the masked one too.
 use Rattle.std.proofs.Common.{◌≡◌, ℕ, List, [], ◌∷◌, refl, sym, ap, ◌∙◌, Bool, true, false, Option, Some, None, cond, inl, inr, arith, ◌&&◌, ◌||◌, not}
 use Rattle.std.specs.Prelude.{filter}
 use Rattle.std.proofs.lemmas.List.{append-nil}
@@ -68,7 +68,7 @@ unfolding hidden_value
 uri_by v None e = rw (e, e) refl
 uri_by v (Some n) e = rw (e, hidden_reads n.params (read_params v n e)) refl
 
--- nobody's URI stands in the place of the URI
+-- the anonymous URI is in the place of the URI
 pub hidden_uris : (v : List ℕ) → option_map (λ n. n.uri) (name_addr_of (hidden_value v)) ≡ option_map (λ u. anonymous) (option_map (λ n. n.uri) (name_addr_of v))
 hidden_uris v = uri_by v (name_addr_of v) refl
 
@@ -97,7 +97,7 @@ told_by : (v : List ℕ) (r : Option NameAddr) → name_addr_of v ≡ r → serv
 told_by v None e = ap (λ (w : List ℕ). served_in (name_addr_of w)) (unserved v e) ∙ ap served_in e
 told_by v (Some n) e = told_if (is_orig n.params) v n e refl
 
--- what a P-Served-User says that is not private stays
+-- what a P-Served-User has that is not private stays
 pub served_told : (v : List ℕ) → served_in (name_addr_of (served_value v)) ≡ served_in (name_addr_of v)
 served_told v = told_by v (name_addr_of v) refl
 

@@ -1,4 +1,4 @@
--- The first pair of a set from one on, and what it says of places.
+-- The first pair of a set from a given one on, and what follows from it for positions.
 use Rattle.std.proofs.Common.{◌≡◌, ◌≢◌, ◌==◌, ℕ, ◌<◌, ◌≤◌, nat_lt, Bool, true, false, List, [], ◌∷◌, Some, None, refl, subst, ◌∙◌, arith, inl, inr, cond}
 use Rattle.std.specs.declared.cmp.Ordering.{Ordering}
 use Rattle.std.specs.declared.cmp.Ordering.TheVariants.{Less, Equal, Greater}
@@ -25,7 +25,7 @@ not_gt a b e = elim (cases_Bool (nat_lt a b)) [
 greater : (a b : ℕ) → b < a → nat_cmp a b ≡ Greater
 greater a b e = let less : nat_lt a b ≡ false = grind (arith, nat_tests, e) in let same : (a == b) ≡ false = grind (arith, nat_tests, e) in rw (less, same) refl
 
--- what follows a pair of a lesser hash
+-- what follows a pair of a smaller hash
 not_before : (o p : Ordering) → is_gt (ordering_then o p) ≡ false → is_gt o ≡ false
 not_before Less p e = refl
 not_before Equal p e = refl
@@ -55,7 +55,7 @@ never : (b : Bool) → (b ≡ true → ⊥) → b ≡ false
 never true f = absurd (f refl)
 never false f = refl
 
--- the first pair is of the hash
+-- the first pair has the hash
 pub of_hash : (s : BTreeSet (ℕ × ℕ)) (k : ℕ × ℕ) (t : List (ℕ × ℕ)) (h from : ℕ) → Range s (k ∷ t) h from → k.0 ≡ h → IsNext s.keys h from (Some k.1)
 of_hash s k t h from range same = (
   within h from k same range.1.0.0,
@@ -64,7 +64,7 @@ of_hash s k t h from range same = (
       absurd (omega (arith, last, b))),
 )
 
--- the first pair is of another hash
+-- the first pair has another hash
 pub of_another : (s : BTreeSet (ℕ × ℕ)) (k : ℕ × ℕ) (t : List (ℕ × ℕ)) (h from : ℕ) → Range s (k ∷ t) h from → k.0 ≢ h → IsNext s.keys h from None
 of_another s k t h from range other q a =
     let first : h ≤ k.0 = le_from_not_gt h k.0 (not_before (nat_cmp h k.0) (nat_cmp from k.1) range.1.0.0) in
@@ -78,7 +78,7 @@ of_another s k t h from range other q a =
 pub of_none : (s : BTreeSet (ℕ × ℕ)) (h from : ℕ) → Range s [] h from → IsNext s.keys h from None
 of_none s h from range q a = range.5 refl (h, q) (from_on h from q a, tt)
 
--- ---- a pair more
+-- ---- one more pair
 
 also : (b x : Bool) → x ≡ true → cond b true x ≡ true
 also true x e = refl

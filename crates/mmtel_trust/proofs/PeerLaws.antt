@@ -1,4 +1,4 @@
--- Tables in which each number and each address stands once, and in which each route leads to a peer that is there.
+-- Tables in which each number and each address occurs once, and in which each route names a peer of the table.
 use Rattle.std.proofs.Common.{◌≡◌, ◌==◌, ℕ, nat_lt, Bool, true, false, not, ◌&&◌, ◌||◌, List, [], ◌∷◌, ◌++◌, length, Option, Some, None, IfSome, codes, refl, sym, ap, ap₂, subst, ◌∙◌, arith, inl, inr}
 use Rattle.std.specs.Prelude.{find, filter}
 use Rattle.std.specs.Option.{option_map}
@@ -39,7 +39,7 @@ addr_is a b e =
 addr_self : (a : Addr) → is_same_addr a a ≡ true
 addr_self a = rw ((bytes_eq-Decides a.ip a.ip).1 refl) (let same : (a.port == a.port) ≡ true = grind (arith, nat_tests) in same)
 
--- what is not there is no item
+-- what is not in the list is none of its items
 or_false : (a b : Bool) → (a || b) ≡ false → (a ≡ false) × (b ≡ false)
 or_false true b e = absurd cc
 or_false false b e = (refl, e)
@@ -83,7 +83,7 @@ head_apart k ks e =
 some_is : {A : Type 0} (x y : A) → Some x ≡ Some y → x ≡ y
 some_is x y e = cc
 
--- the item that a search found passes another test of any item
+-- where the item that a search found passes another test, some item passes that test
 found_any : (q : KnownPeer → Bool) (k : KnownPeer) (ks : List KnownPeer) → find q ks ≡ Some k → (t : KnownPeer → Bool) → t k ≡ true → list_any t ks ≡ true
 found_any q k [] e t h = absurd cc
 found_any q k (x ∷ xs) e t h =
@@ -153,7 +153,7 @@ of_theirs p a (k ∷ ks) apart e =
           rw (not_first_at k.addr a ks head.1 (addr_there p a ks later)) (of_theirs p a ks head.2 later)
     ]
 
--- ---- where each route leads to a peer that is there
+-- ---- where each route names a peer of the table
 
 abbrev on : List KnownPeer → List Route → Bool
 on ks rs = list_all (λ r. has_number r.peer ks) rs
@@ -198,11 +198,11 @@ or_leads ks (Some r) other h g = h
 or_leads ks None None h g = tt
 or_leads ks None (Some r) h g = g
 
--- the peer to which a URI leads is there
+-- the peer to which a URI is routed is in the table
 pub route_leads : (ks : List KnownPeer) (u : Uri) (rs : List Route) → on ks rs ≡ true → IfSome (route_of u rs) (λ p. has_number p ks ≡ true)
 route_leads ks u rs e = or_leads ks (own_route u rs) (find (is_route (codes "*")) rs) (own_leads ks u rs e) (find_leads ks (is_route (codes "*")) rs e)
 
--- a further peer takes none away
+-- a further peer removes none
 there_more : (q : KnownPeer → Bool) (ks : List KnownPeer) (k : KnownPeer) → list_any q ks ≡ true → list_any q (ks ++ k ∷ []) ≡ true
 there_more q [] k e = absurd cc
 there_more q (x ∷ xs) k e = elim (cases_Bool (q x)) [

@@ -1,4 +1,4 @@
--- The longest of the routes that lead to a number.
+-- The longest of the routes whose names are prefixes of a number.
 use Rattle.std.proofs.Common.{◌==◌, ◌++◌, ap₂, ◌≡◌, ◌≤◌, ◌⊎◌, ℕ, nat_lt, Bool, true, false, List, [], ◌∷◌, length, Option, Some, None, refl, sym, subst, ◌∙◌, arith, inl, inr}
 use Rattle.std.specs.Prelude.{filter}
 use Rattle.std.proofs.lemmas.Bool.{cases_Bool}
@@ -28,7 +28,7 @@ longer_some r (Some s) = elim (cases_Bool (nat_lt (length r.name) (length s.name
   | inr n ↦ (r, rw n refl)
 ]
 
--- it is as long as the one, and as the other
+-- it is at least as long as either
 longer_than : (r : Route) (o : Option Route) (t : Route) → longer r o ≡ Some t → length r.name ≤ length t.name
 longer_than r None t e = let same = some_is r t e in subst (λ x. length r.name ≤ length x.name) same (omega arith)
 longer_than r (Some s) t e = elim (cases_Bool (nat_lt (length r.name) (length s.name))) [

@@ -20,7 +20,7 @@ use Rattle.mmtel_trust.proofs.Lookups.{covered}
 use Rattle.mmtel_trust.specs.Indexes.{are_within, leads_by}
 use Rattle.mmtel_trust.specs.Peers.{begins_with, is_prefix, leads, longer, longest, or_route}
 
--- ---- a prefix of a number has the hash of the number's front
+-- ---- a prefix of a number has the hash of the number's first bytes
 
 same_byte : (b c : ℕ) → (b == c) ≡ true → b ≡ c
 same_byte b c e = grind (arith, nat_tests)
@@ -44,7 +44,7 @@ lower_prefix (b ∷ s) e =
     let plus : to_ascii_lowercase b ≡ b = rw (same_byte b 43 parts.0) refl in
     ap₂ (λ x xs. x ∷ xs) plus (lower_digits s rest.1)
 
--- a front of a text is its first bytes
+-- a prefix of a text is its first bytes
 front_is : (front rest name : List ℕ) → begins_with (front ++ rest) name ≡ true → length name ≡ length front → name ≡ front
 front_is [] rest [] e same = refl
 front_is [] rest (p ∷ ps) e same = absurd (omega (arith, same))
@@ -112,7 +112,7 @@ longest_one r (Some s) n size each =
     let less : nat_lt (length r.name) (length s.name) ≡ false = grind (arith, nat_tests, bound, size) in
     rw less refl
 
--- one that is shorter than what is found
+-- one that is shorter than the one found
 shorter : (r : Route) (found before : Option Route) (n : ℕ) → length r.name ≤ n → ((s : Route) → found ≡ Some s → length s.name ≡ suc n) → longer r (or_route found before) ≡ or_route found (longer r before)
 shorter r None before n fits each = refl
 shorter r (Some s) before n fits each =
@@ -155,7 +155,7 @@ pub none_yet : (number : List ℕ) (rs : List Route) → best_up_to number 0 rs 
 none_yet number [] = refl
 none_yet number (r ∷ rs) = rw (never number r.name) (none_yet number rs)
 
--- where no route that leads is longer, that is all
+-- where no matching route is longer, that is all of them
 whole : (number : List ℕ) (n : ℕ) (rs : List Route) → are_within n rs ≡ true → filter (up_to number n) rs ≡ filter (leads number) rs
 whole number n [] e = refl
 whole number n (r ∷ rs) e =
@@ -201,7 +201,7 @@ past_number number n rs less = ap longest (same rs)
 
 -- ---- the walk over a number
 
--- of the number all but the rest was walked: so many bytes, of this hash, and what was found by them
+-- all of the number except the rest was read: so many bytes, of this hash, and what was found by them
 pub record IsWalked (number rest : List ℕ) (n h : ℕ) (found : Option Route) (rs : List Route) : Type 0 where
   pub front : List ℕ
   pub whole : reduced number ≡ front ++ reduced rest
@@ -250,7 +250,7 @@ past_byte number b rest n h m k found more rs w kept one stir is = record {
       ∙ (sym (one_longer (reduced number) n rs) ∙ ap (λ x. best_up_to (reduced number) x rs) (sym one)));
 }
 
--- the same walk, by other names
+-- the same walk, in other terms
 pub moved : (number rest other : List ℕ) (n m h k : ℕ) (found more : Option Route) (rs : List Route) → IsWalked number rest n h found rs → rest ≡ other → n ≡ m → h ≡ k → found ≡ more →
     IsWalked number other m k more rs
 moved number rest other n m h k found more rs w a b c d =
@@ -269,7 +269,7 @@ at_end number n h found rs w =
     let size : length (reduced number) ≡ n = ap length (w.whole ∙ append-nil w.front) ∙ w.size in
     w.best ∙ past_number (reduced number) n rs (omega (arith, size))
 
--- ---- a route more
+-- ---- one more route
 
 pub within_more : (bound more : ℕ) (rs : List Route) (r : Route) → are_within bound rs ≡ true → bound ≤ more → length r.name ≤ more → are_within more (rs ++ r ∷ []) ≡ true
 within_more bound more [] r e less fits = let test : nat_le (length r.name) more ≡ true = grind (arith, nat_tests, fits) in rw test refl

@@ -14,7 +14,7 @@ use Rattle.mmtel_trust.specs.Schemes.{of_scheme}
 use Rattle.mmtel_trust.specs.declared.identities.Scheme.{Scheme}
 use Rattle.mmtel_trust.proofs.LineWalks.{values_are}
 
--- of two lists one behind the other
+-- of two lists one after the other
 parted : (s : Scheme) (vs ws : List (List ℕ)) → first_uri s (vs ++ ws) ≡ option_or (first_uri s vs) (first_uri s ws)
 parted s vs ws = ap (λ us. find (is_of_scheme s) us) (filter_map-append uri_in vs ws) ∙ find-append (is_of_scheme s) (filter_map uri_in vs) (filter_map uri_in ws)
 

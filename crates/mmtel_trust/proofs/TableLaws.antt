@@ -209,7 +209,7 @@ row_history true true all h = all_history h
 row_history true false all h = all_history (masked_list all h)
 row_history false b all h = refl
 
--- what a message says in History-Info is not passed: the call's list alone is
+-- what a message has in History-Info is not passed: the call's list alone is
 pub history_shown : (f : Facing) (b : Bool) (h : List Entry) (start : Start) (ls : List Line) → named (codes "History-Info") (shown_lines f b h start ls) ≡ history_row f b h start
 history_shown f b h start ls = passed_named (codes "History-Info") never_history f b (history_row f b h start) ls ∙ row_history (has_history_row start) b f.mask_all h
 

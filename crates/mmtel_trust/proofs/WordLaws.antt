@@ -1,4 +1,4 @@
--- Words that are written behind their ';'.
+-- Words that are written after their ';'.
 use Rattle.std.proofs.Common.{◌≡◌, ℕ, List, [], ◌∷◌, ◌++◌, refl, sym, ap, ◌∙◌, Bool, true, false, not, drop, cond, inl, inr, codes, append_assoc}
 use Rattle.std.specs.Prelude.{filter}
 use Rattle.std.specs.List.{flat_map}
@@ -9,7 +9,7 @@ use Rattle.mmtel_message.specs.Message.{Line}
 use Rattle.mmtel_trust.specs.Privacy.{words, has_word, restricted_words, restricted_text}
 use Rattle.mmtel_trust.specs.Written.{kept_word}
 
--- a word behind its ';'
+-- a word after its ';'
 abbrev behind : List ℕ → List ℕ
 behind w = 59 ∷ w
 
@@ -31,14 +31,14 @@ id_behind : (b : Bool) → flat_map behind (cond b [] (codes "id" ∷ [])) ≡ c
 id_behind true = refl
 id_behind false = refl
 
--- the words that are written, each behind its ';'
+-- the words that are written, each after its ';'
 pub words_behind : (ls : List Line) → flat_map kept_word (words ls) ++ cond (has_word (codes "id") ls) [] (codes ";id") ≡ flat_map behind (restricted_words ls)
 words_behind ls =
     ap (λ s. s ++ cond (has_word (codes "id") ls) [] (codes ";id")) (kept_are (words ls))
     ∙ (ap (λ s. flat_map behind (filter is_other (words ls)) ++ s) (sym (id_behind (has_word (codes "id") ls)))
     ∙ sym (behind_more (filter is_other (words ls)) (cond (has_word (codes "id") ls) [] (codes "id" ∷ []))))
 
--- the first ';' taken away, they are joined
+-- with the first ';' removed, they are joined
 pub joined_behind : (ws : List (List ℕ)) → drop 1 (flat_map behind ws) ≡ joined_by (codes ";") ws
 joined_behind [] = refl
 joined_behind (w ∷ ws) = refl

@@ -1,4 +1,4 @@
--- A message with all kinds of lines: what is left of it without its private places, and what it shows to both sorts of peer.
+-- A message with all kinds of lines: what remains of it without its private places, and what it shows to a trusted and to an untrusted peer.
 use Rattle.std.proofs.Common.{◌≡◌, ◌==◌, ℕ, List, [], ◌∷◌, refl, Bool, true, false, ◌||◌, codes, Option, Some, None}
 use Rattle.std.specs.Fmt as Fmt
 use Rattle.mmtel_scan.specs.Classes as Classes
@@ -118,7 +118,7 @@ is_permanent (Some a) = a.0 == 1
 abbrev restricts : Restriction
 restricts wants account = wants.id || is_permanent account
 
--- an INVITE of hers to bob, with these lines besides
+-- an INVITE of hers to Bob, with these additional lines
 abbrev invite : List Line → Message Start
 invite more = record {
   start = Request (codes "INVITE") (codes "sip:bob@far.example");
@@ -151,13 +151,13 @@ worked_served : left true ((codes "P-Served-User", codes "<sip:a@h>;sescase=orig
 unfolding Fmt.digits SameIdentity.is_same_identity Scanning.closes masked_line kind_of hidden hidden_value served_value masked_value_text is_marked_value History.entry_of Entries.is_dotted History.shown_uri History.entry_text UriPlaces.user_part UriPlaces.host_part EntryUri.cause_number EntryUri.cause_of EntryUri.hides EntryUri.is_marked EntryUri.with_cause Numbers.number_of Numbers.within Values.parts Values.parting Reading.name_addr_of Reading.words_of Reading.quoted_of Reading.angle_of Reading.bare_of Reading.all_params_at Reading.params_at Reading.param_at Reading.token_at Reading.value_at Reading.text_at Reading.user_at Reading.host_at Reading.port_number Reading.port_at Reading.headers_of Reading.headers_at Reading.sip_of Reading.scheme_of Reading.number_at Reading.tel_of Reading.uri_of Classes.in_class Scanning.run Scanning.after_run Scanning.trimmed Scanning.parted
 worked_served = refl
 
--- where the terminating user is served, her record is not asked; of two lines the first counts, and of two parameters
+-- where the terminating user is served, her record does not count; of two lines the first counts, and of two parameters
 worked_terminating : left true ((codes "P-Served-User", codes "<sip:bob@home.example>;sescase=term;sescase=orig") ∷ (codes "P-Served-User", codes "<sip:a@h>;sescase=orig") ∷ []) ≡
     (invite ((codes "P-Served-User", codes "<sip:bob@home.example>;sescase=term;sescase=orig") ∷ (codes "P-Served-User", codes "<sip:a@h>;sescase=orig") ∷ [])).lines
 unfolding Fmt.digits SameIdentity.is_same_identity Scanning.closes masked_line kind_of hidden hidden_value served_value masked_value_text is_marked_value History.entry_of Entries.is_dotted History.shown_uri History.entry_text UriPlaces.user_part UriPlaces.host_part EntryUri.cause_number EntryUri.cause_of EntryUri.hides EntryUri.is_marked EntryUri.with_cause Numbers.number_of Numbers.within Values.parts Values.parting Reading.name_addr_of Reading.words_of Reading.quoted_of Reading.angle_of Reading.bare_of Reading.all_params_at Reading.params_at Reading.param_at Reading.token_at Reading.value_at Reading.text_at Reading.user_at Reading.host_at Reading.port_number Reading.port_at Reading.headers_of Reading.headers_at Reading.sip_of Reading.scheme_of Reading.number_at Reading.tel_of Reading.uri_of Classes.in_class Scanning.run Scanning.after_run Scanning.trimmed Scanning.parted
 worked_terminating = refl
 
--- but a word of Privacy restricts her still, and the account that stands beside is hers
+-- but a word of Privacy still restricts her, and the account beside the message is hers
 abbrev asked_of_alice : Option Answers
 asked_of_alice = Some (record { account = Some alice; somebody = true })
 
@@ -171,7 +171,7 @@ worked_stranger : left false ((codes "Privacy", codes "id;history") ∷ (codes "
 unfolding Fmt.digits SameIdentity.is_same_identity Scanning.closes masked_line kind_of hidden hidden_value served_value masked_value_text is_marked_value History.entry_of Entries.is_dotted History.shown_uri History.entry_text UriPlaces.user_part UriPlaces.host_part EntryUri.cause_number EntryUri.cause_of EntryUri.hides EntryUri.is_marked EntryUri.with_cause Numbers.number_of Numbers.within Values.parts Values.parting Reading.name_addr_of Reading.words_of Reading.quoted_of Reading.angle_of Reading.bare_of Reading.all_params_at Reading.params_at Reading.param_at Reading.token_at Reading.value_at Reading.text_at Reading.user_at Reading.host_at Reading.port_number Reading.port_at Reading.headers_of Reading.headers_at Reading.sip_of Reading.scheme_of Reading.number_at Reading.tel_of Reading.uri_of Classes.in_class Scanning.run Scanning.after_run Scanning.trimmed Scanning.parted
 worked_stranger = refl
 
--- an unrestricted INVITE that asks that its history be hidden: the entries are private, and nothing else
+-- an unrestricted INVITE that requests that its history be hidden: the entries are private, and nothing else
 worked_history : (mask by_id [] (heard true (invite ((codes "Privacy", codes "history") ∷ (codes "History-Info", codes "\"Carol\" <sip:carol@home.example;cause=486>;index=1.1;np=1") ∷ [])))).message.lines ≡
     (invite ((codes "Privacy", codes "history") ∷ (codes "History-Info", codes "<sip:anonymous@anonymous.invalid;cause=486>;index=1.1;np=1") ∷ [])).lines
 unfolding Fmt.digits SameIdentity.is_same_identity Scanning.closes masked_line kind_of hidden hidden_value served_value masked_value_text is_marked_value History.entry_of Entries.is_dotted History.shown_uri History.entry_text UriPlaces.user_part UriPlaces.host_part EntryUri.cause_number EntryUri.cause_of EntryUri.hides EntryUri.is_marked EntryUri.with_cause Numbers.number_of Numbers.within Values.parts Values.parting Reading.name_addr_of Reading.words_of Reading.quoted_of Reading.angle_of Reading.bare_of Reading.all_params_at Reading.params_at Reading.param_at Reading.token_at Reading.value_at Reading.text_at Reading.user_at Reading.host_at Reading.port_number Reading.port_at Reading.headers_of Reading.headers_at Reading.sip_of Reading.scheme_of Reading.number_at Reading.tel_of Reading.uri_of Classes.in_class Scanning.run Scanning.after_run Scanning.trimmed Scanning.parted
@@ -186,7 +186,7 @@ worked_marked : left true ((codes "History-Info", codes "<sip:carol@home.example
 unfolding Fmt.digits SameIdentity.is_same_identity Scanning.closes masked_line kind_of hidden hidden_value served_value masked_value_text is_marked_value History.entry_of Entries.is_dotted History.shown_uri History.entry_text UriPlaces.user_part UriPlaces.host_part EntryUri.cause_number EntryUri.cause_of EntryUri.hides EntryUri.is_marked EntryUri.with_cause Numbers.number_of Numbers.within Values.parts Values.parting Reading.name_addr_of Reading.words_of Reading.quoted_of Reading.angle_of Reading.bare_of Reading.all_params_at Reading.params_at Reading.param_at Reading.token_at Reading.value_at Reading.text_at Reading.user_at Reading.host_at Reading.port_number Reading.port_at Reading.headers_of Reading.headers_at Reading.sip_of Reading.scheme_of Reading.number_at Reading.tel_of Reading.uri_of Classes.in_class Scanning.run Scanning.after_run Scanning.trimmed Scanning.parted
 worked_marked = refl
 
--- ---- each part of a message that is heard
+-- ---- each part of a received message
 
 -- a request with these lines alone
 abbrev of_lines : List Line → HeardMessage
@@ -201,7 +201,7 @@ by_id_alone = record { header = false; session = false; user = false; none = fal
 abbrev dave : Entry
 dave = record { uri = codes "sip:dave@home.example;cause=486"; index = codes "1.1"; cause = Some 486; hidden = false; rest = [] }
 
--- the whole, and what stands as it is written
+-- the whole, and the values that are taken as written
 record OfWhole : Type 0 where
   trusted : (of_lines []).trusted ≡ true
   start : (of_lines []).start ≡ Request (codes "REGISTER") (codes "sip:home.example")
@@ -226,7 +226,7 @@ worked_tags : OfTags
 unfolding Reading.name_addr_of Reading.words_of Reading.quoted_of Reading.angle_of Reading.bare_of Reading.all_params_at Reading.params_at Reading.param_at Reading.token_at Reading.value_at Reading.text_at Classes.in_class Scanning.closes Scanning.run Scanning.after_run Scanning.trimmed Scanning.parted
 worked_tags = record { from_tag = refl; to_tag = refl; untagged = refl }
 
--- the way of a message
+-- the route of a message
 record OfWay : Type 0 where
   vias : (of_lines ((codes "Via", codes "SIP/2.0/UDP a;branch=z9hG4bK1") ∷ (codes "Via", codes "SIP/2.0/UDP b;branch=z9hG4bK2") ∷ [])).vias ≡ codes "SIP/2.0/UDP a;branch=z9hG4bK1" ∷ codes "SIP/2.0/UDP b;branch=z9hG4bK2" ∷ []
   routes : (of_lines ((codes "Route", codes "<sip:a;lr>") ∷ (codes "Record-Route", codes "<sip:b;lr>") ∷ [])).routes ≡ codes "<sip:a;lr>" ∷ []
@@ -257,7 +257,7 @@ worked_history_read : (of_lines ((codes "History-Info", codes "<sip:dave@home.ex
 unfolding Fmt.digits SameIdentity.is_same_identity Scanning.closes masked_line kind_of hidden hidden_value served_value masked_value_text is_marked_value History.entry_of Entries.is_dotted History.shown_uri History.entry_text UriPlaces.user_part UriPlaces.host_part EntryUri.cause_number EntryUri.cause_of EntryUri.hides EntryUri.is_marked EntryUri.with_cause Numbers.number_of Numbers.within Values.parts Values.parting Reading.name_addr_of Reading.words_of Reading.quoted_of Reading.angle_of Reading.bare_of Reading.all_params_at Reading.params_at Reading.param_at Reading.token_at Reading.value_at Reading.text_at Reading.user_at Reading.host_at Reading.port_number Reading.port_at Reading.headers_of Reading.headers_at Reading.sip_of Reading.scheme_of Reading.number_at Reading.tel_of Reading.uri_of Classes.in_class Scanning.run Scanning.after_run Scanning.trimmed Scanning.parted
 worked_history_read = refl
 
--- numbers that are too great are none; one may have zeros before it
+-- numbers that are too great are none; a number may have leading zeros
 record OfNumbers : Type 0 where
   most : (of_lines ((codes "Max-Forwards", codes "255") ∷ [])).hops ≡ Some 255
   hops : (of_lines ((codes "Max-Forwards", codes "256") ∷ [])).hops ≡ None
@@ -283,7 +283,7 @@ worked_reliable : OfReliable
 unfolding Numbers.number_of Numbers.within Classes.in_class
 worked_reliable = record { rseq = refl; most = refl; more = refl; zero = refl; none = refl; rack = refl }
 
--- how long a session lasts; and whether there is one Contact that can be read
+-- how long a session lasts; and whether there is one Contact that parses
 record OfSession : Type 0 where
   session : (of_lines ((codes "Session-Expires", codes "90;refresher=uac") ∷ (codes "Min-SE", codes "90") ∷ [])).session ≡ codes "90;refresher=uac" ∷ []
   one : (of_lines ((codes "Contact", codes "<sip:a@h>") ∷ [])).one_contact ≡ true
@@ -295,7 +295,7 @@ worked_session : OfSession
 unfolding Reading.name_addr_of Reading.words_of Reading.quoted_of Reading.angle_of Reading.bare_of Reading.all_params_at Reading.params_at Reading.param_at Reading.token_at Reading.value_at Reading.text_at Classes.in_class Scanning.closes Scanning.run Scanning.after_run Scanning.trimmed Scanning.parted
 worked_session = record { session = refl; one = refl; two = refl; unreadable = refl; none = refl }
 
--- the originating user is nobody in what is never private, and of two users the first counts
+-- the originating user is absent from what is never private, and of two users the first counts
 abbrev origin_served : HeardMessage
 origin_served = of_lines ((codes "P-Served-User", codes "<sip:alice@home.example>;sescase=orig;regstate=unreg") ∷ (codes "P-Served-User", codes "<sip:bob@home.example>;sescase=term") ∷ [])
 
@@ -325,7 +325,7 @@ answer code = record {
 abbrev redirected : Places → ℕ → HeardMessage
 redirected p code = hide p (heard true (answer code))
 
--- where it redirects to is private on the caller's side, and for everybody on the callee's; a 200 redirects nowhere
+-- the target to which it redirects is private on the caller's side, and not private on the callee's; a 200 does not redirect
 record OfRedirects : Type 0 where
   heard_of : (heard true (answer 302)).redirect ≡ Some (codes "sip:phone@h")
   of_caller : (redirected answering 302).redirect ≡ Some (codes "sip:anonymous@anonymous.invalid")

@@ -27,6 +27,6 @@ has_account a es = list_any (λ e. e.account.0 == a.0) es
 abbrev pub with_identity : Account → Uri → List AccountIdentity → List AccountIdentity
 with_identity a u es = es ++ record { account = a; uri = u } ∷ []
 
--- an identity stands once
+-- each identity occurs once
 abbrev pub identity_fault : Uri → List AccountIdentity → Option TableFault
 identity_fault u es = if has_identity u es then Some Taken else None

@@ -1,4 +1,4 @@
--- Who a message says that its sender is, where it comes from a trusted peer (RFC 3325 §9.1: one sip URI and one tel URI at most).
+-- The identities that a message asserts of its sender, where it comes from a trusted peer (RFC 3325 §9.1: one sip URI and one tel URI at most).
 use Rattle.std.specs.Prelude.{ℕ, Bool, true, false, Option, Some, None, List, codes, if◌then◌else◌, Result, Ok, Err, find}
 use Rattle.std.specs.List.{filter_map}
 use Rattle.mmtel_scan.specs.Chain.{◌>>=◌}
@@ -15,7 +15,7 @@ abbrev pub or_no_uri : Result Uri Refusal → Option Uri
 or_no_uri (Ok u) = Some u
 or_no_uri (Err e) = None
 
--- the URI of a name-addr, where both can be read
+-- the URI of a name-addr, where both parse
 abbrev pub uri_in : List ℕ → Option Uri
 uri_in v = name_addr_of v >>= λ n. or_no_uri (uri_of n.uri)
 
@@ -32,7 +32,7 @@ first_uri s values = find (is_of_scheme s) (filter_map uri_in values)
 abbrev pub asserted_values : List Line → List (List ℕ)
 asserted_values ls = values_named Plain (codes "P-Asserted-Identity") ls
 
--- the identities of the sender: none is believed of a peer that is not trusted
+-- the identities of the sender: none where the peer is not trusted
 abbrev pub asserted : Bool → List Line → Identities
 asserted trusted ls =
     if trusted

@@ -1,8 +1,8 @@
--- What is read of a message that was heard: a field for each part that rules read and that is never private; and behind these what masking changes by the role of the
--- message: the entries of its History-Info, where it redirects to, and its lines, which hold all that may be private. Whatever reads the other fields sees no difference
+-- What is read of a received message: a field for each part that rules read and that is never private; and after these what masking changes by the role of the message: the
+-- entries of its History-Info, the target to which it redirects, and its lines, which contain everything that may be private. Whatever reads the other fields sees no difference
 -- between a message and the masked one. Each line of a listed name has one value, as the reader leaves them (RFC 3261 §7.3.1).
 --
--- What is decided of a private place is asked here too: the account of the caller, and whether the caller has an identity.
+-- What is decided by a private place is determined here too: the account of the caller, and whether the caller has an identity.
 use Rattle.std.specs.Prelude.{ℕ, Bool, true, false, ◌==◌, ◌&&◌, ◌||◌, Option, Some, None, is_some, List, codes, if◌then◌else◌}
 use Rattle.std.specs.Option.{option_map}
 use Rattle.mmtel_scan.specs.Chain.{◌>>=◌}
@@ -27,13 +27,13 @@ use Rattle.mmtel_trust.specs.declared.identities.Identities.{Identities}
 
 -- ---- who is served (RFC 5502 §4)
 
--- the session case: as whom a user is served
+-- the session case: in which role a user is served
 pub data SessionCase : Type 0 where
   NoCase : SessionCase
   Originating : SessionCase
   Terminating : SessionCase
 
--- what a P-Served-User says that is not private
+-- what a P-Served-User has that is not private
 pub record ServedUser : Type 0 where
   pub session_case : SessionCase
   -- the value of `regstate`
@@ -53,7 +53,7 @@ abbrev pub served_in : Option NameAddr → ServedUser
 served_in None = record { session_case = NoCase; regstate = None; user = None }
 served_in (Some n) = record { session_case = case_of n.params; regstate = param_value (codes "regstate") n.params; user = user_if (case_of n.params) n.uri }
 
--- what a P-Served-User value says, if there is one
+-- what a P-Served-User value has, if there is one
 abbrev pub served_by : Option (List ℕ) → ServedUser
 served_by v = served_in (v >>= name_addr_of)
 
@@ -62,7 +62,7 @@ is_terminating NoCase = false
 is_terminating Originating = false
 is_terminating Terminating = true
 
--- ---- what is heard
+-- ---- what is read of a received message
 
 pub record HeardMessage : Type 0 where
   -- from a trusted peer
@@ -130,7 +130,7 @@ history_in ls = History.entries_of (line_texts (codes "History-Info") ls)
 abbrev pub unless_zero : ℕ → Option ℕ
 unless_zero n = if n == 0 then None else Some n
 
--- what is heard, where the message comes from a trusted peer or not
+-- what is read of a message, which comes from a trusted peer or not
 abbrev pub heard : Bool → Message Start → HeardMessage
 heard trusted m = record {
   trusted = trusted;
@@ -161,7 +161,7 @@ heard trusted m = record {
   lines = m.lines;
 }
 
--- the terminating user is served: nobody is served as the caller
+-- the terminating user is served: no user is served as the caller
 abbrev pub terminates : HeardMessage → Bool
 terminates m = is_terminating m.served.session_case
 
@@ -190,7 +190,7 @@ is_somebody i = is_some i.sip || is_some i.tel
 abbrev pub caller_account : List AccountIdentity → HeardMessage → Option Account
 caller_account accounts m = origin_account accounts m.trusted m.lines
 
--- the account whose record restricts the caller: that of the caller, and none where a trusted peer says that the terminating user is served (RFC 5502 §4)
+-- the account whose record restricts the caller: that of the caller, and none where a trusted peer asserts that the terminating user is served (RFC 5502 §4)
 abbrev pub served_account : List AccountIdentity → HeardMessage → Option Account
 served_account accounts m = if m.trusted && terminates m then None else caller_account accounts m
 

@@ -1,9 +1,9 @@
--- Answers of tables.
+-- Results of adding to tables.
 use Rattle.std.specs.Prelude.{◌≡◌, Result, Ok, Err, Option, Some, None}
 use Rattle.mmtel_trust.specs.declared.faults.TableFault.{TableFault}
 use Rattle.mmtel_trust.specs.declared.faults.TableFault.TheVariants.{Taken, NoPeer, NoMemory}
 
--- it is refused for the fault, where there is one; else it is taken, or memory ran out
+-- an entry is refused with the fault, where there is one; otherwise it is added, or memory ran out
 abbrev pub Refuses : TableFault → Option TableFault → Type 0
 Refuses Taken fault = fault ≡ Some Taken
 Refuses NoPeer fault = fault ≡ Some NoPeer

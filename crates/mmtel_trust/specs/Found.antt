@@ -1,9 +1,9 @@
--- Which of the known words of Privacy one walk has found (RFC 3323 §4.2).
+-- Which of the known words of Privacy have been found after some of the words were read (RFC 3323 §4.2).
 use Rattle.std.specs.Prelude.{ℕ, List, [], ◌∷◌, codes, ◌||◌}
 use Rattle.std.specs.Str.{str_eq_ignore_ascii_case}
 use Rattle.mmtel_types.specs.declared.privacy.PrivacySet.{PrivacySet}
 
--- those found before, and what this word is
+-- those found before, and this word
 abbrev pub with_word : PrivacySet → List ℕ → PrivacySet
 with_word found v = record {
   header = found.header || str_eq_ignore_ascii_case v (codes "header");
@@ -15,7 +15,7 @@ with_word found v = record {
   history = found.history || str_eq_ignore_ascii_case v (codes "history");
 }
 
--- those found before, and what these words are
+-- those found before, and these words
 abbrev pub with_words : PrivacySet → List (List ℕ) → PrivacySet
 with_words found [] = found
 with_words found (v ∷ vs) = with_words (with_word found v) vs

@@ -1,4 +1,4 @@
--- Hashes of what is looked up: equal keys have equal hashes, and nothing else is claimed of them. A hash is folded over bytes, so that none needs memory.
+-- Hashes of keys that are looked up: equal keys have equal hashes, and nothing else is claimed of them. A hash is folded over bytes, so that none allocates.
 use Rattle.std.specs.Prelude.{ℕ, ◌+◌, ◌*◌, ◌%◌, ◌^◌, ◌==◌, Bool, false, List, [], ◌∷◌, Option, Some, None, if◌then◌else◌}
 use Rattle.std.specs.Str.{str_to_ascii_lowercase}
 use Rattle.mmtel_lex.specs.Identity.{reduced}
@@ -6,11 +6,11 @@ use Rattle.mmtel_lex.specs.declared.values.Uri.{Uri}
 use Rattle.mmtel_lex.specs.declared.values.Uri.TheVariants.{Sip, Tel}
 use Rattle.mmtel_types.specs.declared.addrs.Addr.{Addr}
 
--- with one number more
+-- with one more number mixed in
 unfoldable pub stirred : ℕ → ℕ → ℕ
 stirred hash n = (hash * 1099511628211 % 2 ^ 64 + n) % 2 ^ 64
 
--- with these bytes
+-- with these bytes mixed in
 abbrev pub hashed : ℕ → List ℕ → ℕ
 hashed hash [] = hash
 hashed hash (b ∷ s) = hashed (stirred hash b) s
@@ -26,7 +26,7 @@ abbrev pub begins_plus : List ℕ → Bool
 begins_plus [] = false
 begins_plus (b ∷ s) = b == 43
 
--- of a sip URI: a user that begins with '+' may stand for a telephone number, which tel URIs name without a host
+-- of a sip URI: a user that begins with '+' may be a telephone number, which tel URIs have without a host
 abbrev pub sip_hash : Option (List ℕ) → List ℕ → ℕ
 sip_hash None host = name_hash host
 sip_hash (Some user) host = if begins_plus user then hashed 1 user else hashed (stirred (hashed 1 user) 64) (str_to_ascii_lowercase host)

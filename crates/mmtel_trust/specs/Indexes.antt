@@ -1,4 +1,4 @@
--- What the tables keep beside their lists, so that nothing walks them.
+-- The indexes that the tables keep beside their lists, so that no look-up scans a list.
 use Rattle.std.specs.Prelude.{◌≡◌, ℕ, Bool, nat_le, true, List, length, ◌&&◌, ◌==◌}
 use Rattle.std.specs.List.{list_all}
 use Rattle.mmtel_types.specs.declared.numbers.Account.{Account}
@@ -15,11 +15,11 @@ pub record AreIndexed (es : List AccountIdentity) (by_uri by_account : List (ℕ
   pub uris : IsIndex (λ e. uri_hash e.uri) es by_uri
   pub numbers : IsIndex (λ e. e.account.0) es by_account
 
--- the identity is one of the account
+-- the identity belongs to the account
 abbrev pub is_of_account : Account → AccountIdentity → Bool
 is_of_account a e = e.account.0 == a.0
 
--- the route is of just this many bytes of the number
+-- the route's name is a prefix of the number of exactly this many bytes
 abbrev pub leads_by : List ℕ → ℕ → Route → Bool
 leads_by number n r = leads number r && length r.name == n
 

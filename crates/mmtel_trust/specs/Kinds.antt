@@ -1,10 +1,10 @@
--- Header names by what becomes of their lines where a message is relayed: the header table of the server. Names are compared without case (RFC 3261 §7.3.1).
+-- Names of header fields, by what is done with these fields where a message is relayed: the header table of the server. Names are compared without case (RFC 3261 §7.3.1).
 use Rattle.std.specs.Prelude.{ℕ, Bool, false, List, [], ◌∷◌, ◌++◌, codes, if◌then◌else◌, ◌||◌}
 use Rattle.std.specs.Str.{str_eq_ignore_ascii_case}
 use Rattle.mmtel_trust.specs.declared.kinds.HeaderKind.{HeaderKind}
 use Rattle.mmtel_trust.specs.declared.kinds.HeaderKind.TheVariants.{From, To, Contact, Asserted, Served, Privacy, History, Options, Session, Passed, Personal, Trusted, Other}
 
--- lines that tell who somebody is (RFC 3323 §4.1.1)
+-- lines that identify a party (RFC 3323 §4.1.1)
 abbrev pub personal_names : List (List ℕ)
 personal_names = codes "Subject" ∷ codes "Call-Info" ∷ codes "Organization" ∷ codes "User-Agent" ∷ codes "Server" ∷ codes "Reply-To" ∷ codes "In-Reply-To" ∷ []
 
@@ -16,22 +16,22 @@ session_names = codes "Session-Expires" ∷ codes "Min-SE" ∷ []
 abbrev pub trusted_names : List (List ℕ)
 trusted_names = codes "P-Access-Network-Info" ∷ codes "P-Asserted-Service" ∷ codes "P-Early-Media" ∷ []
 
--- lines that concern what is accepted, and the body (RFC 3261 §20, RFC 3841)
+-- lines about what is accepted, and about the body (RFC 3261 §20, RFC 3841)
 abbrev pub content_names : List (List ℕ)
 content_names = codes "Accept" ∷ codes "Accept-Contact" ∷ codes "Accept-Encoding" ∷ codes "Accept-Language" ∷ codes "Alert-Info" ∷ codes "Content-Disposition"
     ∷ codes "Content-Encoding" ∷ codes "Content-Language" ∷ []
 
--- further lines that everybody may see (RFC 3261 §20, RFC 3326, RFC 3841)
+-- further lines that every peer may see (RFC 3261 §20, RFC 3326, RFC 3841)
 abbrev pub further_names : List (List ℕ)
 further_names = codes "Content-Type" ∷ codes "MIME-Version" ∷ codes "Priority" ∷ codes "Reason" ∷ codes "Reject-Contact" ∷ codes "Request-Disposition" ∷ codes "Retry-After"
     ∷ codes "Unsupported" ∷ []
 
--- a row of the table: a kind, and the names of it
+-- a row of the table: a kind, and its names
 pub record Row : Type 0 where
   pub kind : HeaderKind
   pub names : List (List ℕ)
 
--- the table: names that stand alone
+-- the table: kinds with a single name
 abbrev pub single_rows : List Row
 single_rows =
     record { kind = From; names = codes "From" ∷ [] } ∷
@@ -42,7 +42,7 @@ single_rows =
     record { kind = Privacy; names = codes "Privacy" ∷ [] } ∷
     record { kind = History; names = codes "History-Info" ∷ [] } ∷ []
 
--- the table: groups of names
+-- the table: kinds with several names
 abbrev pub group_rows : List Row
 group_rows =
     record { kind = Options; names = codes "Supported" ∷ codes "Require" ∷ [] } ∷
@@ -65,7 +65,7 @@ kind_in (row ∷ more) n = if is_among row.names n then row.kind else kind_in mo
 unfoldable pub kind_of : List ℕ → HeaderKind
 kind_of n = kind_in (single_rows ++ group_rows) n
 
--- the names of the lines that the server writes of its own (RFC 3261 §20)
+-- the names of the lines that the server writes itself (RFC 3261 §20)
 abbrev pub own_names : List (List ℕ)
 own_names = codes "Via" ∷ codes "Route" ∷ codes "Record-Route" ∷ codes "Max-Forwards" ∷ codes "From" ∷ codes "To" ∷ codes "Call-ID" ∷ codes "CSeq" ∷ codes "Contact"
     ∷ codes "Content-Length" ∷ []

@@ -1,5 +1,5 @@
--- What of a message is private, and the message without it (RFC 3323 §4.1, RFC 3325 §7, RFC 7044 §10.1). In a private place nobody's URI stands for whoever would be named
--- there; what is masked is compared, and never offered to anybody.
+-- What of a message is private, and the message without it (RFC 3323 §4.1, RFC 3325 §7, RFC 7044 §10.1). In a private place the anonymous URI replaces whoever would be named
+-- there; a masked message is compared, and never sent to a peer.
 use Rattle.std.specs.Prelude.{ℕ, nat_le, Bool, true, false, not, ◌&&◌, ◌||◌, Option, Some, None, List, [], ◌∷◌, codes, if◌then◌else◌}
 use Rattle.std.specs.List.{flat_map}
 use Rattle.std.specs.Option.{option_map}
@@ -23,7 +23,7 @@ use Rattle.mmtel_trust.specs.declared.kinds.HeaderKind.TheVariants.{From, To, Co
 
 -- ---- values
 
--- nobody's URI (RFC 3323 §4.1.1.3), with these parameters
+-- the anonymous URI (RFC 3323 §4.1.1.3), with these parameters
 unfoldable pub hidden : List Param → List ℕ
 hidden ps = name_addr_text (record { display = []; uri = anonymous; params = ps })
 
@@ -31,7 +31,7 @@ abbrev pub hidden_from : List ℕ → Option NameAddr → List ℕ
 hidden_from v None = v
 hidden_from v (Some n) = hidden n.params
 
--- the value with nobody's URI in the place of display and URI; one that cannot be read stays
+-- the value with the anonymous URI in the place of display name and URI; one that does not parse stays
 unfoldable pub hidden_value : List ℕ → List ℕ
 hidden_value v = hidden_from v (name_addr_of v)
 
@@ -51,11 +51,11 @@ abbrev pub served_from : List ℕ → Option NameAddr → List ℕ
 served_from v None = v
 served_from v (Some n) = if is_orig n.params then hidden n.params else v
 
--- a P-Served-User value: only the originating user is the caller
+-- a P-Served-User value: the served user is the caller in the originating case alone
 unfoldable pub served_value : List ℕ → List ℕ
 served_value v = served_from v (name_addr_of v)
 
--- ---- places
+-- ---- private places
 
 -- which entries of History-Info are private
 pub data Entries : Type 0 where
@@ -65,22 +65,22 @@ pub data Entries : Type 0 where
 
 -- which places of a message are private
 pub record Places : Type 0 where
-  -- display and URI of From, and of To where the message is a response
+  -- display name and URI of From, and of To where the message is a response
   pub from : Bool
   pub to : Bool
-  -- those of Contact, where the message does not redirect, and where it does: there Contact tells where to call
+  -- those of Contact, where the message does not redirect, and where it does: there Contact is the target of the redirection
   pub contact : Bool
   pub redirect : Bool
   -- those of a P-Served-User of the originating case
   pub served : Bool
-  -- the P-Asserted-Identity lines, which go
+  -- the P-Asserted-Identity lines, which are removed
   pub asserted : Bool
-  -- the lines that tell who somebody is, which go
+  -- the lines that identify a party, which are removed
   pub personal : Bool
-  -- display and URI of these entries
+  -- display name and URI of these entries
   pub history : Entries
 
--- no place but these entries
+-- these entries and no other place
 abbrev pub only : Entries → Places
 only private = record { from = false; to = false; contact = false; redirect = false; served = false; asserted = false; personal = false; history = private }
 
@@ -95,7 +95,7 @@ asking = record (only NoEntries) { from = true; contact = true; asserted = true;
 abbrev pub answering : Places
 answering = record (only NoEntries) { to = true; contact = true; redirect = true; asserted = true; personal = true }
 
--- of a request of a restricted callee, and of a response: where it redirects to is for everybody
+-- of a request of a restricted callee, and of a response: the target to which it redirects is not private
 abbrev pub called : Places
 called = record (only NoEntries) { from = true; contact = true; asserted = true; personal = true }
 
@@ -109,7 +109,7 @@ entries_of wants = if wants.history then AllEntries else MarkedEntries
 abbrev pub history_of : PrivacySet → Places
 history_of wants = only (entries_of wants)
 
--- the entries of the one or of the other
+-- the entries of either
 abbrev pub joined_entries : Entries → Entries → Entries
 joined_entries NoEntries other = other
 joined_entries MarkedEntries NoEntries = MarkedEntries
@@ -117,7 +117,7 @@ joined_entries MarkedEntries MarkedEntries = MarkedEntries
 joined_entries MarkedEntries AllEntries = AllEntries
 joined_entries AllEntries other = AllEntries
 
--- the places of the one or of the other
+-- the places of either
 abbrev pub joined : Places → Places → Places
 joined p q = record {
   from = p.from || q.from;
@@ -141,13 +141,13 @@ serve_if b v = if b then served_value v else v
 abbrev pub unless_gone : Bool → List ℕ → Option (List ℕ)
 unless_gone b v = if b then None else Some v
 
--- an entry, where these are private
+-- an entry, where such entries are private
 abbrev pub masked_entries : Entries → List ℕ → List ℕ
 masked_entries NoEntries v = v
 masked_entries MarkedEntries v = if is_marked_value v then masked_value_text v else v
 masked_entries AllEntries v = masked_value_text v
 
--- what is left of a value of the kind; None where the line goes
+-- what remains of a value of the kind; None where the line is removed
 abbrev pub masked_value : Places → HeaderKind → List ℕ → Option (List ℕ)
 masked_value p From v = Some (hide_if p.from v)
 masked_value p To v = Some (hide_if p.to v)
@@ -167,7 +167,7 @@ abbrev pub with_name : List ℕ → Option (List ℕ) → List Line
 with_name name None = []
 with_name name (Some v) = (name, v) ∷ []
 
--- what is left of a line
+-- what remains of a line
 unfoldable pub masked_line : Places → Line → List Line
 masked_line p l = with_name l.0 (masked_value p (kind_of l.0) l.1)
 
@@ -181,7 +181,7 @@ abbrev pub redirects : Start → Bool
 redirects (Request method uri) = false
 redirects (Status code phrase) = nat_le 300 code && nat_le code 399
 
--- the private places of the lines of a message that starts so
+-- the private places of the lines of a message with this start line
 abbrev pub places_in : Start → Places → Places
 places_in start p = record p { to = if is_request start then false else p.to; contact = if redirects start then p.redirect else p.contact }
 
@@ -191,23 +191,23 @@ masked p m = record m { lines = masked_lines (places_in m.start p) m.lines }
 
 -- ---- what is read of private places
 
--- entries as they are read of masked lines
+-- entries as they are read from masked lines
 abbrev pub hidden_entries : Entries → List Entry → List Entry
 hidden_entries NoEntries h = h
 hidden_entries MarkedEntries h = masked_list false h
 hidden_entries AllEntries h = masked_list true h
 
--- a URI as it is read of a hidden value
+-- a URI as it is read from a hidden value
 abbrev pub hidden_uri : Bool → Option (List ℕ) → Option (List ℕ)
 hidden_uri b u = if b then option_map (λ v. anonymous) u else u
 
--- ---- what masking leaves alone
+-- ---- what masking does not change
 
 -- the line with another value
 abbrev pub with_value : (List ℕ → List ℕ) → Line → Line
 with_value f l = (l.0, f l.1)
 
--- lines of the kind stay, if with another value
+-- lines of the kind stay, though perhaps with another value
 abbrev pub is_left : Places → HeaderKind → Bool
 is_left p From = true
 is_left p To = true
@@ -228,7 +228,7 @@ are_public NoEntries = true
 are_public MarkedEntries = false
 are_public AllEntries = false
 
--- lines of the kind stay as they are
+-- lines of the kind stay unchanged
 abbrev pub is_kept : Places → HeaderKind → Bool
 is_kept p From = not p.from
 is_kept p To = not p.to

@@ -1,5 +1,5 @@
--- A message that was heard without its private places, and beside it what is asked of its caller where that is private: by this two runs are compared (RFC 3323 §4.1, RFC
--- 3325 §7, RFC 7044 §10.1, TS 24.607 §4.5.2).
+-- A received message without its private places, and beside it what is determined of its caller where that is private: two runs are compared by this (RFC 3323 §4.1, RFC 3325 §7,
+-- RFC 7044 §10.1, TS 24.607 §4.5.2).
 use Rattle.std.specs.Prelude.{◌≡◌, ℕ, Bool, true, false, ◌&&◌, Option, Some, None, is_none, List, [], codes, if◌then◌else◌}
 use Rattle.mmtel_history.specs.HistoryInfo.{masked_list}
 use Rattle.mmtel_message.specs.Faults.{is_method, is_request}
@@ -14,7 +14,7 @@ use Rattle.mmtel_trust.specs.declared.showing.Facing.{Facing}
 
 -- ---- a message without private places
 
--- what is left of a message without these places
+-- what remains of a message without these places
 abbrev pub hide : Places → HeardMessage → HeardMessage
 hide p m = record m { history = hidden_entries p.history m.history; redirect = hidden_uri p.redirect m.redirect; lines = masked_lines (places_in m.start p) m.lines }
 
@@ -36,7 +36,7 @@ is_opening m = m.trusted && (is_method (codes "INVITE") m.start && is_none m.to_
 abbrev pub is_private : Restriction → List AccountIdentity → HeardMessage → Bool
 is_private restricts accounts m = is_opening m && restricts m.wants (served_account accounts m)
 
--- the private places of an opening, where the caller is restricted
+-- the private places of an opening INVITE, where the caller is restricted
 abbrev pub opening_if : Bool → Places
 opening_if b = if b then opening else only NoEntries
 
@@ -44,13 +44,13 @@ opening_if b = if b then opening else only NoEntries
 abbrev pub private_entries : HeardMessage → Entries
 private_entries m = if m.trusted && is_request m.start then entries_of m.wants else NoEntries
 
--- all private places of what was heard
+-- all private places of a received message
 abbrev pub places_of : Restriction → List AccountIdentity → HeardMessage → Places
 places_of restricts accounts m = joined (opening_if (is_private restricts accounts m)) (only (private_entries m))
 
 -- ---- the mask
 
--- what is asked of a caller who stays private
+-- what is determined of a caller whose identity stays private
 pub record Answers : Type 0 where
   -- the account of the caller
   pub account : Option Account
@@ -59,13 +59,13 @@ pub record Answers : Type 0 where
 
 pub record Masked : Type 0 where
   pub message : HeardMessage
-  -- they stand beside a message that opens a call of a restricted caller, and beside no other
+  -- they are present beside a message that opens a call of a restricted caller, and beside no other
   pub answers : Option Answers
 
 abbrev pub answers_if : Bool → List AccountIdentity → HeardMessage → Option Answers
 answers_if b accounts m = if b then Some (record { account = caller_account accounts m; somebody = is_known m }) else None
 
--- what two runs are compared by of a message: the conditions stand in the fields, so that each other field is seen through
+-- what two runs are compared by for a message: the conditions are within the fields, so that each other field reduces without a case distinction
 abbrev pub mask : Restriction → List AccountIdentity → HeardMessage → Masked
 mask restricts accounts m = record { message = hide (places_of restricts accounts m) m; answers = answers_if (is_private restricts accounts m) accounts m }
 
@@ -75,9 +75,9 @@ mask restricts accounts m = record { message = hide (places_of restricts account
 abbrev pub NameAlike : Restriction → List AccountIdentity → List AccountIdentity → HeardMessage → Type 0
 NameAlike restricts accounts others m = is_private restricts accounts m ≡ false → caller_account accounts m ≡ caller_account others m
 
--- the same is decided of a message, under these accounts, and of another one, under those
+-- the same is decided of a message, with these accounts, and of another one, with those
 pub record DecideAlike (restricts : Restriction) (accounts others : List AccountIdentity) (m n : HeardMessage) : Type 0 where
-  -- all that is read of what is never private
+  -- everything that is read of parts that are never private
   pub public : public_part m ≡ public_part n
   -- whether it opens a call of a restricted caller
   pub private : is_private restricts accounts m ≡ is_private restricts others n
@@ -87,10 +87,10 @@ pub record DecideAlike (restricts : Restriction) (accounts others : List Account
   pub known : is_known m ≡ is_known n
   -- its list of History-Info, as an untrusted peer may see it
   pub history : masked_list m.wants.history m.history ≡ masked_list n.wants.history n.history
-  -- what is shown to an untrusted peer of a restricted caller, and to anybody of another one, beside the call's own History-Info
+  -- what an untrusted peer is shown of a restricted caller, and any peer of an unrestricted one, beside the call's own History-Info
   pub shown : (f : Facing) (history : List Line) → f.restricted ≡ true → passed f false history m.lines ≡ passed f false history n.lines
   pub shown_to_all : (f : Facing) (to_trusted : Bool) (history : List Line) → is_private restricts accounts m ≡ false →
       passed f to_trusted history m.lines ≡ passed f to_trusted history n.lines
-  -- From of an attempt, where it names nobody for a restricted caller
+  -- From of an attempt, which is anonymous for a restricted caller
   pub from : (restricted : Bool) (tag : List ℕ) → (is_private restricts accounts m ≡ true → restricted ≡ true) →
       attempt_from restricted tag m.lines ≡ attempt_from restricted tag n.lines

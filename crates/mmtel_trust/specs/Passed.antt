@@ -79,15 +79,15 @@ shown_lines f to_trusted h start ls = passed f to_trusted (history_row f to_trus
 
 -- ---- From
 
--- nobody, by display and URI (RFC 3323 §4.1.1.3)
+-- the anonymous party: display name and URI (RFC 3323 §4.1.1.3)
 abbrev pub nobody : NameAddr
 nobody = record { display = codes "\"Anonymous\""; uri = anonymous; params = [] }
 
--- the display and the URI of a name-addr, without the parameters behind them
+-- the display name and the URI of a name-addr, without the parameters after them
 abbrev pub display_and_uri : NameAddr → List ℕ
 display_and_uri n = name_addr_text (record n { params = [] })
 
--- the display and the URI of a name-addr, or of nobody
+-- the display name and the URI of a name-addr, or of the anonymous party
 abbrev pub named_text : Option NameAddr → List ℕ
 named_text None = name_addr_text nobody
 named_text (Some n) = display_and_uri n
@@ -96,6 +96,6 @@ abbrev pub read_by : Option (List ℕ) → Option NameAddr
 read_by None = None
 read_by (Some v) = name_addr_of v
 
--- From of an attempt: of nobody where the call is restricted, else the display and the URI as received; and the tag
+-- From of an attempt: anonymous where the call is restricted, else the display name and the URI as received; and the tag
 abbrev pub attempt_from : Bool → List ℕ → List Line → List ℕ
 attempt_from restricted tag ls = named_text (unless_restricted restricted (read_by (first_value (codes "From") ls))) ++ (codes ";tag=" ++ tag)

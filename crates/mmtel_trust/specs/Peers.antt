@@ -1,7 +1,7 @@
--- The peers that the server speaks with, and to which of them a URI leads.
+-- The peers with which the server exchanges messages, and to which of them a URI is routed.
 --
--- A configuration of peers and routes stands in the place of DNS (RFC 3263): a sip URI is routed by its host (RFC 3261 §19.1.1), without case (§19.1.4), and a tel URI by
--- the longest prefix of its number, its visual separators taken out (RFC 3966 §3, §5.1.1).
+-- A configuration of peers and routes takes the place of DNS (RFC 3263): a sip URI is routed by its host (RFC 3261 §19.1.1), without case (§19.1.4), and a tel URI by the longest
+-- prefix of its number, with its visual separators removed (RFC 3966 §3, §5.1.1).
 use Rattle.std.specs.Prelude.{◌≡◌, ℕ, nat_lt, Bool, true, false, not, ◌==◌, ◌&&◌, ◌||◌, Option, Some, None, List, [], ◌∷◌, ◌++◌, length, codes, find, filter, if◌then◌else◌}
 use Rattle.std.specs.Option.{option_map}
 use Rattle.std.specs.List.{list_all, list_any}
@@ -47,18 +47,18 @@ peer_at a ks = option_map (λ k. k.peer) (find (is_at a) ks)
 abbrev pub addr_of : Peer → List KnownPeer → Option Addr
 addr_of p ks = option_map (λ k. k.addr) (find (is_number p) ks)
 
--- the peer is this one, and is of the trust domain
+-- the peer is this one, and is in the trust domain
 abbrev pub is_trusted_one : Peer → KnownPeer → Bool
 is_trusted_one p k = is_in_trust_domain k.peer k.trusted p
 
--- the peer is there and is trusted
+-- the peer is in the table and is trusted
 abbrev pub is_trusted : Peer → List KnownPeer → Bool
 is_trusted p ks = list_any (is_trusted_one p) ks
 
 abbrev pub with_peer : Peer → Addr → Bool → Peers → Peers
 with_peer p a trusted t = record t { known = t.known ++ record { peer = p; addr = a; trusted = trusted } ∷ [] }
 
--- each number and each address stands once
+-- each number and each address occurs once
 abbrev pub are_apart : List KnownPeer → Bool
 are_apart [] = true
 are_apart (k ∷ ks) = (not (has_number k.peer ks) && not (has_addr k.addr ks)) && are_apart ks
@@ -89,7 +89,7 @@ abbrev pub is_prefix : List ℕ → Bool
 is_prefix [] = false
 is_prefix (b ∷ s) = b == 43 && (not (length s == 0) && list_all (in_class Digit) s)
 
--- the route is of a prefix with which the number begins
+-- the name of the route is a prefix with which the number begins
 abbrev pub leads : List ℕ → Route → Bool
 leads number r = is_prefix r.name && begins_with number r.name
 
@@ -97,7 +97,7 @@ abbrev pub longer : Route → Option Route → Option Route
 longer r None = Some r
 longer r (Some s) = if nat_lt (length r.name) (length s.name) then Some s else Some r
 
--- the route of the longest name; the first of these
+-- the route with the longest name; the first of these
 abbrev pub longest : List Route → Option Route
 longest [] = None
 longest (r ∷ rs) = longer r (longest rs)
@@ -107,30 +107,30 @@ abbrev pub own_route : Uri → List Route → Option Route
 own_route (Sip user host port params headers) rs = named_route host rs
 own_route (Tel number params) rs = longest (filter (leads (reduced number)) rs)
 
--- this one, or else that
+-- the first, or else the second
 abbrev pub or_route : Option Route → Option Route → Option Route
 or_route (Some r) other = Some r
 or_route None other = other
 
--- the peer to which the URI leads: by its own route, else by that of '*'
+-- the peer to which the URI is routed: by its own route, else by that of '*'
 abbrev pub route_of : Uri → List Route → Option Peer
 route_of u rs = option_map (λ r. r.peer) (or_route (own_route u rs) (named_route (codes "*") rs))
 
--- ---- what a table does not take
+-- ---- what a table refuses
 
--- a number or an address stands once
+-- each number and each address occurs once
 abbrev pub peer_fault : Peer → Addr → Peers → Option TableFault
 peer_fault p a t = if has_number p t.known || has_addr a t.known then Some Taken else None
 
--- a name stands once, without case, and its peer stands in the table
+-- each name occurs once, without case, and its peer is in the table
 abbrev pub route_fault : List ℕ → Peer → Peers → Option TableFault
 route_fault name p t = if has_name name t.routes then Some Taken else if has_number p t.known then None else Some NoPeer
 
--- each route leads to a peer that is there
+-- each route names a peer that is in the table
 abbrev pub lead_on : Peers → Bool
 lead_on t = list_all (λ r. has_number r.peer t.known) t.routes
 
--- what holds of each table
+-- invariant of each table
 pub record IsSound (t : Peers) : Type 0 where
   pub apart : are_apart t.known ≡ true
   pub on : lead_on t ≡ true

@@ -14,7 +14,7 @@ words ls = values_named Words (codes "Privacy") ls
 abbrev pub has_word : List ℕ → List Line → Bool
 has_word w ls = list_any (λ v. str_eq_ignore_ascii_case v w) (words ls)
 
--- which of the known words are there
+-- which of the known words are present
 abbrev pub wants : List Line → PrivacySet
 wants ls = record {
   header = has_word (codes "header") ls;
@@ -26,10 +26,10 @@ wants ls = record {
   history = has_word (codes "history") ls;
 }
 
--- the words but none, and id last where it is absent
+-- the words other than none, with id last where it is absent
 abbrev pub restricted_words : List Line → List (List ℕ)
 restricted_words ls = filter (λ v. not (str_eq_ignore_ascii_case v (codes "none"))) (words ls) ++ (if has_word (codes "id") ls then [] else codes "id" ∷ [])
 
--- what Privacy says of a restricted call towards a trusted peer
+-- the value of Privacy of a restricted call towards a trusted peer
 abbrev pub restricted_text : List Line → List ℕ
 restricted_text ls = joined_by (codes ";") (restricted_words ls)

@@ -1,4 +1,4 @@
--- A URI where it is of a scheme.
+-- A URI, where it has a given scheme.
 use Rattle.std.specs.Prelude.{Option, Some, None, if◌then◌else◌}
 use Rattle.mmtel_lex.specs.declared.values.Uri.{Uri}
 use Rattle.mmtel_trust.specs.Asserted.{is_of_scheme}

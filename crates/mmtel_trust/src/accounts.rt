@@ -73,7 +73,7 @@ impl Key<AccountIdentity> for Account {
 }
 
 impl Accounts {
-    /// The table of no accounts. It takes no memory.
+    /// The empty table of accounts. It allocates nothing.
     pub fn new() -> Accounts
         ensures empty { result ≡ [] }
     {
@@ -84,7 +84,7 @@ impl Accounts {
         }
     }
 
-    /// The first identity that is equal to the URI.
+    /// The first identity in the table that is equal to the URI.
     fn named(&self, u: &Uri) -> Option<&AccountIdentity>
         ensures { option_copied result ≡ find (is_of u.now) self.now }
     {
@@ -101,14 +101,14 @@ impl Accounts {
     ///
     /// # Errors
     ///
-    /// `Taken` where an identity equal to it is in the table; else want of memory alone. The table is then as before.
+    /// `Taken` where an identity equal to it is in the table; otherwise out of memory only. The table is then as before.
     pub fn add(&mut self, alloc: Global, a: Account, u: Uri) -> Result<(), TableFault>
         ensures ok { OnOk result (self.new ≡ with_identity a u self.old) }
         ensures err { OnErr result (self.new ≡ self.old) }
         ensures cause { Meets result (identity_fault u self.old) }
-        // The identity names the account from now on.
+        // From now on the identity names the account.
         ensures found { OnOk result (account_of self.new u ≡ Some a) }
-        // An identity that named an account names it still.
+        // An identity that named an account still names it.
         ensures first { OnOk result ((v : Uri) → IfSome (account_of self.old v) (λ b. account_of self.new v ≡ Some b)) }
     {
         if self.has_identity(&u) {
@@ -122,14 +122,14 @@ impl Accounts {
         Ok(())
     }
 
-    /// The identities with their accounts, in the order in which they were added. It takes no memory.
+    /// The identities with their accounts, in the order in which they were added. It allocates nothing.
     pub fn identities(&self) -> &[AccountIdentity]
         ensures all { result.now ≡ self.now }
     {
         self.identities.items()
     }
 
-    /// The account of an identity: the first added account that has one equal to it. None where there is none.
+    /// The account of an identity: the account added first that has an identity equal to it. None where there is none.
     pub fn find(&self, u: &Uri) -> Option<Account>
         ensures exact { result ≡ account_of self.now u.now }
     {

@@ -1,10 +1,10 @@
-//! Why a table did not take an entry.
+//! Why a table refused an entry.
 ghost use Rattle.std.specs.Prelude.{◌≡◌};
 ghost use Rattle.mmtel_trust.specs.declared.faults.TableFault.TheVariants as fault;
 
 use mmtel_scan::NoMemory;
 
-/// Why a table of peers or of accounts did not take an entry. The table is then as before.
+/// Why a table of peers or of accounts refused an entry. The table is then as before.
 #[derive(Clone, Copy, Debug, PartialEq, Eq)]
 pub enum TableFault {
     /// The number, address, name or identity is in the table already.

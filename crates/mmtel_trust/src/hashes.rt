@@ -1,4 +1,4 @@
-//! Hashes of names, numbers, addresses and identities. None takes memory.
+//! Hashes of names, numbers, addresses and identities. None of these functions allocates.
 ghost use Rattle.std.specs.Prelude.{◌≡◌};
 ghost use Rattle.std.specs.Str.{str_to_ascii_lowercase};
 ghost use Rattle.mmtel_lex.specs.Identity.{is_mark, reduced};
@@ -14,7 +14,7 @@ pub fn is_mark_byte(byte: u8) -> bool
     byte == b'-' || byte == b'.' || byte == b'(' || byte == b')'
 }
 
-/// The hash with one number more.
+/// The hash with one more number mixed in.
 #[tactic(auto, unfolding(crate::specs::Hashes::stirred))]
 pub fn stirred(hash: u64, number: u64) -> u64
     ensures { result ≡ stirred hash number }
@@ -32,7 +32,7 @@ fn hashed(hash: u64, bytes: &[u8]) -> u64
     so_far
 }
 
-/// With the bytes of a text in lower case.
+/// The hash with the bytes of a text mixed in, in lower case.
 fn hashed_lower(hash: u64, bytes: &[u8]) -> u64
     ensures { result ≡ hashed hash (str_to_ascii_lowercase bytes.now) }
 {
@@ -43,7 +43,7 @@ fn hashed_lower(hash: u64, bytes: &[u8]) -> u64
     so_far
 }
 
-/// With the bytes of a number without its visual separators.
+/// The hash with the bytes of a telephone number mixed in, without its visual separators.
 fn hashed_number(hash: u64, number: &[u8]) -> u64
     ensures { result ≡ hashed hash (reduced number.now) }
 {
@@ -93,7 +93,7 @@ fn sip_hash(user: &Option<Text>, host: &[u8]) -> u64
     }
 }
 
-/// The hash of a URI: URIs of one identity have one.
+/// The hash of a URI: URIs of the same identity have the same hash.
 pub fn uri_hash(u: &Uri) -> u64
     ensures { result ≡ uri_hash u.now }
 {

@@ -1,4 +1,4 @@
-//! Who a message says that its sender is (RFC 3325).
+//! The identities that a message asserts of its sender (RFC 3325).
 ghost use Rattle.std.specs.Prelude.{◌≡◌, IfOk};
 ghost use Rattle.mmtel_lex.specs.Reading.{uri_of};
 ghost use Rattle.mmtel_lex.specs.UriRefs.{uri_seen};
@@ -20,7 +20,7 @@ pub enum Scheme {
     Tel,
 }
 
-/// Who somebody is: one sip URI and one tel URI at most (RFC 3325 §9.1).
+/// The identity of a party: one sip URI and one tel URI at most (RFC 3325 §9.1).
 #[derive(Drop)]
 pub struct Identities {
     /// The sip URI.
@@ -44,7 +44,7 @@ fn is_of_scheme(scheme: Scheme, uri: &UriRef<'_>) -> bool
     }
 }
 
-/// The URI that the bytes spell, where it is of the scheme.
+/// The URI as which the bytes parse, where it has this scheme.
 fn uri_of_scheme(alloc: Global, scheme: Scheme, bytes: &[u8]) -> Result<Option<Uri>, NoMemory>
     ensures { IfOk result (λ u. u ≡ of_scheme scheme (or_no_uri (uri_of bytes.now))) }
 {
@@ -59,7 +59,7 @@ fn uri_of_scheme(alloc: Global, scheme: Scheme, bytes: &[u8]) -> Result<Option<U
     }
 }
 
-/// The URI of a name-addr, where it is of the scheme.
+/// The URI of a name-addr, where it has this scheme.
 fn first_of_value(alloc: Global, scheme: Scheme, value: &[u8]) -> Result<Option<Uri>, NoMemory>
     ensures { IfOk result (λ u. u ≡ of_scheme scheme (uri_in value.now)) }
 {
@@ -85,7 +85,7 @@ fn first_of_line(alloc: Global, scheme: Scheme, values: &[u8]) -> Result<Option<
     Ok(None)
 }
 
-/// The first URI of the scheme among the asserted ones.
+/// The first URI of the scheme among the asserted identities.
 fn first_uri(alloc: Global, scheme: Scheme, m: &Msg) -> Result<Option<Uri>, NoMemory>
     ensures { IfOk result (λ u. u ≡ first_uri scheme (asserted_values m.now.lines)) }
 {
@@ -98,12 +98,12 @@ fn first_uri(alloc: Global, scheme: Scheme, m: &Msg) -> Result<Option<Uri>, NoMe
     Ok(None)
 }
 
-/// The identities that a message asserts of its sender: from a trusted peer the first sip and the first tel URI among the P-Asserted-Identity values; else none, since
-/// nobody else is believed (RFC 3325 §5).
+/// The identities that a message asserts of its sender: from a trusted peer the first sip and the first tel URI among the P-Asserted-Identity values; from any other peer none,
+/// since it is not believed (RFC 3325 §5).
 ///
 /// # Errors
 ///
-/// Want of memory alone.
+/// Out of memory only.
 pub fn asserted(alloc: Global, m: &Msg, trusted: bool) -> Result<Identities, NoMemory>
     ensures exact { IfOk result (λ i. i ≡ asserted trusted m.now.lines) }
 {

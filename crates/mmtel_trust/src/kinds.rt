@@ -1,10 +1,10 @@
-//! The header table: header names by what becomes of their lines where a message is relayed.
+//! The header table: names of header fields, by what is done with these fields where a message is relayed.
 ghost use Rattle.std.specs.Prelude.{◌≡◌};
 ghost use Rattle.mmtel_trust.specs.Kinds.{group_rows, kind_in, personal_names, session_names, trusted_names, content_names, further_names, is_among, kind_of};
 
 use crate::texts::is;
 
-/// What becomes of a line where its message is relayed.
+/// What is done with a header field where its message is relayed.
 #[derive(Clone, Copy, Debug, PartialEq, Eq)]
 pub enum HeaderKind {
     /// From: the server writes its own.
@@ -25,9 +25,9 @@ pub enum HeaderKind {
     Options,
     /// Session-Expires and Min-SE (RFC 4028 §4, §5): passed where session timers are served.
     Session,
-    /// Passed to everybody.
+    /// Passed to every peer.
     Passed,
-    /// Tells who somebody is: passed where that one is not restricted.
+    /// Identifies a party: passed where that party is not restricted.
     Personal,
     /// Of the trust domain: passed from a trusted peer to a trusted peer.
     Trusted,
@@ -87,7 +87,7 @@ fn is_further(name: &[u8]) -> bool
         || is(name, b"Unsupported")
 }
 
-/// The kind of a name that several names have.
+/// The kind of a name, for the kinds that several names have.
 fn grouped(name: &[u8]) -> HeaderKind
     ensures { result ≡ kind_in group_rows name.now }
 {
@@ -112,7 +112,7 @@ fn grouped(name: &[u8]) -> HeaderKind
     HeaderKind::Other
 }
 
-/// What becomes of the lines of this name, which is compared without case.
+/// What is done with header fields of this name, which is compared without case.
 #[tactic(auto, unfolding(crate::specs::Kinds::kind_of))]
 pub fn kind_of(name: &[u8]) -> HeaderKind
     ensures table { result ≡ kind_of name.now }

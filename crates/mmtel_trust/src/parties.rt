@@ -1,4 +1,4 @@
-//! What a table of peers holds.
+//! The entries of a table of peers.
 
 use mmtel_scan::Text;
 use mmtel_types::{Addr, Peer};
@@ -8,17 +8,17 @@ use mmtel_types::{Addr, Peer};
 pub struct KnownPeer {
     /// Its number.
     pub peer: Peer,
-    /// Where it is reached, and where its datagrams come from.
+    /// The address to which messages for it are sent, and from which its datagrams come.
     pub addr: Addr,
-    /// Whether it is of the trust domain (RFC 3324 §2.3).
+    /// Whether it is in the trust domain (RFC 3324 §2.3).
     pub trusted: bool,
 }
 
-/// A route of the configuration: which peer leads to a host or to numbers.
+/// A route of the configuration: the peer that is the next hop for a host or for numbers.
 #[derive(Debug, Drop)]
 pub struct Route {
-    /// A host; `+` and the first digits of numbers; or `*` for all that no other route names.
+    /// A host; `+` and the first digits of numbers; or `*` for everything that no other route matches.
     pub name: Text,
-    /// The peer that leads there.
+    /// The peer that is the next hop.
     pub peer: Peer,
 }

@@ -22,7 +22,7 @@ use mmtel_types::{Addr, Peer};
 use std::alloc::Global;
 use std::marker::Model;
 
-/// The peers that the server speaks with, and the routes to them.
+/// The peers with which the server exchanges messages, and the routes to them.
 #[derive(Drop)]
 pub struct PeerTable {
     peers: List<KnownPeer>,
@@ -30,7 +30,7 @@ pub struct PeerTable {
     by_number: Places,
     by_addr: Places,
     by_name: Places,
-    /// No name of a route is longer, in bytes.
+    /// An upper bound on the length of a route's name, in bytes.
     bound: usize,
 }
 
@@ -59,7 +59,7 @@ impl Key<KnownPeer> for Peer {
     }
 }
 
-/// The number of a peer that has to be of the trust domain.
+/// The number of a peer that must be in the trust domain.
 #[derive(Drop)]
 struct Trusted(Peer);
 
@@ -133,7 +133,7 @@ impl<'a> Key<Route> for NumberFront<'a> {
     }
 }
 
-/// Whether the number begins with the prefix once its visual separators are taken out.
+/// Whether the number begins with the prefix once its visual separators are removed.
 fn begins_with(number: &[u8], prefix: &[u8]) -> bool
     ensures { result ≡ begins_with (reduced number.now) prefix.now }
 {
@@ -265,7 +265,7 @@ fn own_route<'a>(
     }
 }
 
-/// The peer to which the URI leads.
+/// The peer to which the URI is routed.
 fn route_of(routes: &[Route], by_name: &Places, bound: usize, uri: &Uri) -> Option<Peer>
     requires index { IsIndex (λ r. hash_of_name r.name) routes.now by_name.now }
     requires within { are_within bound routes.now ≡ true }
@@ -281,7 +281,7 @@ fn route_of(routes: &[Route], by_name: &Places, bound: usize, uri: &Uri) -> Opti
 }
 
 impl PeerTable {
-    /// The table of no peers and no routes. It takes no memory.
+    /// The table without peers and routes. It allocates nothing.
     pub fn new() -> PeerTable
         ensures empty { result ≡ record { known = []; routes = [] } }
     {
@@ -313,11 +313,11 @@ impl PeerTable {
         is_there(&self.by_name, self.routes.items(), &RouteName { name })
     }
 
-    /// Adds a peer: its number, its address, and whether it is of the trust domain (RFC 3324 §2.3).
+    /// Adds a peer: its number, its address, and whether it is in the trust domain (RFC 3324 §2.3).
     ///
     /// # Errors
     ///
-    /// `Taken` where a peer of this number, or one at this address, is in the table; else want of memory alone. The table is then as before.
+    /// `Taken` where a peer of this number, or one at this address, is in the table; otherwise out of memory only. The table is then as before.
     pub fn add_peer(
         &mut self,
         alloc: Global,
@@ -346,14 +346,14 @@ impl PeerTable {
         Ok(())
     }
 
-    /// Adds a route: the name of a host, `+` and digits with which numbers begin, or `*`; and the peer that leads there.
+    /// Adds a route: the name of a host, `+` and digits with which numbers begin, or `*`; and the peer that is its next hop.
     ///
     /// # Errors
     ///
     /// 1. `Taken` where a route of this name, compared without case, is in the table.
     /// 2. `NoPeer` where the peer is not in the table.
     ///
-    /// Else want of memory alone. The table is then as before.
+    /// Otherwise out of memory only. The table is then as before.
     pub fn add_route(&mut self, alloc: Global, name: Text, p: Peer) -> Result<(), TableFault>
         ensures ok { OnOk result (self.new ≡ with_route name p self.old) }
         ensures err { OnErr result (self.new ≡ self.old) }
@@ -384,26 +384,26 @@ impl PeerTable {
     /// The address of the peer; None where the peer is not in the table.
     pub fn addr(&self, p: Peer) -> Option<Addr>
         ensures exact { result ≡ addr_of p self.now.known }
-        // What comes from this address is the peer's.
+        // A datagram from this address comes from this peer.
         ensures theirs { IfSome result (λ a. peer_at a self.now.known ≡ Some p) }
     {
         addr_of(self.peers.items(), &self.by_number, p)
     }
 
-    /// Whether the peer is of the trust domain (RFC 3324 §2.3); false where it is not in the table.
+    /// Whether the peer is in the trust domain (RFC 3324 §2.3); false where it is not in the table.
     pub fn trusted(&self, p: Peer) -> bool
         ensures exact { result ≡ is_trusted p self.now.known }
     {
         is_there(&self.by_number, self.peers.items(), &Trusted(p))
     }
 
-    /// The peer that leads to a URI; None where none does.
+    /// The peer to which a URI is routed; None where no route matches it.
     ///
-    /// It is that of the route whose name is the host, compared without case; for a tel URI that of the longest `+` and digits with which its number begins once `-`, `.`,
-    /// `(` and `)` are taken out. Where there is no such route it is that of `*`.
+    /// It is that of the route whose name is the host, compared without case; for a tel URI that of the route with the longest name of `+` and digits with which its number
+    /// begins once `-`, `.`, `(` and `)` are removed. Where there is no such route it is that of `*`.
     pub fn route(&self, u: &Uri) -> Option<Peer>
         ensures exact { result ≡ route_of u.now self.now.routes }
-        // It leads to a peer of the table.
+        // The URI is routed to a peer of the table.
         ensures known { IfSome result (λ p. has_number p self.now.known ≡ true) }
     {
         route_of(self.routes.items(), &self.by_name, self.bound, u)

@@ -1,4 +1,4 @@
-//! Where the items of a list stand, by hashes of what they are looked up by.
+//! An index of a list: the positions of its items, by hashes of the keys by which they are looked up.
 ghost use Rattle.std.specs.Prelude.{◌≡◌, [], ℕ, Bool, OnOk, OnErr, find};
 ghost use Rattle.std.specs.BTreeSet.{keys};
 ghost use Rattle.std.specs.List.{list_any};
@@ -10,12 +10,13 @@ use std::alloc::Global;
 use std::collections::BTreeSet;
 use std::marker::Model;
 
-/// A hash, and a place in a list.
+/// A hash, and a position in a list.
 type Place = (u64, usize);
 
-/// The places of the items of a list that only grows, by their hashes.
+/// The positions of the items of a list that only grows, by their hashes.
 ///
-/// Each item's place is kept under its hash. A place may be kept without its item, as when memory runs out before that is added; so whoever looks asks each item.
+/// Each item's position is kept under its hash. A position may be kept without its item, as when memory runs out before the item is added; so a look-up compares each item that
+/// it finds with the key.
 #[derive(Drop)]
 pub struct Places {
     kept: Option<BTreeSet<Place, Global>>,
@@ -31,7 +32,7 @@ impl Model for Places {
     ghost view = { λ places. option_map_or (λ set. keys set) places.kept [] };
 }
 
-/// What items of a list are looked up by.
+/// A key by which items of a list are looked up.
 pub trait Key<T> {
     ghost is_key_of: { Self → T → Bool };
 
@@ -41,12 +42,12 @@ pub trait Key<T> {
     fn is_key_of(&self, item: &T) -> bool
         ensures { result ≡ is_key_of self.now item.now };
 
-    /// The hash under which its items stand.
+    /// The hash under which its items are kept.
     fn hash(&self) -> u64
         ensures { result ≡ hash self.now };
 }
 
-/// The first item of the key.
+/// The first item with the key.
 pub fn first<'a, T, K: Key<T>>(places: &Places, items: &'a [T], key: &K) -> Option<&'a T>
     requires { Covers (K.is_key_of key.now) (K.hash key.now) items.now places.now }
     ensures { option_copied result ≡ find (K.is_key_of key.now) items.now }
@@ -67,7 +68,7 @@ pub fn first<'a, T, K: Key<T>>(places: &Places, items: &'a [T], key: &K) -> Opti
     None
 }
 
-/// Whether there is an item of the key.
+/// Whether there is an item with the key.
 pub fn is_there<T, K: Key<T>>(places: &Places, items: &[T], key: &K) -> bool
     requires { Covers (K.is_key_of key.now) (K.hash key.now) items.now places.now }
     ensures { result ≡ list_any (K.is_key_of key.now) items.now }
@@ -76,18 +77,18 @@ pub fn is_there<T, K: Key<T>>(places: &Places, items: &[T], key: &K) -> bool
 }
 
 impl Places {
-    /// No places. It takes no memory.
+    /// The empty index. It allocates nothing.
     pub fn new() -> Places
         ensures { result ≡ [] }
     {
         Places { kept: None }
     }
 
-    /// Keeps a place under a hash.
+    /// Keeps a position under a hash.
     ///
     /// # Errors
     ///
-    /// Want of memory alone; the places are then as before.
+    /// Out of memory only; the positions are then as before.
     pub fn add(&mut self, alloc: Global, hash: u64, place: usize) -> Result<(), NoMemory>
         ensures ok { OnOk result (IsMore hash place self.old self.new) }
         ensures err { OnErr result (self.new ≡ self.old) }
@@ -106,7 +107,7 @@ impl Places {
         }
     }
 
-    /// The first place that is kept under the hash, from this one on.
+    /// The first position that is kept under the hash, at or after this one.
     fn next(&self, hash: u64, from: usize) -> Option<usize>
         ensures { IsNext self.now hash from result }
     {
@@ -117,7 +118,7 @@ impl Places {
     }
 }
 
-/// The first place of the set under the hash, from this one on.
+/// The first position of the set under the hash, at or after this one.
 fn next_of(kept: &BTreeSet<Place, Global>, hash: u64, from: usize) -> Option<usize>
     ensures { IsNext (keys kept.now) hash from result }
 {

@@ -14,7 +14,7 @@ use mmtel_scan::{Class, trim};
 use mmtel_types::PrivacySet;
 use std::alloc::Global;
 
-/// Which words are found before any is looked at.
+/// Which words are found before any was examined.
 fn nothing_found() -> PrivacySet
     ensures { result ≡ wants [] }
 {
@@ -29,7 +29,7 @@ fn nothing_found() -> PrivacySet
     }
 }
 
-/// The words found before, and what this one is.
+/// The words found before, and this word.
 fn with_word(found: PrivacySet, word: &[u8]) -> PrivacySet
     ensures { result ≡ with_word found word.now }
 {
@@ -58,7 +58,7 @@ fn with_value(found: PrivacySet, value: &[u8]) -> PrivacySet
     found
 }
 
-/// Which of the known words the Privacy lines of a message have (RFC 3323 §4.2), compared without case. It takes no memory.
+/// Which of the known words the Privacy lines of a message have (RFC 3323 §4.2), compared without case. It allocates nothing.
 pub fn wants(m: &Msg) -> PrivacySet
     ensures words { result ≡ wants m.now.lines }
 {
@@ -109,7 +109,7 @@ fn add_id(alloc: Global, out: &mut Text, m: &Msg) -> Result<(), NoMemory>
     out.push(alloc, b";id")
 }
 
-/// The words that are left, and `id`, each behind its `;`.
+/// The remaining words and `id`, each after a `;`.
 #[tactic(auto, using(crate::proofs::WordLaws::behind_text))]
 fn separated(alloc: Global, m: &Msg) -> Result<Text, NoMemory>
     ensures { IfOk result (λ t. drop 1 t ≡ restricted_text m.now.lines) }
@@ -129,7 +129,7 @@ fn without_first(alloc: Global, bytes: &[u8]) -> Result<Text, NoMemory>
     }
 }
 
-/// What Privacy says of a restricted call towards a trusted peer: the words without `none`, and with `id`.
+/// The value of Privacy of a restricted call towards a trusted peer: the words without `none`, and with `id`.
 pub fn restricted_text(alloc: Global, m: &Msg) -> Result<Text, NoMemory>
     ensures { IfOk result (λ t. t ≡ restricted_text m.now.lines) }
 {

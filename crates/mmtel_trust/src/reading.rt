@@ -1,4 +1,4 @@
-//! Values that are read, or are none.
+//! Readers of values, which return None where there is none.
 ghost use Rattle.std.specs.Prelude.{◌≡◌, IfOk};
 ghost use Rattle.std.specs.Option.{option_copied};
 ghost use Rattle.mmtel_lex.specs.Reading.{uri_of};
@@ -11,11 +11,11 @@ use mmtel_lex::{
 };
 use std::alloc::Global;
 
-/// The sip or tel URI that the bytes spell (RFC 3261 §19.1, RFC 3966); None where they spell none.
+/// The sip or tel URI as which the bytes parse (RFC 3261 §19.1, RFC 3966); None where they do not parse.
 ///
 /// # Errors
 ///
-/// Want of memory alone.
+/// Out of memory only.
 pub fn uri_of(alloc: Global, bytes: &[u8]) -> Result<Option<Uri>, NoMemory>
     ensures exact { IfOk result (λ u. u ≡ or_no_uri (uri_of bytes.now)) }
 {
@@ -31,7 +31,7 @@ pub fn uri_of(alloc: Global, bytes: &[u8]) -> Result<Option<Uri>, NoMemory>
 ///
 /// # Errors
 ///
-/// Want of memory alone.
+/// Out of memory only.
 pub fn uri_in(alloc: Global, value: &[u8]) -> Result<Option<Uri>, NoMemory>
     ensures exact { IfOk result (λ u. u ≡ uri_in value.now) }
 {
@@ -45,7 +45,7 @@ pub fn uri_in(alloc: Global, value: &[u8]) -> Result<Option<Uri>, NoMemory>
 ///
 /// # Errors
 ///
-/// Want of memory alone.
+/// Out of memory only.
 pub fn name_addr_in(alloc: Global, value: Option<&[u8]>) -> Result<Option<NameAddr>, NoMemory>
     ensures exact { IfOk result (λ n. n ≡ read_by (option_copied value.entry)) }
 {
@@ -59,11 +59,11 @@ pub fn name_addr_in(alloc: Global, value: Option<&[u8]>) -> Result<Option<NameAd
     }
 }
 
-/// The text of the display and the URI of a name-addr, without the parameters behind them.
+/// The text of the display name and the URI of a name-addr, without the parameters after them.
 ///
 /// # Errors
 ///
-/// Want of memory alone.
+/// Out of memory only.
 pub fn display_and_uri(alloc: Global, name: NameAddr) -> Result<Text, NoMemory>
     ensures exact { IfOk result (λ t. t ≡ display_and_uri name) }
 {

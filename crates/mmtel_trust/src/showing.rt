@@ -16,16 +16,16 @@ use mmtel_lex::{List, NameAddr, NoMemory, Text, print_name_addr};
 use mmtel_message::{Line, Lines, Msg, Start, add_bytes, add_line, add_named, first_of};
 use std::alloc::Global;
 
-/// From whom a message came, and what of its sender may be shown.
+/// From which peer a message came, and what of its sender may be shown.
 #[derive(Clone, Copy, Debug, PartialEq, Eq)]
 pub struct Facing {
-    /// The peer from which it was heard is trusted.
+    /// The peer from which it was received is trusted.
     pub from_trusted: bool,
     /// The sender's side of the call is restricted.
     pub restricted: bool,
     /// The identity of the sender is presented to the other side (TS 24.607, TS 24.608).
     pub present: bool,
-    /// Untrusted peers are shown no entry of the call's History-Info as it is: the Privacy of the INVITE that opened the call has `history` (RFC 7044 §10.1).
+    /// Untrusted peers are shown no entry of the call's History-Info unmasked: the Privacy of the INVITE that opened the call has `history` (RFC 7044 §10.1).
     pub mask_all: bool,
     /// The option `100rel` is passed (RFC 3262 §3).
     pub reliable: bool,
@@ -174,12 +174,12 @@ fn add_history(
     add_entries(alloc, out, masked.entries())
 }
 
-/// The lines of a call's History-Info: towards a trusted peer as the list is; towards any other masked, the hidden entries, or all where the Privacy of the INVITE that
-/// opened the call has `history`. These are the lines that a 181 of the server's own passes (RFC 7044 §5 and §10.1).
+/// The lines of a call's History-Info: towards a trusted peer the list as it is; towards any other peer masked, either the hidden entries, or all where the Privacy of the INVITE
+/// that opened the call has `history`. A 181 of the server's own has these lines (RFC 7044 §5 and §10.1).
 ///
 /// # Errors
 ///
-/// Want of memory alone.
+/// Out of memory only.
 pub fn history_lines(
     alloc: Global,
     h: &History,
@@ -187,7 +187,7 @@ pub fn history_lines(
     to_trusted: bool,
 ) -> Result<List<Line>, NoMemory>
     ensures lines { IfOk result (λ ls. ls ≡ history_lines mask_all to_trusted h.now) }
-    // An untrusted peer sees nothing of the list that masking takes away.
+    // An untrusted peer sees nothing of the list that masking removes.
     ensures masked { (other : List Entry) → to_trusted ≡ false → masked_list mask_all other ≡ masked_list mask_all h.now →
         IfOk result (λ ls. ls ≡ history_lines mask_all false other) }
 {
@@ -206,7 +206,7 @@ fn has_history_row(start: &Start) -> bool
     }
 }
 
-/// Adds the call's History-Info, where it belongs into a message with this start line.
+/// Adds the call's History-Info, where a message with this start line carries it.
 fn add_row(
     alloc: Global,
     out: &mut List<Line>,
@@ -241,12 +241,12 @@ fn shown_of(
     Ok(out)
 }
 
-/// The lines of a message that are passed on to a peer, which is trusted or not: the asserted identities, Privacy, in an INVITE or a 181 the call's History-Info, and then
-/// the others in received order, as the header table says.
+/// The lines of a message that are passed on to a peer, which is trusted or not: the asserted identities, Privacy, in an INVITE or a 181 the call's History-Info, and then the
+/// others in the order received, by the header table.
 ///
 /// # Errors
 ///
-/// Want of memory alone.
+/// Out of memory only.
 pub fn shown(
     alloc: Global,
     m: &Msg,
@@ -255,9 +255,9 @@ pub fn shown(
     to_trusted: bool,
 ) -> Result<List<Line>, NoMemory>
     ensures lines { IfOk result (λ ls. ls ≡ shown_lines f.now to_trusted h.now m.now.start m.now.lines) }
-    // Of History-Info it has the call's list alone, whatever the message says of it: in an INVITE or a 181 its lines, and in any other message none.
+    // The only History-Info passed is the call's list, whatever the message has there: in an INVITE or a 181 its lines, and in any other message none.
     ensures history { IfOk result (λ ls. named (codes "History-Info") ls ≡ history_row f.now to_trusted h.now m.now.start) }
-    // An untrusted peer sees nothing of the list that masking takes away.
+    // An untrusted peer sees nothing of the list that masking removes.
     ensures masked { (other : List Entry) → to_trusted ≡ false → masked_list f.now.mask_all other ≡ masked_list f.now.mask_all h.now →
         IfOk result (λ ls. ls ≡ shown_lines f.now false other m.now.start m.now.lines) }
     // An empty list adds no line.
@@ -266,7 +266,7 @@ pub fn shown(
     shown_of(alloc, m, h, *f, to_trusted)
 }
 
-/// Nobody, by display and URI (RFC 3323 §4.1.1.3).
+/// The anonymous party: display name and URI (RFC 3323 §4.1.1.3).
 fn nobody(alloc: Global) -> Result<NameAddr, NoMemory>
     ensures { IfOk result (λ n. n ≡ nobody) }
 {
@@ -279,7 +279,7 @@ fn nobody(alloc: Global) -> Result<NameAddr, NoMemory>
     })
 }
 
-/// The text of a display and a URI, or of nobody.
+/// The text of a display name and a URI, or of the anonymous party.
 fn named_text(alloc: Global, name: Option<NameAddr>) -> Result<Text, NoMemory>
     ensures { IfOk result (λ t. t ≡ named_text name) }
 {
@@ -302,12 +302,12 @@ fn from_name(
     )
 }
 
-/// From of an attempt that is made of a message: `"Anonymous" <sip:anonymous@anonymous.invalid>` where the call is restricted, else the display and the URI as received;
-/// and `;tag=` with the tag (RFC 3261 §19.3, RFC 3323 §4.1.1.3).
+/// From of an attempt that is made of a message: `"Anonymous" <sip:anonymous@anonymous.invalid>` where the call is restricted, else the display name and the URI as received; and
+/// `;tag=` with the tag (RFC 3261 §19.3, RFC 3323 §4.1.1.3).
 ///
 /// # Errors
 ///
-/// Want of memory alone.
+/// Out of memory only.
 pub fn attempt_from(alloc: Global, m: &Msg, restricted: bool, tag: &[u8]) -> Result<Text, NoMemory>
     ensures text { IfOk result (λ t. t ≡ attempt_from restricted tag.now m.now.lines) }
 {

@@ -1,4 +1,4 @@
-//! Laws of the header table with the lines of History-Info: each is the contract of a function that does nothing.
+//! Theorems about the header table and the lines of History-Info: each is the contract of a function that does nothing.
 ghost use Rattle.std.specs.Prelude.{◌≡◌, true, false, List, [], ℕ, Bool, codes};
 ghost use Rattle.mmtel_history.specs.HistoryInfo.{masked_list};
 ghost use Rattle.mmtel_history.specs.declared.entries.Entry.{Entry};
@@ -9,8 +9,8 @@ ghost use Rattle.mmtel_trust.specs.Mask.{Places, masked};
 ghost use Rattle.mmtel_trust.specs.Passed.{passed, history_lines, history_row, shown_lines};
 ghost use Rattle.mmtel_trust.specs.declared.showing.Facing.{Facing};
 
-/// Of the lines that the server writes of its own (Via, Route, Record-Route, Max-Forwards, From, To, Call-ID, CSeq, Contact and Content-Length) the header table passes
-/// none, whatever the message has; nor does it pass what the message says in History-Info.
+/// Of the header fields that the server writes itself (Via, Route, Record-Route, Max-Forwards, From, To, Call-ID, CSeq, Contact and Content-Length) the header table passes none,
+/// whatever the message has; nor does it pass the message's own History-Info.
 pub fn own_lines_are_not_passed()
     ensures passes_none { (f : Facing) (to_trusted : Bool) (name : List ℕ) (history ls : List Line) → is_own name ≡ true → named name history ≡ [] →
         named name (passed f to_trusted history ls) ≡ [] }
@@ -21,8 +21,7 @@ pub fn own_lines_are_not_passed()
         named (codes "History-Info") (shown_lines f to_trusted h start ls) ≡ history_row f to_trusted h start }
 {}
 
-/// What an untrusted peer is shown of lists that are masked alike is the same, and so is what it is shown of restricted messages that are equal without their private
-/// places, with such lists.
+/// Lists that are equal when masked show the same to an untrusted peer, and so do restricted messages that are equal without their private places and have such lists.
 pub fn masked_histories_show_alike()
     ensures entries { (mask_all : Bool) (h k : List Entry) → masked_list mask_all h ≡ masked_list mask_all k → history_lines mask_all false h ≡ history_lines mask_all false k }
     ensures shown { (f : Facing) (h k : List Entry) (start : Start) (ls : List Line) → masked_list f.mask_all h ≡ masked_list f.mask_all k →

@@ -1,4 +1,4 @@
--- The table of causes read backwards: from a word and a status to the cause.
+-- The table of causes in reverse: from a word and a status to the cause.
 use Rattle.std.specs.Prelude.{◌≡◌, ◌==◌, if◌then◌else◌, ℕ, List, true, false, codes, refl}
 use Rattle.std.specs.Str.{bytes_eq}
 use Rattle.std.proofs.Common.{sym, ◌∙◌, ap}

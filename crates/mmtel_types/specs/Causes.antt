@@ -1,4 +1,4 @@
--- The table of causes: the word that charging rows have for each, and the status of the answer that the refused side gets (RFC 3261 §21; 433 is RFC 5079).
+-- The table of causes: the word that CDRs have for each, and the status of the response that the refused side receives (RFC 3261 §21; 433 is RFC 5079).
 use Rattle.std.specs.Prelude.{◌≡◌, ℕ, List, codes, if◌then◌else◌}
 use Rattle.mmtel_types.specs.declared.causes.Cause.{Cause}
 use Rattle.mmtel_types.specs.declared.causes.Cause.TheVariants.{OutgoingBarred, IncomingBarred, AnonymousRejected, NotRegistered, NetworkBusy, NoReply, TooManyDiversions}
@@ -43,6 +43,6 @@ status_of cause = (row_of cause).status
 abbrev pub word_of : Cause → List ℕ
 word_of cause = (row_of cause).word
 
--- the word and the status together tell which cause it is
+-- the word and the status together determine the cause
 abbrev pub AreToldApart : Type 0
 AreToldApart = (a b : Cause) → word_of a ≡ word_of b → status_of a ≡ status_of b → a ≡ b

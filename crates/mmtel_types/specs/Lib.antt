@@ -1,4 +1,4 @@
--- What the public clauses cite. No private function has a clause.
+-- What the clauses of public functions cite. No private function has a clause.
 pub mod Addrs
 pub mod Causes
 pub mod Moments

@@ -2,7 +2,7 @@
 use Rattle.mmtel_types.specs.declared.sides.Side.{Side}
 use Rattle.mmtel_types.specs.declared.sides.Side.TheVariants.{Caller, Callee}
 
--- the side across
+-- the other side
 abbrev pub other_of : Side → Side
 other_of Caller = Callee
 other_of Callee = Caller

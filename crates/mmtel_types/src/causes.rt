@@ -15,45 +15,45 @@ pub enum Cause {
     AnonymousRejected,
     /// The target is not registered.
     NotRegistered,
-    /// The target's calls are as many as it may have: network determined user busy (TS 24.615).
+    /// The target has as many calls as it may have: network determined user busy (TS 24.615).
     NetworkBusy,
     /// The target did not answer in time.
     NoReply,
-    /// The diversions of the call reached the bound (TS 24.604); whether the last would have been for a busy user.
+    /// The diversions of the call reached the bound (TS 24.604).
     TooManyDiversions {
         /// Whether the diversion that was refused was for a busy user.
         busy: bool,
     },
-    /// The target could not be reached: the status of its answer.
+    /// The target could not be reached: the status of its response.
     Unreachable(u16),
-    /// The target refused: the status of its answer.
+    /// The target refused the call: the status of its response.
     Relayed(u16),
     /// The caller cancelled the call (RFC 3261 §9).
     Cancelled,
-    /// The target is of the home domain, and no account's.
+    /// The target is in the home domain, and belongs to no account.
     NoAccount,
-    /// No peer leads to the target.
+    /// No peer is a next hop to the target.
     NoRoute,
     /// The scheme of the Request-URI is not served (RFC 3261 §8.2.2.1).
     BadScheme,
     /// Max-Forwards is 0 (RFC 3261 §16.3).
     Hops,
-    /// An extension that is not served is required (RFC 3261 §8.2.2.3).
+    /// An extension that is not supported is required (RFC 3261 §8.2.2.3).
     Extension,
-    /// Privacy that is critical cannot be given (RFC 3323 §4.2).
+    /// Privacy was requested as critical and cannot be provided (RFC 3323 §4.2).
     Critical,
-    /// The request came twice by different ways (RFC 3261 §8.2.2.2).
+    /// The request arrived twice by different paths: a merged request (RFC 3261 §8.2.2.2).
     Merged,
-    /// As many calls or transactions are live as may be.
+    /// The limit of live calls or of transactions is reached.
     Full,
     /// The call was answered, and ended.
     Ended,
-    /// No PRACK of a reliable provisional answer came in time (RFC 3262 §3).
+    /// No PRACK for a reliable provisional response was received in time (RFC 3262 §3).
     Unacknowledged,
 }
 
 impl Cause {
-    /// The status of the answer that the refused side gets (RFC 3261 §21, RFC 5079); 0 for `Ended`, which refuses nobody.
+    /// The status of the response that the refused side receives (RFC 3261 §21, RFC 5079); 0 for `Ended`, which refuses nobody.
     pub fn status(&self) -> u16
         ensures table { result ≡ status_of self.now }
     {
@@ -82,7 +82,7 @@ impl Cause {
         }
     }
 
-    /// The word for it in charging rows.
+    /// The word for it in CDRs.
     pub fn word(&self) -> &'static str
         ensures table { result.now ≡ word_of self.now }
     {
@@ -111,7 +111,7 @@ impl Cause {
     }
 }
 
-/// A law, and no code: no two causes have both the same word and the same status, so a charging row that has both tells the cause.
+/// A theorem, without code: no two causes have both the same word and the same status, so a CDR that has both determines the cause.
 pub fn causes_are_told_apart()
     ensures told_apart { AreToldApart }
 {}

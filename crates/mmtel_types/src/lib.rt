@@ -1,4 +1,4 @@
-//! What all crates share and what takes no memory: numbers of peers, accounts, calls, rooms and subscriptions, addresses, the sides of a call, moments, sets of privacy
+//! What all crates share and what needs no allocation: numbers of peers, accounts, calls, conferences and subscriptions, addresses, the sides of a call, moments, sets of privacy
 //! words, the causes of refusals, and the limits of the server.
 #![tactic(auto)]
 

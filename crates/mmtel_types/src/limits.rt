@@ -18,10 +18,10 @@ pub const SERVER_TRANSACTIONS: usize = 16_384;
 /// The calls that are live at once, at most.
 pub const CALLS: usize = 4_096;
 
-/// The conference rooms that are live at once, at most.
+/// The conferences that are live at once, at most.
 pub const ROOMS: usize = 1_024;
 
-/// The seats of a conference room, at most.
+/// The participants of a conference, at most.
 pub const SEATS: usize = 32;
 
 /// The rules of one service in a service record, at most.
@@ -48,13 +48,13 @@ pub const DIVERSIONS_DEFAULT: u16 = 5;
 /// The bound on the diversions of a call, at most.
 pub const DIVERSIONS_MOST: u16 = 16;
 
-/// The seconds after which a call that rings counts as not answered, where the service record sets none.
+/// The seconds of ringing after which a call counts as not answered, where the service record sets none.
 pub const NO_REPLY_SECONDS_DEFAULT: u16 = 20;
 
-/// The seconds after which a call that rings counts as not answered, at least.
+/// The seconds of ringing after which a call counts as not answered, at least.
 pub const NO_REPLY_SECONDS_LEAST: u16 = 5;
 
-/// The seconds after which a call that rings counts as not answered, at most.
+/// The seconds of ringing after which a call counts as not answered, at most.
 pub const NO_REPLY_SECONDS_MOST: u16 = 180;
 
 /// The peers of a configuration, at most.

@@ -7,7 +7,7 @@ use std::marker::Model;
 
 /// A moment: whole milliseconds since 1970-01-01T00:00:00Z, at most `LAST_MOMENT`.
 ///
-/// Contracts see it as its number.
+/// In contracts it is this number.
 #[derive(Clone, Copy, Debug, PartialEq, Eq, PartialOrd, Ord)]
 pub struct Moment {
     ms: u64,
@@ -27,7 +27,7 @@ impl Model for Moment {
 }
 
 impl Moment {
-    /// The moment of this many milliseconds since 1970-01-01T00:00:00Z; None exactly where they are more than `LAST_MOMENT`.
+    /// The moment that many milliseconds after 1970-01-01T00:00:00Z; None exactly where they are more than `LAST_MOMENT`.
     pub fn new(ms: u64) -> Option<Moment>
         ensures bound { IsNone result ↔ last_moment < ms }
         ensures number { IfSome result (λ moment. moment ≡ ms) }

@@ -1,4 +1,4 @@
-//! The numbers by which peers, accounts, calls and rooms are named, and the failure of the outside.
+//! The numbers by which peers, accounts, calls, conferences and subscriptions are named, and the failure of the environment.
 
 /// The number of a peer in the configuration.
 #[derive(Clone, Copy, Debug, PartialEq, Eq, PartialOrd, Ord)]
@@ -12,14 +12,14 @@ pub struct Account(pub u32);
 #[derive(Clone, Copy, Debug, PartialEq, Eq, PartialOrd, Ord)]
 pub struct CallNo(pub u64);
 
-/// The number of a conference room: rooms are numbered from 1 in the order in which they open.
+/// The number of a conference: conferences are numbered from 1 in the order in which they open.
 #[derive(Clone, Copy, Debug, PartialEq, Eq, PartialOrd, Ord)]
 pub struct RoomNo(pub u64);
 
-/// The number of a subscription to the messages that wait in a mailbox: subscriptions are numbered from 1 in the order in which they are made (TS 24.606, RFC 3842).
+/// The number of a subscription to the event `message-summary` of a mailbox: subscriptions are numbered from 1 in the order in which they are made (TS 24.606, RFC 3842).
 #[derive(Clone, Copy, Debug, PartialEq, Eq, PartialOrd, Ord)]
 pub struct SubNo(pub u64);
 
-/// The answer of a file, a link, a keeper, a sink or another thing outside the program that could not do what it was asked.
+/// The fault that a file, a link, a keeper, a sink or another part of the environment returns where it could not do what was requested.
 #[derive(Clone, Copy, Debug, PartialEq, Eq)]
 pub struct Failed;

@@ -2,7 +2,7 @@
 ghost use Rattle.std.specs.Prelude.{◌≡◌};
 ghost use Rattle.mmtel_types.specs.Sides.{other_of};
 
-/// A side of a call that goes through the server: the one that asked for it, or the one that is asked.
+/// A side of a call that goes through the server: the caller's or the callee's.
 #[derive(Clone, Copy, Debug, PartialEq, Eq)]
 pub enum Side {
     /// The side whose INVITE opened the call.
@@ -12,7 +12,7 @@ pub enum Side {
 }
 
 impl Side {
-    /// The side across from this one.
+    /// The other side.
     pub fn other(self) -> Side
         ensures across { result ≡ other_of self }
         ensures back { other_of result ≡ self }

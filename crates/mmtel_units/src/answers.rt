@@ -1,4 +1,4 @@
-//! Meters, charging rows and typed legs, what is made of messages that were heard, what goes out in a step, and mailboxes with who subscribes to them.
+//! Meters, charging rows and typed legs, what is built of received messages, the output of a step, and mailboxes with their subscribers.
 
 mod attempts;
 mod charging;

@@ -1,5 +1,5 @@
-//! Configurations, scripts and the listing: each form of a line once as it has to be, each refusal once with the number of its line, and the limits; and what a link is
-//! given of what a server offers.
+//! Configurations, scripts and the listing: each valid form of a line once, each refusal once with the number of its line, and the limits; and what is passed to a link of a
+//! server's outputs.
 
 mod configurations;
 mod giving;

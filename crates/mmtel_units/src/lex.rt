@@ -1,4 +1,4 @@
-//! Parameters, URIs, their places and escaped bytes, name-addrs and identities.
+//! Parameters, URIs, their spans and escaped bytes, name-addrs and identities.
 
 use crate::asserting::assert_right;
 use mmtel_lex::params::{params_front, text, token};
@@ -39,7 +39,7 @@ fn add_headers(told: &mut Told, headers: &[u8]) {
     }
 }
 
-/// Adds the parts of a URI, those that are absent left out.
+/// Adds the parts of a URI, without those that are absent.
 fn add_uri(told: &mut Told, uri: &Uri) {
     match uri {
         Uri::Sip {
@@ -64,7 +64,7 @@ fn add_uri(told: &mut Told, uri: &Uri) {
     }
 }
 
-/// The parts of a URI, in which `|` stands for LF, and the text that is printed of it; else what is wrong.
+/// The parts of a URI, in which `|` represents LF, and the text that is printed of it; else its fault.
 #[derive(Drop)]
 struct Uris;
 
@@ -195,7 +195,7 @@ another scheme
 another scheme
 ";
 
-/// A byte that no URI has: a quote, with what it may hide, a blank, `<`, `>`, and the bytes beside the visible ones (RFC 3261 §25.1).
+/// A byte that no URI has: a quote, with what it may hide, a space, `<`, `>`, and the bytes next to the visible ones (RFC 3261 §25.1).
 const OTHER_BYTES: &[u8] = b"> sip:h;x=\"y\"
 malformed
 > sip:h;x=\"\"
@@ -264,7 +264,7 @@ fn reads_and_prints_uris(rt: HostRuntime) {
     );
 }
 
-/// Adds the parts of a name-addr, those that are absent left out.
+/// Adds the parts of a name-addr, without those that are absent.
 fn add_name_addr(told: &mut Told, name_addr: &NameAddr) {
     told.add(b"name-addr");
     let display = name_addr.display.bytes();
@@ -276,7 +276,7 @@ fn add_name_addr(told: &mut Told, name_addr: &NameAddr) {
     told.add(b"\n");
 }
 
-/// The parts of a name-addr, and the text that is printed of it; else what is wrong.
+/// The parts of a name-addr, and the text that is printed of it; else its fault.
 #[derive(Drop)]
 struct NameAddrs;
 
@@ -293,7 +293,7 @@ impl Rows for NameAddrs {
     }
 }
 
-/// The examples of RFC 3261 §20.10, §20.20 and §20.39, without blanks before a `;`; then texts that are malformed as a name-addr, the first of no bytes.
+/// The examples of RFC 3261 §20.10, §20.20 and §20.39, without spaces before a `;`; then texts that are malformed as a name-addr, the first of no bytes.
 const NAME_ADDRS: &[u8] =
     br#"> "Mr. Watson" <sip:watson@worcester.bell-telephone.com>;q=0.7;expires=3600
 name-addr display<"Mr. Watson"> uri<sip:watson@worcester.bell-telephone.com> param<q> value<0.7> param<expires> value<3600>
@@ -372,7 +372,7 @@ fn add_written(told: &mut Told, params: &Params) {
     }
 }
 
-/// The parameters of a text, and the text that is written of them; else what is wrong.
+/// The parameters of a text, and the text that is written of them; else their fault.
 #[derive(Drop)]
 struct ParamsRows;
 
@@ -418,11 +418,11 @@ fn reads_params(rt: HostRuntime) {
     );
 }
 
-/// `y` where two URIs, which a blank parts, are of one identity, else `n`, asked both ways; and the domain of the first, or `-`.
+/// `y` where two URIs, which a space separates, are of one identity, else `n`, compared both ways; and the domain of the first, or `-`.
 #[derive(Drop)]
 struct Pairs;
 
-/// The letter where it is so, else `n`.
+/// The letter where the condition is true, else `n`.
 fn letter(is_so: bool) -> u8 {
     if is_so { b'y' } else { b'n' }
 }
@@ -436,7 +436,7 @@ fn add_identity(told: &mut Told, a: &Uri, b: &Uri) {
     told.add_line(domain(a).unwrap_or(b"-"));
 }
 
-/// Adds what is said of a URI and of one that is still to be read.
+/// Adds the result for a URI and for one that is still to be read.
 fn add_pair(told: &mut Told, a: &Uri, second: &[u8]) {
     match read_uri(told.alloc, second) {
         Ok(b) => add_identity(told, a, &b),
@@ -504,11 +504,11 @@ fn compares_identities(rt: HostRuntime) {
     assert_right(&rt, "PAIRS", wrong_line(rt.alloc(), &mut Pairs, PAIRS));
 }
 
-/// What each reader of a front reads of a text, and what it leaves, with the numbers of a port; then the text itself, and as a token of a greatest number.
+/// What each reader of a prefix reads of a text, and the rest, with the numbers of a port; then the text itself, and as a token up to a greatest number.
 #[derive(Drop)]
 struct Fronts;
 
-/// Adds what was read at a front, and what it leaves, or `-`.
+/// Adds what was read as a prefix, and the rest, or `-`.
 fn add_front(told: &mut Told, front: Result<(Text, &[u8]), LexFault>) {
     match front {
         Ok((front, rest)) => {
@@ -551,7 +551,7 @@ impl Rows for Fronts {
     }
 }
 
-/// A token or quoted string, a host, a port and parameters at a front (RFC 3261 §25.1).
+/// A token or quoted string, a host, a port and parameters as a prefix (RFC 3261 §25.1).
 const FRONTS: &[u8] = br#"> branch="a b" c
  front<branch>="a b" c
  front<branch>="a b" c
@@ -612,7 +612,7 @@ fn add_found(told: &mut Told, name: &[u8], found: Option<&[u8]>) {
     told.add_part(name, found.unwrap_or(b"-"));
 }
 
-/// Adds what a text of a URI stands for, or `broken`, and ends the line.
+/// Adds the values in a text of a URI, or `broken`, and ends the line.
 fn add_decoded(told: &mut Told, text: &[u8]) {
     match percent_decoded(told.alloc, text) {
         Ok(Some(decoded)) => told.add_part(b"decoded", decoded.bytes()),
@@ -622,7 +622,7 @@ fn add_decoded(told: &mut Told, text: &[u8]) {
     told.add(b"\n");
 }
 
-/// A name and a URI, which a blank parts: the URI cut behind its `@`; its parameter and its header of the name; and what stands behind the `=` of the header, decoded.
+/// A name and a URI, which a space separates: the URI split after its `@`; its parameter and its header of the name; and what follows the `=` of the header, decoded.
 #[derive(Drop)]
 struct Places;
 
@@ -640,7 +640,7 @@ impl Rows for Places {
     }
 }
 
-/// URIs of RFC 3261 §19.1.3 and §19.1.4, one of RFC 3966 §3 and one of RFC 4458 §3. What stands before the `@` is the user's, and no parameter.
+/// URIs of RFC 3261 §19.1.3 and §19.1.4, one of RFC 3966 §3 and one of RFC 4458 §3. What precedes the `@` is the user's, and no parameter.
 const PLACES: &[u8] = br#"> SUBJECT sips:alice@atlanta.com?subject=project%20x&priority=urgent
  user<sips:alice@> host<atlanta.com?subject=project%20x&priority=urgent> param<-> header<subject=project%20x> decoded<project x>
 > to sip:atlanta.com;method=REGISTER?to=alice%40atlanta.com
@@ -664,7 +664,7 @@ fn finds_places(rt: HostRuntime) {
     assert_right(&rt, "PLACES", wrong_line(rt.alloc(), &mut Places, PLACES));
 }
 
-/// What a text of a URI stands for.
+/// The decoded value of a text of a URI.
 #[derive(Drop)]
 struct Escapes;
 
@@ -706,7 +706,7 @@ fn decodes_escapes(rt: HostRuntime) {
     );
 }
 
-/// A text at its first `;`, and the first of its parts that is named `x`.
+/// A text split at its first `;`, and the first of its parts that is named `x`.
 #[derive(Drop)]
 struct Parts;
 

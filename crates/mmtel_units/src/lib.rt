@@ -1,9 +1,9 @@
-//! Tests of the public calls of the libraries from the lowest up to what goes out in a step: types, deadlines, the grammars of SIP's parts, reliable provisional answers,
-//! targets of calls, session descriptions, messages and what is read and shown of them, configurations and scripts, transactions, legs and what is made of messages that were
-//! heard, mailboxes, and the words of the command line. A module for each crate or for several, a table or a few for each test.
+//! Tests of the public functions of the libraries from the lowest up to the output of a step: types, deadlines, the grammars of SIP's parts, reliable provisional responses,
+//! targets of calls, session descriptions, messages and what is read and copied of them, configurations and scripts, transactions, legs and what is built of received messages,
+//! mailboxes, and the words of the command line. A module for each crate or for several, a table or a few for each test.
 //!
-//! What the contracts say needs no test. Here stand the examples of the standards, whose values come from there, and one call of each function that takes memory, with
-//! memory enough, since a body that always answers want of memory meets its contract too.
+//! What the contracts claim needs no test. These are the examples of the standards, whose values come from there, and one call of each function that allocates, with enough memory,
+//! since a body that always returns out of memory satisfies its contract too.
 #![tactic(auto)]
 
 #[cfg(test)]

@@ -1,4 +1,4 @@
-//! What a PRACK acknowledges, and the reliable answers of a call.
+//! What a PRACK acknowledges, and the reliable responses of a call.
 
 use crate::asserting::assert_right;
 use mmtel_lex::LexFault;
@@ -7,7 +7,7 @@ use mmtel_scan::number_up_to;
 use mmtel_told::{Rows, Told, wrong_line};
 use std::alloc::Global;
 
-/// Tells a value that was read, or `malformed`.
+/// Writes a value that was read, or `malformed`.
 fn tell_rack(told: &mut Told, rack: Result<Rack, LexFault>) {
     match rack {
         Ok(rack) => {
@@ -19,7 +19,7 @@ fn tell_rack(told: &mut Told, rack: Result<Rack, LexFault>) {
     }
 }
 
-/// Tells a number, or `-`.
+/// Writes a number, or `-`.
 fn tell_number(told: &mut Told, number: Option<u32>) {
     match number {
         Some(number) => told.add_number(u64::from(number)),
@@ -32,14 +32,14 @@ fn number(digits: &[u8]) -> u32 {
     u32::try_from(number_up_to(u64::from(u32::MAX), digits).unwrap_or(0)).unwrap_or(0)
 }
 
-/// The answers that the rows so far have left.
+/// The reliable responses after the rows so far.
 #[derive(Drop)]
 struct Answers {
     acks: Acks,
 }
 
 impl Answers {
-    /// Relays so many answers, from the callee's number on, and tells the last own number.
+    /// Relays so many responses, from the callee's number on, and writes the last own number.
     fn relay_all(&mut self, told: &mut Told, first: u32) {
         let mut last = None;
         for k in 0..17 {
@@ -55,8 +55,8 @@ impl Answers {
     }
 }
 
-/// `=` reads a RAck value. `+` with the callee's number relays an answer, `*` 17 of them from that number on, `!` with a RAck value takes a PRACK, `?` with an own number tells
-/// whether its answer waits, and anything else leaves the attempt.
+/// `=` reads a RAck value. `+` with the callee's number relays a response, `*` 17 of them from that number on, `!` with a RAck value receives a PRACK, `?` with an own number
+/// writes whether its response waits, and anything else leaves the attempt.
 impl Rows for Answers {
     fn tell(&mut self, told: &mut Told, asked: &[u8]) {
         match asked {
@@ -124,8 +124,9 @@ malformed
 malformed
 ";
 
-/// RFC 3262 §3 and §4, for an INVITE of CSeq 7: the first answer has any number, each further one the next; a PRACK names the one that has waited longest, and each once; the
-/// next callee counts by itself, and the caller sees one count. Seventeen are one more than may wait, and once a PRACK came the one that was held back is taken.
+/// RFC 3262 §3 and §4, for an INVITE of CSeq 7: the first response has any number, each further one the next; a PRACK acknowledges the one that has waited longest, and each once;
+/// the next callee counts by itself, and the caller receives one sequence of numbers. Seventeen are one more than may wait, and once a PRACK was received the one that was held
+/// back is accepted.
 const ANSWERS: &[u8] = b"> ?1
 -
 > !1 7 INVITE
@@ -204,7 +205,7 @@ waits
 -
 ";
 
-/// The number of the first line of the table, from 1, that is not told again; 0 where each is.
+/// The number of the first line of the table, from 1, that differs from the actual one; 0 where none does.
 fn wrong_answers(alloc: Global, table: &[u8]) -> usize {
     match Acks::new(alloc, 7) {
         Ok(acks) => wrong_line(alloc, &mut Answers { acks }, table),

@@ -7,7 +7,7 @@ use mmtel_scan::{
 use mmtel_told::{Rows, Told, cut, wrong_line};
 use std::alloc::Global;
 
-/// A list of small numbers, and what is done to it.
+/// A list of small numbers, and the operations on it.
 #[derive(Drop)]
 struct Lists {
     list: List<u8>,
@@ -33,7 +33,7 @@ fn three(told: &mut Told) -> List<u8> {
     list
 }
 
-/// Tells an item, or `-` for none.
+/// Writes an item, or `-` for none.
 fn tell_item(told: &mut Told, item: Option<u8>) {
     match item {
         None => told.add(b" -"),
@@ -77,7 +77,7 @@ impl Lists {
         self.join(told, other);
     }
 
-    /// What is joined, taken or told.
+    /// What is joined, removed or written.
     fn take(&mut self, told: &mut Told, word: &[u8]) {
         match word {
             b"three" => add_three(told, &mut self.list),
@@ -109,7 +109,7 @@ impl Rows for Lists {
     }
 }
 
-/// A list of three items that is edited and emptied; then two lists of three that are joined, the first items taken off, and then the others.
+/// A list of three items that is edited and emptied; then two lists of three that are joined, the first items removed, and then the others.
 const LISTS: &[u8] = b"> three
 
 > all
@@ -163,7 +163,7 @@ fn push_text(told: &mut Told, list: &mut List<Text>, bytes: &[u8]) {
     told.keep(done.is_ok());
 }
 
-/// Tells a copy of each text.
+/// Writes a copy of each text.
 fn tell_copies(told: &mut Told, list: &List<Text>) {
     for text in list.items() {
         let copy = text.copied(told.alloc);
@@ -183,7 +183,7 @@ fn wrong_copies(alloc: Global) -> usize {
     told.wrong_line(b"a\nbc\n")
 }
 
-/// The number of a text, of at most 255, whether a zero leads, and the number printed again.
+/// The number of a text, of at most 255, whether it has a leading zero, and the number printed again.
 #[derive(Drop)]
 struct Numbers;
 

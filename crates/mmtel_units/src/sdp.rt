@@ -1,4 +1,4 @@
-//! Session descriptions, and the mixer's offer and answer.
+//! Session descriptions, and the offer and answer of the conference mixer.
 //!
 //! A `|` in a row ends a line of a description.
 
@@ -40,7 +40,7 @@ fn add_view(told: &mut Told, view: &SdpView) {
     told.add(b"\n");
 }
 
-/// What is seen of a description whose lines end like this, or that it is none.
+/// The media and direction of a description whose lines end like this, or that it is none.
 #[derive(Drop)]
 struct Views {
     end: &'static [u8],
@@ -58,9 +58,9 @@ impl Rows for Views {
     }
 }
 
-/// The example of RFC 4566 §5, the offer and the later offer of RFC 3264 §10.1, the offer of §10.2; the medium's direction comes before the session's, and the first before
-/// later ones; a direction under another medium is not the audio's; without audio the session's is left; the first map of the first format, and no other; a port need not
-/// be a number, and lines of any letter are let through. Then bodies that are no session descriptions.
+/// The example of RFC 4566 §5, the offer and the later offer of RFC 3264 §10.1, the offer of §10.2; the medium's direction comes before the session's, and the first before later
+/// ones; a direction under another medium is not the audio's; without audio the session's remains; the first map of the first format, and no other; a port need not be a number,
+/// and lines of any letter are accepted. Then bodies that are no session descriptions.
 const BODIES: &[u8] =
     b"> v=0|o=jdoe 2890844526 2890842807 IN IP4 10.47.16.5|s=SDP Seminar|i=A Seminar on the session description protocol|u=http://www.example.com/seminars/sdp.pdf|\
 e=j.doe@example.com (Jane Doe)|c=IN IP4 224.2.17.12/127|t=2873397496 2873404696|a=recvonly|m=audio 49170 RTP/AVP 0|m=video 51372 RTP/AVP 99|a=rtpmap:99 h263-1998/90000|
@@ -191,7 +191,7 @@ impl Rows for Answers {
     }
 }
 
-/// The mixer takes the first audio medium, keeps its map, turns its direction, and refuses the other media; without audio it has no answer. Its own offer is audio alone.
+/// The mixer accepts the first audio medium, keeps its map, reverses its direction, and refuses the other media; without audio it has no answer. Its own offer is audio alone.
 const ANSWERS: &[u8] =
     b"> v=0|o=jdoe 2890844526 2890842807 IN IP4 10.47.16.5|s=SDP Seminar|i=A Seminar on the session description protocol|u=http://www.example.com/seminars/sdp.pdf|\
 e=j.doe@example.com (Jane Doe)|c=IN IP4 224.2.17.12/127|t=2873397496 2873404696|a=recvonly|m=audio 49170 RTP/AVP 0|m=video 51372 RTP/AVP 99|a=rtpmap:99 h263-1998/90000|
@@ -227,7 +227,7 @@ fn audio_name(offers: bool) -> &'static [u8] {
     if offers { b"audio; " } else { b"no audio; " }
 }
 
-/// Adds what was said of audio.
+/// Adds the content of audio.
 fn add_audio(told: &mut Told, said: Result<bool, NoMemory>) {
     match said {
         Ok(offers) => told.add(audio_name(offers)),
@@ -258,7 +258,7 @@ fn add_kinds(told: &mut Told, said: Result<List<Text>, NoMemory>) {
     }
 }
 
-/// What a body offers.
+/// The media that a body offers.
 #[derive(Drop)]
 struct Offers;
 
@@ -273,7 +273,7 @@ impl Rows for Offers {
     }
 }
 
-/// What the view of a body says of the same.
+/// The same by the view of a body.
 #[derive(Drop)]
 struct OffersSeen;
 
@@ -294,9 +294,9 @@ impl Rows for OffersSeen {
     }
 }
 
-/// The example of RFC 4566 §5, the offer and the later offer of RFC 3264 §10.1, the offer of §10.2. A kind stands once for each of its media; other kinds of RFC 4566
-/// §5.14; audio of port 0 is offered, and `Audio` or a longer word is another kind; a description without audio has the session's direction. Then bodies that are no
-/// session descriptions, also where an `m=audio` line stands in them.
+/// The example of RFC 4566 §5, the offer and the later offer of RFC 3264 §10.1, the offer of §10.2. A kind is listed once for each of its media; other kinds of RFC 4566 §5.14;
+/// audio of port 0 is offered, and `Audio` or a longer word is another kind; a description without audio has the session's direction. Then bodies that are no session descriptions,
+/// also where they have an `m=audio` line.
 const OFFERS: &[u8] =
     b"> v=0|o=jdoe 2890844526 2890842807 IN IP4 10.47.16.5|s=SDP Seminar|i=A Seminar on the session description protocol|u=http://www.example.com/seminars/sdp.pdf|\
 e=j.doe@example.com (Jane Doe)|c=IN IP4 224.2.17.12/127|t=2873397496 2873404696|a=recvonly|m=audio 49170 RTP/AVP 0|m=video 51372 RTP/AVP 99|a=rtpmap:99 h263-1998/90000|

@@ -1,4 +1,4 @@
-//! Targets of a call: those that a Request-URI names, those of diversions, the home domain, and which are nobody's.
+//! Targets of a call: those of a Request-URI, those of diversions, the home domain, and which are of no account.
 
 use crate::asserting::assert_right;
 use mmtel_lex::{Uri, UriFault, print_uri, read_uri};
@@ -8,14 +8,14 @@ use mmtel_types::Account;
 
 const HOME: &[u8] = b"home.example";
 
-/// Adds the word where that is so.
+/// Adds the word where the condition is true.
 fn add_if(told: &mut Told, is: bool, word: &[u8]) {
     if is {
         told.add(word);
     }
 }
 
-/// A target; whether it is a global number, was made of one, is of the home domain; whether it is nobody's without an account, and whether it is so with one.
+/// A target; whether it is a global number, was made of one, is of the home domain; whether it is refused as of no account where it has none, and where it has one.
 fn add_target(told: &mut Told, word: &[u8], target: &Target) {
     told.add(word);
     match print_uri(told.alloc, &target.uri) {
@@ -41,7 +41,7 @@ fn add_diverted(told: &mut Told, uri: Uri) {
     }
 }
 
-/// Tells the target that a Request-URI names, and that of a diversion to it, where it is a URI.
+/// Writes the target that a Request-URI names, and that of a diversion to it, where it is a URI.
 #[derive(Drop)]
 struct Targets;
 
@@ -60,10 +60,10 @@ impl Rows for Targets {
     }
 }
 
-/// A Request-URI stays as it is, a number too. A diversion to a global number, with separators and parameters, goes to the home domain and is nobody's in no case (RFC 3261
-/// §19.1.6);
-/// the same URI that no diversion made, and others of the home domain, whose case does not count, are nobody's without an account; a local number and another domain never are.
-/// Another scheme and what is no URI name no target.
+/// A Request-URI stays as it is, a number too. A diversion to a global number, with separators and parameters, goes to the home domain and is never refused as of no account (RFC
+/// 3261 §19.1.6);
+/// the same URI without a diversion, and others of the home domain, whose case does not count, are refused where they have no account; a local number and another domain never are.
+/// Another scheme and what is no URI give no target.
 const TARGETS: &[u8] = br#"> tel:+49(30)1-1.1;x=y
 first tel:+49(30)1-1.1;x=y global
 diverted sip:+4930111@home.example;user=phone made home

@@ -1,4 +1,4 @@
-//! Deadlines, and the moments at which messages are sent again.
+//! Deadlines, and the moments of retransmissions.
 ghost use Rattle.std.proofs.Props.{props};
 ghost use Rattle.std.specs.Prelude.{◌≡◌, ◌<◌, ◌/◌, nat_lt};
 ghost use Rattle.std.specs.List.Sorted.{IsNonDecreasingBy};
@@ -12,7 +12,7 @@ use std::alloc::Global;
 use std::marker::Brand;
 use std::sync::ledger::{Blank, Ledger};
 
-/// Tells the moment and the key of a deadline, or `-`.
+/// Writes the moment and the key of a deadline, or `-`.
 fn tell_deadline(told: &mut Told, deadline: Option<(u64, Key)>) {
     match deadline {
         None => told.add(b"-"),
@@ -24,7 +24,7 @@ fn tell_deadline(told: &mut Told, deadline: Option<(u64, Key)>) {
     told.add(b"\n");
 }
 
-/// The deadlines that the rows so far have left, and the counter of looks beside them.
+/// The deadlines after the rows so far, and the counter of comparisons next to them.
 #[derive(Drop)]
 struct Armed<L: Ledger> {
     deadlines: Deadlines,
@@ -53,7 +53,7 @@ impl<L: Ledger> Armed<L> {
     }
 }
 
-/// Adds the moments of a schedule, also of times that are past its end.
+/// Adds the moments of a schedule, also after its end.
 fn add_moments(told: &mut Told, schedule: Schedule) {
     for k in [0, 1, 2, 3, 4, 5, 6, 7, 8, 9, 10, u32::MAX] {
         if let Some(moment) = schedule.at(k) {
@@ -63,8 +63,8 @@ fn add_moments(told: &mut Told, schedule: Schedule) {
     told.add(b"\n");
 }
 
-/// `+` with a moment and a key arms the key, `-` with a key disarms it. `?` with a moment tells the moment and the key that are due then, or `-`; `^` tells the first of all.
-/// `I` and `O` tell the schedules of an INVITE and of other messages.
+/// `+` with a moment and a key arms the key, `-` with a key disarms it. `?` with a moment writes the moment and the key that are due then, or `-`; `^` writes the first of all. `I`
+/// and `O` write the schedules of an INVITE and of other messages.
 impl<L: Ledger> Rows for Armed<L> {
     fn tell(&mut self, told: &mut Told, asked: &[u8]) {
         match asked {
@@ -78,7 +78,7 @@ impl<L: Ledger> Rows for Armed<L> {
     }
 }
 
-/// Equal moments, arming again, disarming, and moments at the ends of both ranges; then each is taken once, the least moment first and of equal ones the first armed.
+/// Equal moments, arming again, disarming, and moments at the ends of both ranges; then each is removed once, the least moment first and of equal ones the first armed.
 ///
 /// RFC 3261 §17.1.1.2: intervals of 500 ms, 1 s, 2 s, 4 s, 8 s and 16 s, and Timer B at 32 s.
 /// RFC 3261 §17.1.2.2: intervals of 500 ms, 1 s, 2 s, and 4 s from then on, and Timer F at 32 s.
@@ -159,7 +159,7 @@ const STEPS: &[u8] = b"> ?250000000000000
  500 1500 3500 7500 11500 15500 19500 23500 27500 31500
 ";
 
-/// The first of all, whether or not it is due, and what is due at 7: after each of what is armed, and after a disarming.
+/// The first of all, whether or not it is due, and what is due at 7: after each arming, and after a disarming.
 const FIRST: &[u8] = b"> ^
 -
 > ?7
@@ -191,7 +191,7 @@ const FIRST: &[u8] = b"> ^
 -
 ";
 
-/// The number of the first line of the table, from 1, that is not told again; 0 where each is. Its looks are counted from nothing.
+/// The number of the first line of the table, from 1, that differs from the actual one; 0 where none does. Its comparisons are counted from zero.
 fn wrong_counted<L: Ledger>(alloc: Global, table: &[u8], blank: Blank) -> usize
     requires name { blank.name ≡ L.name }
     requires parts { blank.parts ≡ L.parts }
@@ -216,7 +216,7 @@ fn deadlines_and_schedules(rt: HostRuntime) {
     assert_right(&rt, "FIRST", wrong_deadlines(rt.alloc(), FIRST));
 }
 
-/// An item of a shelf: a number, of which the tens are the rank.
+/// An item of a shelf (an ordered index): a number, of which the tens are the rank.
 #[derive(Clone, Copy)]
 struct Item(u64);
 
@@ -240,14 +240,14 @@ impl Mark<Item> for Item {
     }
 }
 
-/// Puts an item before the one at a place, or at the end.
+/// Puts an item before the one at an index, or at the end.
 fn put(told: &mut Told, shelf: &mut Shelf<Item>, place: usize, item: u64) {
     if place > shelf.len() || shelf.insert(place, Item(item)).is_err() {
         told.fail();
     }
 }
 
-/// Takes every item out from the front and tells it.
+/// Removes every item from the front and writes it.
 fn take_all(told: &mut Told, shelf: &mut Shelf<Item>) {
     for _ in 0..shelf.len() {
         if let Some(item) = shelf.remove(0) {
@@ -257,7 +257,7 @@ fn take_all(told: &mut Told, shelf: &mut Shelf<Item>) {
     told.add(b"\n");
 }
 
-/// Items are put at the front, at the end and between two; 0 where they then stand in order.
+/// Items are put at the front, at the end and between two; 0 where they are in order then.
 fn wrong_shelf(alloc: Global) -> usize {
     let mut told = Told::new(alloc);
     let mut shelf = Shelf::new(alloc);
@@ -274,7 +274,7 @@ fn items_are_put_on_a_shelf(rt: HostRuntime) {
     assert_right(&rt, "shelf", wrong_shelf(rt.alloc()));
 }
 
-/// A shelf of numbers that do not fall, and the counter of looks beside it.
+/// A shelf of numbers in ascending order, and the counter of comparisons next to it.
 #[derive(Drop)]
 struct Sorted<L: Ledger> {
     shelf: Shelf<Item>,
@@ -289,7 +289,7 @@ impl<L: Ledger> Sorted<L> {
         told.keep(self.shelf.insert(place, item).is_ok());
     }
 
-    /// Tells the place of the first number that is not below this one, and that number.
+    /// Writes the index of the first number that is not below this one, and that number.
     fn tell_place(&mut self, told: &mut Told, item: Item) {
         let sought = self.shelf.seek(&item, &mut self.steps);
         told.add_spaced_number(sought.place as u64);
@@ -301,7 +301,7 @@ impl<L: Ledger> Sorted<L> {
     }
 }
 
-/// `+` puts a number in; `?` tells the place of the first that is not below one, and which stands there, or `-`.
+/// `+` puts a number in; `?` writes the index of the first that is not below one, and that number, or `-`.
 impl<L: Ledger> Rows for Sorted<L> {
     fn tell(&mut self, told: &mut Told, asked: &[u8]) {
         match asked {
@@ -366,7 +366,7 @@ const SOUGHT: &[u8] = b"> ?15
  6 18446744073709551615
 ";
 
-/// The number of the first line of the table, from 1, that is not told again; 0 where each is. Its looks are counted from nothing.
+/// The number of the first line of the table, from 1, that differs from the actual one; 0 where none does. Its comparisons are counted from zero.
 fn wrong_sought<L: Ledger>(alloc: Global, blank: Blank) -> usize
     requires name { blank.name ≡ L.name }
     requires parts { blank.parts ≡ L.parts }

@@ -5,7 +5,7 @@ use mmtel_told::Told;
 use mmtel_types::{Addr, Cause, PrivacySet, limits};
 use std::alloc::Global;
 
-/// The cause of this number, in the order in which they are declared; those with a status or a flag stand twice.
+/// The cause of this number, in the order in which they are declared; those with a status or a flag are listed twice.
 fn cause(number: u8) -> Cause {
     match number {
         0 => Cause::OutgoingBarred,
@@ -71,7 +71,7 @@ fn wrong_cause(alloc: Global) -> usize {
     told.wrong_line(CAUSES)
 }
 
-/// What no Privacy header field asks for: nothing.
+/// The privacy without any Privacy header field: nothing.
 const NOTHING: PrivacySet = PrivacySet {
     header: false,
     session: false,
@@ -90,12 +90,12 @@ fn addr(last: u8, port: u16) -> Addr {
     }
 }
 
-/// Tells whether two addresses are the same.
+/// Writes whether two addresses are the same.
 fn tell_same(told: &mut Told, one: Addr, other: Addr) {
     told.add_if(one.is_same(other), b"same\n", b"another\n");
 }
 
-/// What no Privacy header field asks for; and addresses: the same has the same four numbers and the same port.
+/// The privacy without any Privacy header field; and addresses: the same has the same four numbers and the same port.
 fn wrong_value(alloc: Global) -> usize {
     let mut told = Told::new(alloc);
     told.add_if(
@@ -115,7 +115,7 @@ fn causes_privacy_and_addresses(rt: HostRuntime) {
     assert_right(&rt, "privacy and addresses", wrong_value(rt.alloc()));
 }
 
-// The limits that the documents promise. The last moment stands in a contract.
+// The limits that the documents promise. The last moment is in a contract.
 const _: () = prove!(limits::DATAGRAM_BYTES == 16_384);
 
 const _: () = prove!(limits::HEADER_LINES == 128);

@@ -5,7 +5,7 @@ use mmtel_scan::{List, Text, part};
 use mmtel_told::{Rows, Told, wrong_line};
 use mmtel_words::{Wanted, command};
 
-/// The words, of which `|` parts each from the next.
+/// The words, which `|` separates.
 fn words_of(told: &mut Told, asked: &[u8]) -> List<Text> {
     let mut words = List::new();
     let mut rest = Some(asked);

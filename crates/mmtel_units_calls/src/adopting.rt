@@ -1,12 +1,13 @@
-//! A leg comes out of a call.
+//! A leg is taken out of a call into a conference.
 
 use crate::asserting::assert_right;
 use crate::seating::wrong_seat;
 
-/// NOTIFY goes to a seat alone that is there. Legs of a callee and of a caller are asked in, and have their seat, dialog and row from then on (RFC 4579 §5.6): their own
-/// INVITE crosses, no ringing ends them, a 2xx of another tag than the dialog's has its ACK again by its own tag. A refusal and silence end them by BYE, behind the ACK and
-/// before the NOTIFY. One that leaves by itself while it is asked has CANCEL at the next provisional response, and ACK and BYE at a late 2xx; one that had its BYE has the
-/// ACK alone. A REFER that names a dialog has its 202 and nothing more. The leg that finds no room comes back.
+/// NOTIFY is sent only to a participant that is there. Legs of a callee and of a caller are invited by re-INVITE, and have their participant, dialog and CDR from then on (RFC
+/// 4579 §5.6): a re-INVITE of their own crosses, no ringing limit ends them, and after a 2xx with another tag than the dialog's a further one with that tag gets the ACK again. A
+/// refusal and a timeout end them by BYE, after the ACK and before the NOTIFY. One that leaves by itself while its re-INVITE has no final response gets CANCEL at the next
+/// provisional response, and ACK and BYE at a late 2xx; one that got its BYE gets the ACK alone. A REFER that names a dialog gets its 202 and nothing more. The leg that finds no
+/// conference is handed back.
 const ADOPTING: &[u8] = br#"> 0 create 1 1 alice@home.example
 room 1
 reply 0: 200 OK, 7 INVITE

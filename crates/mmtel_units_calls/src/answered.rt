@@ -1,8 +1,8 @@
 //! Calls that were answered.
 //!
-//! A 2xx waits for its ACK (RFC 3261 §13.3.1.4), which goes on, and goes on again for each repeat of the 2xx (§13.2.2.4).
+//! A 2xx waits for its ACK (RFC 3261 §13.3.1.4), which is passed on, and again for each retransmission of the 2xx (§13.2.2.4).
 //! A side leaves while the ACK of the other one is due (RFC 3261 §15).
-//! A side of a talking call leaves, or asks for something else (RFC 3261 §11.2, §12.2.2, §15.1).
+//! A side of a stable call leaves, or sends another request (RFC 3261 §11.2, §12.2.2, §15.1).
 
 use crate::asserting::assert_right;
 use crate::stepping::wrong_step;

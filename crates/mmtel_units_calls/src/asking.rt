@@ -1,9 +1,9 @@
 //! INVITEs within answered calls (RFC 3261 §14).
 //!
-//! Hold (TS 24.610 §4.5.2) is counted from offers that were agreed to; each 2xx waits for its own ACK.
-//! An INVITE that is refused leaves the call as it is, but where there is no dialog any more (RFC 5057 §5.1).
+//! Hold (TS 24.610 §4.5.2) is counted from offers that were accepted; each 2xx waits for its own ACK.
+//! An INVITE that is refused leaves the call as it is, except where the refusal means that the dialog no longer exists (RFC 5057 §5.1).
 //! An INVITE that is cancelled (RFC 3261 §9.1), and INVITEs that cross (§14.2).
-//! A side leaves while an INVITE has no answer.
+//! A side leaves while an INVITE has no final response.
 
 use crate::asserting::assert_right;
 use crate::stepping::wrong_step;

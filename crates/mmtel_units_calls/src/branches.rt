@@ -1,4 +1,4 @@
-//! Which request a response answers, or was given up, of those whose answer is waited for.
+//! Of the requests with a response pending, the one to which a response belongs, or which timed out.
 
 use crate::asserting::assert_right;
 use crate::messages::success;
@@ -8,8 +8,8 @@ use mmtel_scan::part;
 use mmtel_told::{Told, cut};
 use std::alloc::Global;
 
-/// A method and a branch; the branch behind its cookie of the request that a response to it answers, and of the request where it was given up, where its answer is waited
-/// for: an INVITE, a PRACK or an UPDATE (RFC 3261 §8.1.1.7, §17.1.3).
+/// A method and a branch; the branch without its cookie of the request to which a response with them belongs, and of the request where it timed out, where its response is pending:
+/// an INVITE, a PRACK or an UPDATE (RFC 3261 §8.1.1.7, §17.1.3).
 /// Methods and the cookie are compared byte for byte.
 const BRANCHES: &[u8] = b"INVITE z9hG4bKx-1: x-1 x-1
 INVITE z9hG4bKz9hG4bK: z9hG4bK z9hG4bK
@@ -40,7 +40,7 @@ fn tell_answered(told: &mut Told, method: &[u8], branch: &[u8]) {
     }
 }
 
-/// Tells a row again, as it is answered.
+/// Writes a row with its result.
 fn tell_row(told: &mut Told, row: &[u8]) {
     let (asked, _) = cut(b':', row);
     let (method, branch) = word(asked);

@@ -1,11 +1,10 @@
-//! Tables that are played: what calls hear, a line each behind `> `, and under it what goes out and how many calls each account has; what is asked of them, behind `? `.
+//! Tables that are played: what calls receive, a line each after `> `, and under it what is sent and how many calls each account has; what is looked up, after `? `.
 //!
 //! Bob has waiting with two calls. Transactions are numbered from 0, servers and clients together.
-//! What is heard begins with the moment: `invite PEER NUMBER WHO TARGET`, `answer TRANSACTION TAG STATUS`, `say PEER CALL-ID LOCAL REMOTE METHOD CSEQ`, `cancel TRANSACTION
-//! PEER CALL-ID LOCAL REMOTE CSEQ`, `silent TRANSACTION`, `due CALL WORD NUMBER`, `over TRANSACTION`.
-//! What is done with legs and rows stands behind `! `, see `lending`; `! fill COUNT` opens so many calls of nobody who has an account, to nobody who has one, of which
-//! nothing is told.
-//! What is asked: `find CALL-ID LOCAL REMOTE`, `asked TRANSACTION`, `party CALL`, `rows`.
+//! What is received begins with the moment: `invite PEER NUMBER WHO TARGET`, `answer TRANSACTION TAG STATUS`, `say PEER CALL-ID LOCAL REMOTE METHOD CSEQ`, `cancel TRANSACTION PEER
+//! CALL-ID LOCAL REMOTE CSEQ`, `silent TRANSACTION`, `due CALL WORD NUMBER`, `over TRANSACTION`.
+//! Operations on legs and rows come after `! `, see `lending`; `! fill COUNT` opens so many calls from users without an account, to users without one, of which nothing is written.
+//! What is looked up: `find CALL-ID LOCAL REMOTE`, `asked TRANSACTION`, `party CALL`, `rows`.
 
 use crate::lending::lend;
 use crate::messages::{Coming, invite, named, request_in, response};
@@ -22,7 +21,7 @@ use mmtel_transaction::{DueWord, Emits, TKey};
 use mmtel_types::{Account, CallNo, Moment, Peer, Side};
 use std::alloc::Global;
 
-/// Tells that no more calls are opened, and the transaction of the INVITE that was handed back.
+/// Writes that no more calls are opened, and the transaction of the INVITE that was handed back.
 fn tell_fault(told: &mut Told, fault: &CallFault) {
     match fault {
         CallFault::Full(Signal::Arrived { key, .. }) => {
@@ -43,7 +42,7 @@ fn tell_outcome(told: &mut Told, wire: &mut Wire, outcome: Result<Emits, CallFau
     }
 }
 
-/// Tells how many calls Alice, Bob, Carol and Erin have.
+/// Writes how many calls Alice, Bob, Carol and Erin have.
 pub fn tell_live(told: &mut Told, calls: &Calls) {
     told.add(b"live");
     for number in 1..5 {
@@ -53,7 +52,7 @@ pub fn tell_live(told: &mut Told, calls: &Calls) {
     told.add(b"\n");
 }
 
-/// Tells a call and its side, or none.
+/// Writes a call and its side, or none.
 pub fn tell_place(told: &mut Told, place: Option<(CallNo, Side)>) {
     match place {
         None => told.add_line(b"-> none"),
@@ -68,7 +67,7 @@ pub fn tell_place(told: &mut Told, place: Option<(CallNo, Side)>) {
     }
 }
 
-/// Tells the peer and the account of a side.
+/// Writes the peer and the account of a side.
 fn tell_party(told: &mut Told, party: Option<(Peer, Option<Account>)>) {
     match party {
         None => told.add_line(b"-> none"),
@@ -87,13 +86,13 @@ fn tell_party(told: &mut Told, party: Option<(Peer, Option<Account>)>) {
     }
 }
 
-/// Tells who the sides of a call are.
+/// Writes the peers and the accounts of the sides of a call.
 pub fn tell_parties(told: &mut Told, calls: &Calls, call: u64) {
     tell_party(told, calls.party(CallNo(call), Side::Caller));
     tell_party(told, calls.party(CallNo(call), Side::Callee));
 }
 
-/// An INVITE, with what is read of its parties.
+/// An INVITE, with what is parsed of its parties.
 fn arrival(told: &mut Told, world: &World, coming: Coming<'_>) -> Option<Signal> {
     let invite = invite(told, coming, b"");
     match readings(told, world, &invite) {
@@ -158,7 +157,7 @@ fn asked(place: (CallNo, Side), key: u64, method: &[u8], request: Hearing) -> Si
     }
 }
 
-/// A request in a dialog is of the call and the side that are found.
+/// A request in a dialog is of the call and the side that are found by it.
 fn say(told: &mut Told, wire: &mut Wire, calls: &Calls, words: &[u8]) -> Option<Signal> {
     let (peer, rest) = word(words);
     let (name, rest) = named(rest);
@@ -171,7 +170,7 @@ fn say(told: &mut Told, wire: &mut Wire, calls: &Calls, words: &[u8]) -> Option<
     Some(asked(place, key, method, request))
 }
 
-/// A CANCEL is of the call whose INVITE it names.
+/// A CANCEL is of the call whose INVITE it matches.
 fn cancel(told: &mut Told, wire: &mut Wire, calls: &Calls, words: &[u8]) -> Option<Signal> {
     let (invite, rest) = word(words);
     let (peer, rest) = word(rest);
@@ -190,7 +189,7 @@ fn cancel(told: &mut Told, wire: &mut Wire, calls: &Calls, words: &[u8]) -> Opti
     })
 }
 
-/// No response came to what was sent in this transaction.
+/// The transaction of what was sent timed out.
 fn silent(told: &mut Told, wire: &Wire, words: &[u8]) -> Option<Signal> {
     let key = number(told, words);
     let (branch, method) = branch_and_method(wire.sent_in(key)?);
@@ -250,7 +249,7 @@ fn signal(
     None
 }
 
-/// What comes of a signal that the calls hear.
+/// The result of a signal that the calls receive.
 fn heard(
     told: &Told,
     world: &World,
@@ -270,7 +269,7 @@ fn heard(
     )
 }
 
-/// What comes at a moment.
+/// The result at a moment.
 fn play_line(told: &mut Told, world: &World, wire: &mut Wire, calls: &mut Calls, line: &[u8]) {
     let (digits, words) = word(line);
     let at = moment(told, digits);
@@ -281,7 +280,7 @@ fn play_line(told: &mut Told, world: &World, wire: &mut Wire, calls: &mut Calls,
     }
 }
 
-/// The INVITE of nobody who has an account, to nobody who has one, by these digits.
+/// The INVITE from a user without an account, to a user without one, with these digits.
 fn stranger(told: &mut Told, world: &World, key: u64, digits: &[u8]) -> Option<Signal> {
     let coming = Coming {
         peer: 2,
@@ -296,7 +295,7 @@ fn stranger(told: &mut Told, world: &World, key: u64, digits: &[u8]) -> Option<S
     arrival(told, world, coming)
 }
 
-/// Opens one such call; nothing of it is told.
+/// Opens one such call; nothing of it is written.
 fn fill_one(told: &mut Told, world: &World, wire: &mut Wire, calls: &mut Calls) {
     let key = wire.open();
     let mut digits = Told::new(told.alloc);
@@ -309,14 +308,14 @@ fn fill_one(told: &mut Told, world: &World, wire: &mut Wire, calls: &mut Calls) 
     }
 }
 
-/// Opens so many calls of nobody who has an account, to nobody who has one; nothing of them is told.
+/// Opens so many calls from users without an account, to users without one; nothing of them is written.
 fn fill(told: &mut Told, world: &World, wire: &mut Wire, calls: &mut Calls, words: &[u8]) {
     for _ in 0..number(told, words) {
         fill_one(told, world, wire, calls);
     }
 }
 
-/// What is asked of the calls.
+/// What is looked up in the calls.
 fn ask(told: &mut Told, calls: &Calls, words: &[u8]) {
     let (kind, rest) = word(words);
     if is(kind, b"find") {
@@ -333,7 +332,7 @@ fn ask(told: &mut Told, calls: &Calls, words: &[u8]) {
     }
 }
 
-/// What is done with legs and rows, or many calls that are opened.
+/// Operations on legs and rows, or many calls that are opened.
 fn act(told: &mut Told, world: &World, wire: &mut Wire, calls: &mut Calls, line: &[u8]) {
     match skip_text(b"fill ", line) {
         Some(words) => fill(told, world, wire, calls, words),
@@ -341,7 +340,7 @@ fn act(told: &mut Told, world: &World, wire: &mut Wire, calls: &mut Calls, line:
     }
 }
 
-/// Plays a row of a table, and tells it again where it says what is heard, done or asked.
+/// Plays a row of a table, and writes it again where it has an input, an operation or a look-up.
 fn play_row(told: &mut Told, world: &World, wire: &mut Wire, calls: &mut Calls, row: &[u8]) {
     if let Some(line) = skip_text(b"> ", row) {
         told.add_line(row);
@@ -368,14 +367,14 @@ fn play_rows(told: &mut Told, world: &World, wire: &mut Wire, calls: &mut Calls,
     }
 }
 
-/// Plays a table over calls.
+/// Runs a table over calls.
 fn play_over(told: &mut Told, world: &World, calls: &mut Calls, table: &[u8]) {
     let mut wire = Wire::new(told, Style::Calls, b"t");
     play_rows(told, world, &mut wire, calls, table);
     drop(wire);
 }
 
-/// Plays a table, and tells it again, with what goes out; Bob has waiting with two calls.
+/// Plays a table, and writes it again, with what is sent; Bob has waiting with two calls.
 fn play(told: &mut Told, table: &[u8]) {
     let mut world = quiet_world(told);
     put_record(told, &mut world, 2, b"waiting 2");
@@ -388,7 +387,7 @@ fn play(told: &mut Told, table: &[u8]) {
     drop(world);
 }
 
-/// The number of the first line of a table, from 1, in which it is another one when it is told again; 0 where there is none.
+/// The number of the first line of a table, from 1, that differs from the actual one; 0 where none does.
 pub fn wrong_call(alloc: Global, table: &[u8]) -> usize {
     let mut told = Told::new(alloc);
     play(&mut told, table);

@@ -1,10 +1,10 @@
-//! Seats that are left, and rooms that are closed, without a signal.
+//! Participants that leave, and conferences that are closed, without a signal.
 
 use crate::asserting::assert_right;
 use crate::seating::wrong_seat;
 
-/// Leaving gives a row where the seat has an account; nobody leaves an empty seat or an invitation, and no seat of a room that is not live. A room goes on without its
-/// creator then, and without any seat. Closing gives what is left of all its seats, in their order; nothing goes out, and nothing waits.
+/// Leaving gives a row where the participant has an account; an empty place or an invitation cannot be left, nor a place in a conference that is not live. A conference continues
+/// without its creator then, and without any participant. Closing gives the remaining legs of all its participants, in their order; nothing is sent, and nothing is pending.
 const CLOSING: &[u8] = br#"> 0 create 1 1 alice@home.example
 room 1
 reply 0: 200 OK, 7 INVITE

@@ -1,8 +1,8 @@
-//! What is done on rooms beside signals, a line each: `create PEER NUMBER WHO` opens a room, `join ROOM PEER NUMBER WHO` takes a seat of one, `adopt ROOM SEAT PEER NUMBER
-//! WHO SIDE` takes one with a leg out of a call, by the REFER of a seat, `notify ROOM SEAT CODE` tells a seat a status, `leave ROOM SEAT` leaves one, `close ROOM` closes a
-//! room, and `drop COUNT` hands rows over.
+//! Operations on conferences beside signals, a line each: `create PEER NUMBER WHO` opens a conference, `join ROOM PEER NUMBER WHO` joins one, `adopt ROOM SEAT PEER NUMBER WHO
+//! SIDE` moves a leg of a call into one, by the REFER of a participant, `notify ROOM SEAT CODE` notifies a participant of a status, `leave ROOM SEAT` makes one leave, `close
+//! ROOM` closes a conference, and `drop COUNT` hands CDRs over.
 //!
-//! A leg that comes back is told by its dialog.
+//! A leg that is handed back is written by its dialog.
 
 ghost use Rattle.std.specs.Prelude.{◌≡◌, true, None, IfSome};
 ghost use Rattle.mmtel_leg.specs.Releases.{released_leg};
@@ -22,7 +22,7 @@ use mmtel_told::Told;
 use mmtel_transaction::TKey;
 use mmtel_types::{Account, Cause, Moment, Peer, RoomNo};
 
-/// The account of who, where one is.
+/// The account of a user, where it has one.
 fn account(told: &mut Told, world: &World, who: &[u8]) -> Option<Account> {
     let mut text = Told::new(told.alloc);
     text.add(b"sip:");
@@ -35,13 +35,13 @@ fn account(told: &mut Told, world: &World, who: &[u8]) -> Option<Account> {
     found
 }
 
-/// The token that is drawn next.
+/// Draws the next token.
 fn draw(told: &mut Told, wire: &mut Wire) -> Text {
     let drawn = wire.desk.tokens.draw(told.alloc);
     told.made(drawn)
 }
 
-/// A meter is closed, and its row told, or that there is none.
+/// A meter is closed, and its row written, or that there is none.
 fn tell_meter(told: &mut Told, meter: Option<Meter>, now: Moment) {
     match meter {
         None => told.add_line(b"-> no meter"),
@@ -58,7 +58,7 @@ fn tell_row(told: &mut Told, row: Row) {
     drop(rows);
 }
 
-/// A leg that comes to a room has no meter.
+/// A leg that comes to a conference has no meter.
 fn check_meter(told: &mut Told, meter: Option<Meter>, now: Moment) {
     match meter {
         None => {}
@@ -74,7 +74,7 @@ fn give_up(told: &mut Told, leg: Released, now: Moment) {
     check_meter(told, meter, now);
 }
 
-/// Tells a dialog by its names.
+/// Writes a dialog by its identifiers.
 fn tell_dialog(told: &mut Told, dialogue: &Dialogue) {
     told.add(dialogue.call_id.bytes());
     told.add(b" ");
@@ -83,7 +83,7 @@ fn tell_dialog(told: &mut Told, dialogue: &Dialogue) {
     told.add_line(dialogue.remote_tag.bytes());
 }
 
-/// Tells why a leg finds no seat, and its dialog.
+/// Writes why a leg finds no place, and its dialog.
 fn tell_back(told: &mut Told, leg: Released, fault: RoomFault, now: Moment) {
     match fault {
         RoomFault::NoRoom => told.add(b"no room: "),
@@ -95,7 +95,7 @@ fn tell_back(told: &mut Told, leg: Released, fault: RoomFault, now: Moment) {
     give_up(told, leg, now);
 }
 
-/// The leg of a caller whose INVITE this is, where the server answers with this tag.
+/// The leg of a caller whose INVITE this is, where the server responds with this tag.
 fn caller_leg(
     told: &mut Told,
     invite: &Hearing,
@@ -114,7 +114,7 @@ fn caller_leg(
     }
 }
 
-/// A callee who has this tag.
+/// A callee with this tag.
 fn remote(told: &mut Told, peer: u16, number: &[u8]) -> Remote {
     let mut tag = Told::new(told.alloc);
     tag.add(b"b");
@@ -131,7 +131,7 @@ fn remote(told: &mut Told, peer: u16, number: &[u8]) -> Remote {
     remote
 }
 
-/// The leg of a callee to whom the server sent this INVITE and who has this tag.
+/// The leg of the callee with this tag, to which the server sent this INVITE.
 fn callee_leg(
     told: &mut Told,
     peer: u16,
@@ -153,7 +153,7 @@ fn callee_leg(
     }
 }
 
-/// The INVITE offers audio.
+/// Whether the INVITE offers audio.
 fn has_offer(told: &mut Told, invite: &Hearing) -> bool
     ensures { result ≡ true → offers_audio invite.now.heard.body ≡ true }
 {
@@ -166,7 +166,7 @@ fn has_offer(told: &mut Told, invite: &Hearing) -> bool
     }
 }
 
-/// Opens a room for a leg whose INVITE offers audio.
+/// Creates a conference for a leg whose INVITE offers audio.
 fn open(
     told: &mut Told,
     world: &World,
@@ -202,7 +202,7 @@ fn open(
     }
 }
 
-/// A leg enters a room.
+/// A leg joins a conference.
 fn enter(
     told: &mut Told,
     world: &World,
@@ -234,7 +234,7 @@ fn enter(
     }
 }
 
-/// A caller's leg comes by this INVITE, and opens a room where none is named.
+/// A caller's leg comes by this INVITE, and creates a conference where none is named.
 fn come(
     told: &mut Told,
     world: &World,
@@ -275,7 +275,7 @@ fn come(
     }
 }
 
-/// Somebody comes by an INVITE with audio, to the factory or to a room.
+/// A user comes by an INVITE with audio, to the factory URI or to a conference.
 fn invited(
     told: &mut Told,
     world: &World,
@@ -305,7 +305,7 @@ fn invited(
     drop(invite);
 }
 
-/// An INVITE to the factory.
+/// An INVITE to the factory URI.
 fn create(
     told: &mut Told,
     world: &World,
@@ -326,7 +326,7 @@ fn create(
     );
 }
 
-/// An INVITE to a room.
+/// An INVITE to a conference.
 fn join(
     told: &mut Told,
     world: &World,
@@ -345,7 +345,7 @@ fn join(
     drop(uri);
 }
 
-/// The leg of a caller out of a call, who came by this INVITE.
+/// The leg of a caller, out of a call that this INVITE opened.
 fn leg_by_invite(told: &mut Told, invite: &Hearing, tag: Text, now: Moment) -> Option<Released>
     ensures meter { IfSome result (λ leg. (released_leg leg).meter ≡ None) }
 {
@@ -353,7 +353,7 @@ fn leg_by_invite(told: &mut Told, invite: &Hearing, tag: Text, now: Moment) -> O
     Some(Released::Caller(leg))
 }
 
-/// The leg of a caller out of a call, who came by an INVITE of this number.
+/// The leg of a caller, out of a call that an INVITE of this number opened.
 fn leg_of_caller(
     told: &mut Told,
     peer: u16,
@@ -380,7 +380,7 @@ fn leg_of_caller(
     leg
 }
 
-/// An INVITE of the server's own of this number, to who.
+/// An INVITE of the server's own with this number, to this user.
 fn own_invite(told: &mut Told, peer: u16, call: &[u8], who: &[u8], tag: &Text) -> Hearing {
     let mut from = Told::new(told.alloc);
     from.add(b"<sip:alice@home.example>;tag=");
@@ -407,7 +407,7 @@ fn own_invite(told: &mut Told, peer: u16, call: &[u8], who: &[u8], tag: &Text) -
     invite
 }
 
-/// The leg of a callee out of a call, who had this INVITE of the server's own.
+/// The leg of a callee, out of a call, that got this INVITE of the server's own.
 fn leg_by_own_invite(
     told: &mut Told,
     peer: u16,
@@ -421,7 +421,7 @@ fn leg_by_own_invite(
     Some(Released::Callee(leg))
 }
 
-/// The leg of a callee out of a call, who had an INVITE of the server's own of this number.
+/// The leg of a callee, out of a call, that got an INVITE of the server's own of this number.
 fn leg_of_callee(
     told: &mut Told,
     peer: u16,
@@ -439,7 +439,7 @@ fn leg_of_callee(
     leg
 }
 
-/// The leg of who, out of a call, on this side of it.
+/// The leg of this user, out of a call, on this side of it.
 fn leg_of(
     told: &mut Told,
     wire: &mut Wire,
@@ -459,7 +459,7 @@ fn leg_of(
     }
 }
 
-/// A leg comes out of a call.
+/// A leg is taken out of a call.
 fn adopt(
     told: &mut Told,
     world: &World,
@@ -513,7 +513,7 @@ fn leave(told: &mut Told, rooms: &mut Rooms, now: Moment, words: &[u8]) {
     }
 }
 
-/// Tells the meters of the seats of a room that was closed.
+/// Writes the meters of the participants of a conference that was closed.
 fn tell_ended(told: &mut Told, ended: Vec<Ended>, now: Moment) {
     let mut rest = ended;
     for _ in 0..100 {
@@ -526,7 +526,7 @@ fn tell_ended(told: &mut Told, ended: Vec<Ended>, now: Moment) {
     end_all(rest, now);
 }
 
-/// Spends what is left.
+/// Consumes what remains.
 fn end_all(ended: Vec<Ended>, now: Moment) {
     let mut rest = ended;
     while let Some(ended) = rest.pop() {
@@ -557,7 +557,7 @@ fn drop_rows(told: &mut Told, rooms: &mut Rooms, words: &[u8]) {
     }
 }
 
-/// Does what the words say, where they say a deed.
+/// Does the operation of the words, where they are one.
 pub fn is_done(
     told: &mut Told,
     world: &World,

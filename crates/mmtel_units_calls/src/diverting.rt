@@ -1,8 +1,8 @@
-//! Calls that are diverted, on their way to the target (TS 24.604 §4.5.2.6).
+//! Calls that are diverted before they reach the target (TS 24.604 §4.5.2.6).
 //!
-//! Diversions on arrival, and their rows: what was diverted is charged to the account that did so, from the answer on.
-//! The bound on diversions counts those that a call came with.
-//! What History-Info tells whom (RFC 7044 §10.1): marks for the caller stand in a 181 alone, and those for targets in all that goes on.
+//! Diversions on arrival, and their rows: a diverted call is charged to the account that diverted it, from the answer on.
+//! The bound on diversions counts those with which a call came.
+//! What History-Info reveals to whom (RFC 7044 §10.1): marks for the caller are in a 181 alone, and those for targets in all that is passed on.
 
 use crate::asserting::assert_right;
 use crate::stepping::wrong_step;

@@ -1,6 +1,6 @@
-//! Sessions that nobody refreshes (RFC 4028 §10).
+//! Sessions that are not refreshed (RFC 4028 §10).
 //!
-//! The expiry of the last 2xx counts; it ends a call that talks, and one in which an INVITE has no answer.
+//! The expiry of the last 2xx counts; it ends a stable call, and one in which an INVITE has no final response.
 
 use crate::asserting::assert_right;
 use crate::stepping::wrong_step;

@@ -1,10 +1,10 @@
-//! Calls that are given up.
+//! Calls that are abandoned by the server.
 
 use crate::asserting::assert_right;
 use crate::calling::wrong_call;
 
-/// A call of each kind: offered, ringing, answered, left by its target before the ACK, talking, asked for something else, without a leg that does not come back, and over
-/// with an INVITE of which something may be heard.
+/// A call of each kind: offered, ringing, answered, left by its target before the ACK, stable, with a request pending, without a leg that is not put back, and ended with an INVITE
+/// to which a response may still be received.
 const KINDS: &[u8] = br#"> 0 invite 1 1 carol@home.example sip:x@far.example
 reply 0: 100 Trying, 7 INVITE
 ask 1 to 2: INVITE sip:x@far.example, 1 INVITE

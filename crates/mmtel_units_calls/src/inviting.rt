@@ -1,12 +1,12 @@
-//! Somebody is invited by REFER.
+//! A user is invited by REFER.
 
 use crate::asserting::assert_right;
 use crate::seating::wrong_seat;
 
-/// A REFER without Refer-To, of another method, to nobody's peer and of another scheme (RFC 3515 §2.4.2). Bob is invited, and has no dialog before his 2xx; then he is
-/// seated, his 2xx has its ACK again, and one of another branch of his has nothing. Carol is busy, x does not answer at all, then too long with and without a provisional
-/// response, which decides when the CANCEL goes (RFC 3261 §9.1); a late 2xx has ACK and BYE, once for each of its tags. The one who asked is told of each end, but not once
-/// he has left; where the room closes an invitation goes on alone.
+/// A REFER without Refer-To, of another method, to a URI without a route and of another scheme (RFC 3515 §2.4.2). Bob is invited, and has no dialog before his 2xx; then he is a
+/// participant, his 2xx has its ACK again, and one of another branch of his has nothing. Carol is busy, x does not respond at all, then too late with and without a provisional
+/// response, which decides when the CANCEL is sent (RFC 3261 §9.1); a late 2xx has ACK and BYE, once for each of its tags. The referrer is notified of each end, but not once it
+/// has left; where the conference closes an invitation continues alone.
 const INVITING: &[u8] = br#"> 0 create 1 1 alice@home.example
 room 1
 reply 0: 200 OK, 7 INVITE

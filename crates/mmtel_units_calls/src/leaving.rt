@@ -1,8 +1,8 @@
-//! INVITEs that are not the one a call waits on.
+//! INVITEs other than the one for which a call waits.
 //!
-//! What comes late of an INVITE that was left: a provisional response lets its CANCEL go, each dialog of a 2xx has ACK and BYE, and a final from 300, silence or the end of
-//! its transaction ends it (RFC 3261 §9.1, §13.2.2.4).
-//! A 2xx of the early dialog that names no Contact goes to the target that the provisional response named, heard before the INVITE was left or after it; one of another tag
+//! Late responses to an INVITE that was abandoned: after a provisional response its CANCEL is sent, each dialog of a 2xx has ACK and BYE, and a final from 300, a timeout or the
+//! end of its transaction ends it (RFC 3261 §9.1, §13.2.2.4).
+//! The ACK of a 2xx of the early dialog without a Contact goes to the target of the provisional response, received before the INVITE was abandoned or after it; one of another tag
 //! goes to that of the INVITE (RFC 3261 §12.1.2, §13.2.2.4).
 //! A further dialog of an INVITE that was answered has ACK and BYE at once (RFC 3261 §13.2.2.4).
 

@@ -1,10 +1,10 @@
-//! Legs that are taken out of calls.
+//! Legs that are detached from calls.
 
 use crate::asserting::assert_right;
 use crate::calling::wrong_call;
 
-/// A leg is taken out of a talking call alone; while it is away, neither its dialog is found nor its side, and both accounts are in the call still. Put back, the call goes
-/// on; else it ends by BYE to the leg that is left (RFC 4579 §5.6). Rows are handed over from the front.
+/// A leg is taken out of a stable call alone; while it is out, neither its dialog is found nor its side, and both accounts are in the call still. Once it is put back, the call
+/// continues; else it ends by BYE to the leg that remains (RFC 4579 §5.6). Rows are handed over from the front.
 const LEGS: &[u8] = br#"> 0 invite 1 1 alice@home.example sip:bob@home.example
 reply 0: 100 Trying, 7 INVITE
 ask 1 to 1: INVITE sip:bob@home.example, 1 INVITE

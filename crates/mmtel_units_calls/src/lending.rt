@@ -1,7 +1,7 @@
-//! What is done with legs and rows, a line each behind `! `: `lend MOMENT CALL SIDE` takes a leg out and puts it back, `part MOMENT CALL SIDE` takes it out and ends the
-//! call without it, `lose MOMENT CALL SIDE` takes it out for good, `drop COUNT` hands rows over.
+//! Operations on legs and rows, a line each after `! `: `lend MOMENT CALL SIDE` takes a leg out and puts it back, `part MOMENT CALL SIDE` takes it out and ends the call without
+//! it, `lose MOMENT CALL SIDE` takes it out for good, `drop COUNT` hands rows over.
 //!
-//! Of a leg its peer and its dialog are told, the call that has that dialog while the leg is away, and who the sides are then.
+//! Of a leg its peer and its dialog are written, the call that has that dialog while the leg is out, and the sides of the call then.
 
 use crate::calling::{tell_live, tell_parties, tell_place};
 use crate::telling::{Wire, tell_emits};
@@ -29,7 +29,7 @@ fn tell_leg(told: &mut Told, calls: &Calls, call: u64, leg: &Released) {
     tell_parties(told, calls, call);
 }
 
-/// A leg that is away has no meter.
+/// A leg that is out has no meter.
 fn check_meter(told: &mut Told, meter: Option<Meter>, at: Moment) {
     match meter {
         None => {}
@@ -45,7 +45,7 @@ fn leave(told: &mut Told, leg: Released, at: Moment) {
     check_meter(told, meter, at);
 }
 
-/// Takes a leg out and puts it back.
+/// Detaches a leg and puts it back.
 fn lend_and_restore(told: &mut Told, calls: &mut Calls, call: u64, side: Side) {
     match calls.release(CallNo(call), side) {
         Err(NotTalking) => told.add_line(b"not talking"),
@@ -56,7 +56,7 @@ fn lend_and_restore(told: &mut Told, calls: &mut Calls, call: u64, side: Side) {
     }
 }
 
-/// Takes a leg out and ends the call without it.
+/// Detaches a leg and ends the call without it.
 fn part(
     told: &mut Told,
     world: &World,
@@ -86,7 +86,7 @@ fn part(
     }
 }
 
-/// Takes a leg out for good.
+/// Detaches a leg for good.
 fn lose(told: &mut Told, calls: &mut Calls, call: u64, side: Side, at: Moment) {
     match calls.release(CallNo(call), side) {
         Err(NotTalking) => told.add_line(b"not talking"),
@@ -106,7 +106,7 @@ fn drop_rows(told: &mut Told, calls: &mut Calls, count: u64) {
     }
 }
 
-/// Does what the words say.
+/// Does the operation of the words.
 pub fn lend(told: &mut Told, world: &World, wire: &mut Wire, calls: &mut Calls, words: &[u8]) {
     let (kind, rest) = word(words);
     let (first, rest) = word(rest);

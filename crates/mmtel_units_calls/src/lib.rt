@@ -1,5 +1,5 @@
-//! Tests of calls and rooms: each step of the step table of a call, several calls in a table, and each row of the room table, as sequences of what is heard, with all that
-//! goes out then; how rooms are opened, joined, told, left and closed. A table is one text, worked by hand.
+//! Tests of calls and conferences: each transition of the step table of a call, several calls in a table, and each one of that of a conference, as sequences of received messages,
+//! with all that is then sent; how conferences are created, joined, notified, left and closed. A table is one text, worked out by hand.
 #![tactic(auto)]
 
 #[cfg(test)]

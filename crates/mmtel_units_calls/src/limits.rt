@@ -1,10 +1,10 @@
-//! As many calls as may live.
+//! The maximum number of live calls.
 
 use crate::asserting::assert_right;
 use crate::calling::wrong_call;
 
-/// Once 4,096 calls live, the next INVITE opens none, and is handed back: no number is given and no token drawn. A call that is over makes room, though something of it may
-/// be heard still.
+/// Once 4,096 calls live, the next INVITE opens none, and is handed back: no number is used and no token drawn. A call that ended makes space, though a message for it may still be
+/// received.
 const LIMITS: &[u8] = br#"! fill 4096
 ? asked 0
 -> 1 caller

@@ -1,4 +1,4 @@
-//! Messages as they are heard, of short words.
+//! Received messages, of short words.
 
 use crate::worlds::{is, source, word};
 use mmtel_answers::Hearing;
@@ -7,7 +7,7 @@ use mmtel_scan::{Text, skip_text};
 use mmtel_told::{Told, cut};
 use mmtel_types::Peer;
 
-/// A message without lines.
+/// A message without header fields.
 fn nothing() -> Msg {
     Msg::new(
         Start::Status {
@@ -18,7 +18,7 @@ fn nothing() -> Msg {
     )
 }
 
-/// The first value of a line of this name; none of no bytes.
+/// The first value of a header field of this name; no bytes where there is none.
 pub fn value<'a>(message: &'a Msg, name: &[u8]) -> &'a [u8] {
     message.first(name).unwrap_or(b"")
 }
@@ -44,7 +44,7 @@ fn add_line(text: &mut Told, name: &[u8], value: &[u8]) {
     text.add(b"\r\n");
 }
 
-/// Adds the further lines, which stand behind a `|` each: header lines, and behind `=` lines of the body.
+/// Adds the further lines, which follow a `|` each: header fields, and after `=` lines of the body.
 fn add_further(text: &mut Told, further: &[u8]) {
     let mut rest = further;
     let mut in_body = false;
@@ -71,7 +71,7 @@ fn add_further(text: &mut Told, further: &[u8]) {
     }
 }
 
-/// Where a user of a peer is reached.
+/// The Contact of a user of a peer.
 pub fn add_place(text: &mut Told, user: &[u8], peer: u16) {
     text.add(b"sip:");
     text.add(user);
@@ -105,7 +105,7 @@ fn add_number(text: &mut Told, number: &[u8], method: &[u8]) {
     text.add(b"\r\n");
 }
 
-/// The offer of audio and video that this word means, as further lines; of another word none.
+/// The offer of audio and video that this word means, as further lines; none for another word.
 pub fn offer(word: &[u8]) -> &[u8] {
     if is(word, b"audio") {
         b"=v=0|=m=audio 4000 RTP/AVP 96|=a=rtpmap:96 X/8000|=m=video 4002 RTP/AVP 31"
@@ -114,24 +114,24 @@ pub fn offer(word: &[u8]) -> &[u8] {
     }
 }
 
-/// What stands in the table of an INVITE by which somebody comes.
+/// The columns of the table for an INVITE by which a user comes.
 #[derive(Clone, Copy)]
 pub struct Coming<'a> {
     pub peer: u16,
     pub key: u64,
-    /// What stands before the URI of From.
+    /// What precedes the URI of From.
     pub name: &'a [u8],
-    /// The tag of From behind its `a`.
+    /// The tag of From after its `a`.
     pub tag: &'a [u8],
-    /// The Call-ID behind its `c`.
+    /// The Call-ID after its `c`.
     pub call: &'a [u8],
     pub who: &'a [u8],
     pub whom: &'a [u8],
-    /// Who is asserted too.
+    /// `who` is asserted too, by P-Asserted-Identity.
     pub asserts: bool,
 }
 
-/// The INVITE of somebody who comes.
+/// The INVITE of a user who comes.
 pub fn invite(told: &mut Told, coming: Coming<'_>, further: &[u8]) -> Hearing {
     let mut text = Told::new(told.alloc);
     add_start(&mut text, coming.peer, coming.key, b"INVITE", coming.whom);
@@ -158,7 +158,7 @@ pub fn invite(told: &mut Told, coming: Coming<'_>, further: &[u8]) -> Hearing {
     heard
 }
 
-/// To of a response: that of the request with this tag in the place of its own, or as it is for `-`.
+/// To of a response: that of the request with this tag in place of its own, or as it is for `-`.
 fn add_to(text: &mut Told, asked: &Msg, tag: &[u8]) {
     let to = value(asked, b"To");
     text.add(b"To: ");
@@ -173,8 +173,8 @@ fn add_to(text: &mut Told, asked: &Msg, tag: &[u8]) {
     text.add(b"\r\n");
 }
 
-/// A response to a request of the server, of a tag and a status: the tag stands in its To, or `-` for that of the request; a Contact goes with a tag, but not in finals
-/// from 300, nor where `=` stands before the tag.
+/// A response to a request of the server, of a tag and a status: the tag is in its To, or `-` for that of the request; a Contact is present with a tag, but not in finals from 300,
+/// nor where `=` precedes the tag.
 pub fn response(told: &mut Told, asked: &Msg, peer: u16, words: &[u8], further: &[u8]) -> Hearing {
     let (tag, status) = word(words);
     let (tag, is_told) = match skip_text(b"=", tag) {
@@ -199,7 +199,7 @@ pub fn response(told: &mut Told, asked: &Msg, peer: u16, words: &[u8], further: 
     heard
 }
 
-/// A 2xx of a request of this method and branch.
+/// A 2xx to a request of this method and branch.
 pub fn success(told: &mut Told, method: &[u8], branch: &[u8]) -> Hearing {
     let mut text = Told::new(told.alloc);
     text.add(b"SIP/2.0 200 OK\r\nVia: SIP/2.0/UDP h;branch=");
@@ -212,7 +212,7 @@ pub fn success(told: &mut Told, method: &[u8], branch: &[u8]) -> Hearing {
     heard
 }
 
-/// Who says a request in a dialog, or CANCEL, and in which.
+/// The side that sends a request in a dialog, or CANCEL, and the dialog.
 #[derive(Clone, Copy)]
 pub struct Saying<'a> {
     pub peer: u16,
@@ -220,7 +220,7 @@ pub struct Saying<'a> {
     pub from: &'a [u8],
     pub to: &'a [u8],
     pub call_id: &'a [u8],
-    /// The user of the Contact that an INVITE has.
+    /// The user part of the Contact that an INVITE has.
     pub user: &'a [u8],
 }
 
@@ -253,7 +253,7 @@ pub fn request(
     heard
 }
 
-/// The name of a dialog in words: its Call-ID, the server's tag and the other side's; `-` is none.
+/// The identifiers of a dialog in words: its Call-ID, the server's tag and the other side's; `-` is none.
 #[derive(Clone, Copy)]
 pub struct Name<'a> {
     pub call_id: &'a [u8],
@@ -265,7 +265,7 @@ fn or_none(word: &[u8]) -> &[u8] {
     if is(word, b"-") { b"" } else { word }
 }
 
-/// The name of a dialog, and the words that follow it.
+/// The identifiers of a dialog, and the words that follow.
 pub fn named(words: &[u8]) -> (Name<'_>, &[u8]) {
     let (call_id, rest) = word(words);
     let (local, rest) = word(rest);
@@ -287,7 +287,7 @@ fn add_side(text: &mut Told, uri: &[u8], tag: &[u8]) {
     }
 }
 
-/// A request in the dialog of this name, of this method and number, or its CANCEL, where the server has no tag.
+/// A request in the dialog with these identifiers, of this method and number, or its CANCEL, where the server has no tag.
 pub fn request_in(
     told: &mut Told,
     peer: u16,

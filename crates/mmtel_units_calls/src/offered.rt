@@ -1,9 +1,9 @@
-//! Calls that are offered to a target and not answered.
+//! Calls that are offered to a target and have no final response.
 //!
 //! Provisional responses and the answer (RFC 3261 §13.2.2).
-//! Finals from 300 and silence (RFC 3261 §13.2.2.3, TS 24.604 §4.5.2.6).
-//! The time in which nobody answers, and the longest time (RFC 3261 §9.1, TS 24.604 §4.5.2.6).
-//! The caller gives up (RFC 3261 §9.2, §15.1.2).
+//! Finals from 300 and timeouts (RFC 3261 §13.2.2.3, TS 24.604 §4.5.2.6).
+//! The no-reply time, and the maximum time (RFC 3261 §9.1, TS 24.604 §4.5.2.6).
+//! The caller abandons the call (RFC 3261 §9.2, §15.1.2).
 //! Requests in dialogs that are not confirmed (RFC 3261 §12.2.2, §14.2).
 
 use crate::asserting::assert_right;

@@ -1,6 +1,6 @@
-//! How calls open: who is shown what, what refuses them, and where they go.
+//! How calls open: which identities are passed on to whom, what refuses them, and where they go.
 //!
-//! What the target is shown of the caller, and the caller of the target (TS 24.607 §4.5.2, TS 24.608 §4.5.2, RFC 3325 §7).
+//! The identity of the caller as passed on to the target, and that of the target to the caller (TS 24.607 §4.5.2, TS 24.608 §4.5.2, RFC 3325 §7).
 //! What refuses a call before it is offered (TS 24.611 §4.5.2, TS 24.615 §4.5.5), with its rows.
 //! Waiting calls (TS 24.615 §4.5.5), the session cases (RFC 5502 §6), and routes (RFC 3261 §16.12).
 

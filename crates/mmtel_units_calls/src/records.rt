@@ -1,5 +1,5 @@
-//! Records in short words: `divert EVENT TARGET [FLAG]`, `deflect`, `bar`, `allow URI`, `no-anonymous`, `bar-out URI`, `oir permanent`, `oir temporary`, `tir permanent`,
-//! `no-oip`, `no-tip`, `waiting N`, parted by `|`.
+//! Records in short words: `divert EVENT TARGET [FLAG]`, `deflect`, `bar`, `allow URI`, `no-anonymous`, `bar-out URI`, `oir permanent`, `oir temporary`, `tir permanent`, `no-oip`,
+//! `no-tip`, `waiting N`, separated by `|`.
 
 use crate::worlds::{World, is, put, uri, word};
 use mmtel_lex::Uri;
@@ -10,7 +10,7 @@ use mmtel_sheet_values::{
 use mmtel_told::{Told, cut};
 use std::mem;
 
-/// The event of a rule; None for each call.
+/// The event of a rule; None for all calls.
 fn event_of(word: &[u8]) -> Option<EventWord> {
     if is(word, b"busy") {
         Some(EventWord::Busy)
@@ -48,7 +48,7 @@ fn forward(target: Uri, flag: &[u8]) -> Forward {
     }
 }
 
-/// The diversion of a record that has none.
+/// The diversion settings of a record without diversion rules.
 fn no_rules() -> DiversionPart {
     DiversionPart {
         rules: List::new(),
@@ -65,7 +65,7 @@ fn no_bars() -> BarPart {
     }
 }
 
-/// The diversion that the place has, or one without rules.
+/// The diversion that the part has, or one without rules.
 fn take_diversion(place: &mut Option<DiversionPart>) -> DiversionPart {
     match mem::replace(place, None) {
         Some(part) => part,
@@ -112,7 +112,7 @@ fn only(told: &mut Told, identity: &[u8]) -> Who {
     }
 }
 
-/// The barring that the place has, or one without rules.
+/// The barring that the part has, or one without rules.
 fn take_bars(place: &mut Option<BarPart>) -> BarPart {
     match mem::replace(place, None) {
         Some(part) => part,
@@ -120,7 +120,7 @@ fn take_bars(place: &mut Option<BarPart>) -> BarPart {
     }
 }
 
-/// This identity; none where there is no byte.
+/// This identity; none where there are no bytes.
 fn who(told: &mut Told, identity: &[u8]) -> Option<Who> {
     if identity.is_empty() {
         None
@@ -129,7 +129,7 @@ fn who(told: &mut Told, identity: &[u8]) -> Option<Who> {
     }
 }
 
-/// One rule more, for this identity, or for each where there is none.
+/// One more rule, for this identity, or for each where there is none.
 fn add_bar(told: &mut Told, part: &mut BarPart, identity: &[u8], allow: bool) {
     let rule = Rule {
         condition: condition(None, who(told, identity)),
@@ -203,7 +203,7 @@ fn change(told: &mut Told, sheet: &mut Sheet, clause: &[u8]) {
     }
 }
 
-/// Changes a record as these words say.
+/// Changes a record as these words describe.
 fn change_all(told: &mut Told, sheet: &mut Sheet, words: &[u8]) {
     let mut rest = words;
     for _ in 0..9 {
@@ -223,7 +223,7 @@ fn sheet(told: &mut Told, words: &[u8]) -> Sheet {
     sheet
 }
 
-/// Puts a record of these words for an account.
+/// Sets a record of these words for an account.
 pub fn put_record(told: &mut Told, world: &mut World, account: u32, words: &[u8]) {
     let sheet = sheet(told, words);
     put(told, world, account, sheet);

@@ -1,7 +1,7 @@
-//! Reliable provisional answers (RFC 3262) and UPDATE (RFC 3311).
+//! Reliable provisional responses (RFC 3262) and UPDATE (RFC 3311).
 //!
-//! An answer has a number of the server's own and waits for its PRACK, which has the target's; what is in flight is answered before a step that leaves the attempt, or the
-//! call.
+//! A response has a number of the server's own and waits for its PRACK, which is relayed with the target's; a request in flight gets its final before a step that leaves the
+//! attempt, or the call.
 
 use crate::asserting::assert_right;
 use crate::calling::wrong_call;
@@ -556,7 +556,7 @@ terminating,2,1,0,200,101010,0,ended,0
 -> over ended
 "#;
 
-/// Of two calls each has its own UPDATE in flight: a response to it, and its silence, are of the call whose request it was, by the branch alone.
+/// Of two calls each has its own UPDATE in flight: a response to it, and its timeout, are of the call whose request it was, by the branch alone.
 const TWO_CALLS: &[u8] = br#"> 0 invite 1 1 alice@home.example sip:bob@home.example
 reply 0: 100 Trying, 7 INVITE
 ask 1 to 1: INVITE sip:bob@home.example, 1 INVITE

@@ -1,12 +1,12 @@
-//! As many rooms as may be live, and as many seats.
+//! The maximum number of live conferences, and of participants.
 
 use crate::asserting::assert_right;
 use crate::seating::wrong_seat;
 
-/// Once 1,024 rooms are live, the next INVITE opens none, and its leg comes back: no number is given. A room that is closed makes room. There is no room 2000, and no
-/// second seat in the first.
-/// Once 32 seats of a room are taken, no leg finds another, whether it comes or is brought; of one that is to be invited the missing peer is told first. No number of a
-/// seat is given twice.
+/// Once 1,024 conferences are live, the next INVITE creates none, and its leg is handed back: no number is used. A conference that is closed makes space. There is no conference
+/// 2000, and no second participant in the first.
+/// Once 32 places of a conference are taken, no leg finds another, whether it comes or is adopted; where a user is to be invited the missing route is reported first. No number of
+/// a participant is used twice.
 const ROOM_LIMITS: &[u8] = br#"fill 1024 0 create
 > 0 create 2 1024 x@far.example
 no room: c1024 t-1025 a1024

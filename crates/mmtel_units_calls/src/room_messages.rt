@@ -1,11 +1,11 @@
-//! The messages of rooms, whole.
+//! The messages of conferences, whole.
 
 use crate::asserting::assert_right;
 use crate::seating::wrong_seat;
 
-/// The mixer answers the first audio medium, with its map, and refuses the others (RFC 3264 §6); 202, NOTIFY and INVITE name the room and its focus (RFC 4579 §5.1), and
-/// the INVITE offers the mixer's audio. The target of a REFER has neither its method nor its headers; somebody who is invited is called from the room. NOTIFY has a status
-/// line as its body (RFC 3420), as it was heard or of the server's own; a leg out of a call is asked in within its dialog.
+/// The mixer accepts the first audio medium, with its map, and refuses the others (RFC 3264 §6); 202, NOTIFY and INVITE name the conference and its focus (RFC 4579 §5.1), and the
+/// INVITE offers the mixer's audio. The target of a REFER has neither its method nor its headers; a user who is invited is called from the conference. NOTIFY has a status line as
+/// its body (RFC 3420), as it was received or of the server's own; a leg out of a call is adopted by a re-INVITE within its dialog.
 const ROOM_MESSAGES: &[u8] = br#"# messages are told whole
 > 0 create 1 1 alice@home.example
 room 1

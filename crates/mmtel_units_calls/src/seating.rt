@@ -1,12 +1,12 @@
-//! Tables that are played: what is heard and done, a line each behind `> `, which begins with the moment, and under it what goes out and how many seats of the first three
-//! rooms are taken; what is asked, behind `? `.
+//! Tables that are played: what is received and done, a line each after `> `, which begins with the moment, and under it what is sent and how many places of the first three
+//! conferences are taken; what is looked up, after `? `.
 //!
 //! Transactions are numbered from 0, servers and clients together.
-//! What is heard: `say PEER CALL-ID LOCAL REMOTE METHOD CSEQ MORE` in a dialog, where the seat that has it is told first, `press ROOM SEAT PEER CALL-ID LOCAL REMOTE METHOD
-//! CSEQ MORE` of a seat, whether it has the dialog or not, `answer TRANSACTION TAG STATUS`, `silent TRANSACTION`, `due ROOM SEAT WORD NUMBER`, `over TRANSACTION`. What is
-//! done beside that: see `deeds`; `fill COUNT NUMBER WORDS` does so many times from moment 0 on what `WORDS 2 NUMBER x@far.example` says, with numbers that rise, and
-//! nothing of it is told. Where a table begins with `# ` messages are told whole.
-//! What is asked: `find CALL-ID LOCAL REMOTE`, `rows`.
+//! What is received: `say PEER CALL-ID LOCAL REMOTE METHOD CSEQ MORE` in a dialog, where the participant that has it is written first, `press ROOM SEAT PEER CALL-ID LOCAL REMOTE
+//! METHOD CSEQ MORE` of a participant, whether it has the dialog or not, `answer TRANSACTION TAG STATUS`, `silent TRANSACTION`, `due ROOM SEAT WORD NUMBER`, `over TRANSACTION`.
+//! Other operations: see `deeds`; `fill COUNT NUMBER WORDS` does so many times from moment 0 on what `WORDS 2 NUMBER x@far.example` means, with ascending numbers, and nothing of
+//! it is written. Where a table begins with `# ` messages are written whole.
+//! What is looked up: `find CALL-ID LOCAL REMOTE`, `rows`.
 
 use crate::deeds::is_done;
 use crate::messages::{Name, named, offer, request_in, response};
@@ -20,7 +20,7 @@ use mmtel_transaction::{RoomWord, TKey};
 use mmtel_types::{Moment, RoomNo};
 use std::alloc::Global;
 
-/// Tells how many seats of the first three rooms are taken.
+/// Writes how many places of the first three conferences are taken.
 fn tell_seats(told: &mut Told, rooms: &Rooms) {
     told.add(b"seats");
     for number in 1..4 {
@@ -30,7 +30,7 @@ fn tell_seats(told: &mut Told, rooms: &Rooms) {
     told.add(b"\n");
 }
 
-/// Tells a room and a seat, or none.
+/// Writes a conference and a participant, or none.
 fn tell_place(told: &mut Told, place: Option<(RoomNo, u64)>) {
     match place {
         None => told.add_line(b"-> none"),
@@ -44,7 +44,7 @@ fn tell_place(told: &mut Told, place: Option<(RoomNo, u64)>) {
     }
 }
 
-/// A request of a seat, or its ACK, of this method, number and more: the offer of an INVITE, or the Refer-To of a REFER.
+/// A request of a participant, or its ACK, of this method, number and more: the offer of an INVITE, or the Refer-To of a REFER.
 fn asked(
     told: &mut Told,
     wire: &mut Wire,
@@ -81,7 +81,7 @@ fn asked(
     }
 }
 
-/// A request in a dialog is of the seat that is found; where none is, it opens a transaction all the same.
+/// A request in a dialog is of the participant that is found by it; where none is, it opens a transaction nevertheless.
 fn say(told: &mut Told, wire: &mut Wire, rooms: &Rooms, words: &[u8]) -> Option<RoomSignal> {
     let (peer, rest) = word(words);
     let (name, rest) = named(rest);
@@ -117,7 +117,7 @@ fn answer(told: &mut Told, wire: &Wire, words: &[u8]) -> Option<RoomSignal> {
     })
 }
 
-/// No response came to what was sent in this transaction.
+/// The transaction of what was sent timed out.
 fn silent(told: &mut Told, wire: &Wire, words: &[u8]) -> Option<RoomSignal> {
     let key = number(told, words);
     let (branch, method) = branch_and_method(wire.sent_in(key)?);
@@ -170,7 +170,7 @@ fn signal(told: &mut Told, wire: &mut Wire, rooms: &Rooms, words: &[u8]) -> Opti
     None
 }
 
-/// The rooms hear a signal.
+/// The conferences receive a signal.
 fn hear(
     told: &mut Told,
     world: &World,
@@ -192,7 +192,7 @@ fn hear(
     }
 }
 
-/// What comes at a moment.
+/// The result at a moment.
 fn play_line(told: &mut Told, world: &World, wire: &mut Wire, rooms: &mut Rooms, line: &[u8]) {
     let (digits, words) = word(line);
     let now = moment(told, digits);
@@ -205,7 +205,7 @@ fn play_line(told: &mut Told, world: &World, wire: &mut Wire, rooms: &mut Rooms,
     }
 }
 
-/// What is asked of the rooms.
+/// What is looked up in the conferences.
 fn ask(told: &mut Told, rooms: &Rooms, words: &[u8]) {
     let (kind, rest) = word(words);
     if is(kind, b"find") {
@@ -216,7 +216,7 @@ fn ask(told: &mut Told, rooms: &Rooms, words: &[u8]) {
     }
 }
 
-/// Somebody without an account does this with this number.
+/// A user without an account does this with this number.
 fn fill_one(
     quiet: &mut Told,
     world: &World,
@@ -235,7 +235,7 @@ fn fill_one(
     drop(line);
 }
 
-/// Somebody without an account opens or joins rooms, so many times from this number on; nothing of it is told.
+/// Users without an account create or join conferences, so many times from this number on; nothing of it is written.
 fn fill(told: &mut Told, world: &World, wire: &mut Wire, rooms: &mut Rooms, words: &[u8]) {
     let (count, rest) = word(words);
     let (from, deed) = word(rest);
@@ -249,7 +249,7 @@ fn fill(told: &mut Told, world: &World, wire: &mut Wire, rooms: &mut Rooms, word
     drop(quiet);
 }
 
-/// Plays a row of a table, and tells it again where it says what is heard, done or asked.
+/// Plays a row of a table, and writes it again where it has an input, an operation or a look-up.
 fn play_row(told: &mut Told, world: &World, wire: &mut Wire, rooms: &mut Rooms, row: &[u8]) {
     if let Some(line) = skip_text(b"> ", row) {
         told.add_line(row);
@@ -279,14 +279,14 @@ fn play_rows(told: &mut Told, world: &World, wire: &mut Wire, rooms: &mut Rooms,
     }
 }
 
-/// Plays a table over rooms.
+/// Plays a table over conferences.
 fn play_over(told: &mut Told, world: &World, rooms: &mut Rooms, table: &[u8]) {
     let mut wire = Wire::new(told, Style::Rooms, b"t");
     play_rows(told, world, &mut wire, rooms, table);
     drop(wire);
 }
 
-/// Plays a table, and tells it again, with what goes out.
+/// Plays a table, and writes it again, with what is sent.
 fn play(told: &mut Told, table: &[u8]) {
     let world = quiet_world(told);
     let mixer = Mixer {
@@ -301,7 +301,7 @@ fn play(told: &mut Told, table: &[u8]) {
     drop(world);
 }
 
-/// The number of the first line of a table, from 1, in which it is another one when it is told again; 0 where there is none.
+/// The number of the first line of a table, from 1, that differs from the actual one; 0 where none does.
 pub fn wrong_seat(alloc: Global, table: &[u8]) -> usize {
     let mut told = Told::new(alloc);
     play(&mut told, table);

@@ -1,12 +1,12 @@
-//! Seats that are taken, asked in, and left.
+//! Participants that join, send re-INVITEs, and leave.
 
 use crate::asserting::assert_right;
 use crate::seating::wrong_seat;
 
-/// Alice opens a room and has its first seat (RFC 4579 §5.4). While her ACK is due her INVITE crosses (RFC 3261 §14.2); an ACK of another number is none. Erin comes, is
-/// asked in again and answered by the mixer, sends an old number, an INVITE that offers nothing and a method that a seat does not have. Carol sends no ACK, and has BYE and
-/// leaves after 32 s; Erin leaves by BYE; with Alice's BYE, and in the second room where her ACK does not come, the room closes, and all that are left have BYE in their
-/// order. A room that is closed is gone, and its leg comes back. Rows wait in the order of leaving.
+/// Alice creates a conference and is its first participant (RFC 4579 §5.4). While her ACK is due her INVITE crosses (RFC 3261 §14.2); an ACK of another number is none. Erin joins,
+/// sends a re-INVITE which the mixer answers, sends an old number, an INVITE without an offer and a method that a participant does not support. Carol sends no ACK, and has BYE and
+/// leaves after 32 s; Erin leaves by BYE; with Alice's BYE, and in the second conference where her ACK is not received, the conference closes, and all that remain have BYE in
+/// their order. A conference that is closed no longer exists, and its leg is handed back. Rows wait in the order of leaving.
 const SEATS: &[u8] = br#"> 0 create 1 1 alice@home.example
 room 1
 reply 0: 200 OK, 7 INVITE

@@ -1,9 +1,9 @@
-//! Tables that are played: what a call hears, a line each behind `> `, and under it what goes out and where the call stands then.
+//! Tables that are played: what a call receives, a line each after `> `, and under it what is sent and the state of the call then.
 //!
-//! `# ..` begins anew: nobody has a record, nobody is in a call, and no transaction was opened. Transactions are numbered from 0, servers and clients together.
-//! `> record N ..` gives account N a record, `> busy N` says that it is in one more call, `> away N` that its registration has ended, `> bound N` sets the bound; from
-//! `> reliable` on answers may be reliable, and from `> timer` on sessions have timers.
-//! All other lines begin with the moment; where they begin with `>> ` messages are told whole. Behind a `|` each stand further lines of the message, behind `|=` those of
+//! `# ..` begins anew: no account has a record, none is in a call, and no transaction was opened. Transactions are numbered from 0, servers and clients together.
+//! `> record N ..` sets the record of account N, `> busy N` says that it is in one more call, `> away N` that its registration has ended, `> bound N` sets the bound; from `>
+//! reliable` on provisional responses may be reliable, and from `> timer` on sessions have timers.
+//! All other lines begin with the moment; where they begin with `>> ` messages are written whole. After a `|` each are further header fields of the message, after `|=` lines of
 //! its body.
 //! `invite PEER WHO TARGET`, `answer TRANSACTION TAG STATUS`, `caller METHOD CSEQ`, `callee METHOD CSEQ` (of the first peer), `far METHOD CSEQ` (of the second),
 //! `cancel TRANSACTION CSEQ`, `silent TRANSACTION`, `due WORD NUMBER`, `ended TRANSACTION`.
@@ -58,7 +58,7 @@ fn tell_phase(told: &mut Told, phase: &Phase) {
     }
 }
 
-/// Tells where the call stands, and how many INVITEs are loose.
+/// Writes the state of the call, and how many INVITEs are abandoned.
 fn tell_call(told: &mut Told, call: &Call) {
     told.add(b"-> ");
     tell_phase(told, &call.phase);
@@ -70,7 +70,7 @@ fn tell_call(told: &mut Told, call: &Call) {
     told.add(b"\n");
 }
 
-/// Tells all that a step brought forth, and where the call stands then.
+/// Writes the output of a step, and the state of the call then.
 fn tell_step(told: &mut Told, wire: &mut Wire, outcome: Result<(), NoMemory>, call: &Call) {
     told.noted(outcome);
     let emits = mem::replace(&mut wire.desk.out, List::new());
@@ -97,7 +97,7 @@ fn setting(world: &World) -> Setting<'_> {
     }
 }
 
-/// How things stand.
+/// The snapshot of a step.
 fn present(world: &World, at: Moment) -> Present<'_> {
     Present {
         at,
@@ -106,7 +106,7 @@ fn present(world: &World, at: Moment) -> Present<'_> {
     }
 }
 
-/// What is read of an INVITE.
+/// The parsed values of an INVITE.
 fn arrival(told: &mut Told, world: &World, key: u64, invite: Hearing) -> Option<Arrival> {
     match readings(told, world, &invite) {
         Some((parties, identities)) => Some(Arrival {
@@ -124,7 +124,7 @@ fn arrival(told: &mut Told, world: &World, key: u64, invite: Hearing) -> Option<
     }
 }
 
-/// Lets a call go.
+/// Drops a call.
 fn let_go(call: Option<Call>, at: Moment) {
     match call {
         None => {}
@@ -132,7 +132,7 @@ fn let_go(call: Option<Call>, at: Moment) {
     }
 }
 
-/// Opens a call and tells what goes out; the call before is let go.
+/// Opens a call and writes what is sent; the call before is dropped.
 fn open(
     told: &mut Told,
     world: &World,
@@ -291,7 +291,7 @@ fn cancel(told: &mut Told, wire: &mut Wire, call: &Call, words: &[u8]) -> Signal
     }
 }
 
-/// No response came to what was sent in this transaction.
+/// The transaction of what was sent timed out.
 fn silent(told: &mut Told, wire: &Wire, words: &[u8]) -> Option<Signal> {
     let key = number(told, words);
     let (branch, method) = branch_and_method(wire.sent_in(key)?);
@@ -374,7 +374,7 @@ fn step(
     tell_step(told, wire, outcome, call);
 }
 
-/// What is heard by a call that is open.
+/// What an open call receives.
 fn hear(
     told: &mut Told,
     world: &World,
@@ -400,7 +400,7 @@ fn hear(
     }
 }
 
-/// What comes at a moment.
+/// The result at a moment.
 fn act(
     told: &mut Told,
     world: &World,
@@ -417,7 +417,7 @@ fn act(
     }
 }
 
-/// Sets what stands round the call, where the line says so.
+/// Sets the environment of the call, where the line says so.
 fn is_set(told: &mut Told, world: &mut World, line: &[u8]) -> bool {
     let (kind, rest) = word(line);
     if is(kind, b"record") {
@@ -455,7 +455,7 @@ fn play_line(
     act(told, world, wire, call, line)
 }
 
-/// Plays a row of a table, and tells it again where it says what is heard.
+/// Plays a row of a table, and writes it again where it has an input.
 fn play_row(
     told: &mut Told,
     world: &mut World,
@@ -476,12 +476,12 @@ fn play_row(
     call
 }
 
-/// Nothing was sent.
+/// The exchange before anything was sent.
 fn first_wire(told: &mut Told) -> Wire {
     Wire::new(told, Style::Call, b"0123456789abcdef")
 }
 
-/// Begins anew, where the row says so.
+/// Begins anew, where the row requires it.
 fn begin(
     told: &mut Told,
     world: &mut World,
@@ -515,7 +515,7 @@ fn play_rows(told: &mut Told, world: &mut World, wire: &mut Wire, table: &[u8]) 
     let_go(call, first_moment());
 }
 
-/// Plays a table, and tells it again, with what goes out.
+/// Plays a table, and writes it again, with what is sent.
 fn play(told: &mut Told, table: &[u8]) {
     let mut world = quiet_world(told);
     let mut wire = first_wire(told);
@@ -524,7 +524,7 @@ fn play(told: &mut Told, table: &[u8]) {
     drop(world);
 }
 
-/// The number of the first line of a table, from 1, in which it is another one when it is told again; 0 where there is none.
+/// The number of the first line of a table, from 1, that differs from the actual one; 0 where none does.
 pub fn wrong_step(alloc: Global, table: &[u8]) -> usize {
     let mut told = Told::new(alloc);
     play(&mut told, table);

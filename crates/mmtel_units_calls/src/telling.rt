@@ -1,4 +1,4 @@
-//! What is told of a step: all that goes out, and rows; and what was sent.
+//! The transcript of a step: all that is sent, and rows; and what was sent before.
 
 use crate::messages::value;
 use crate::worlds::is;
@@ -18,7 +18,7 @@ pub struct Sent {
     pub message: Msg,
 }
 
-/// Of what a table tells: of one call, of several, or of rooms.
+/// The subject of a table: one call, several, or conferences.
 #[derive(Clone, Copy)]
 pub enum Style {
     Call,
@@ -26,7 +26,7 @@ pub enum Style {
     Rooms,
 }
 
-/// What goes on between the server and its peers.
+/// The exchange between the server and its peers.
 #[derive(Drop)]
 pub struct Wire {
     pub style: Style,
@@ -35,12 +35,12 @@ pub struct Wire {
     pub sent: List<Sent>,
     /// How many transactions were opened, servers and clients together.
     pub opened: u64,
-    /// Messages are told whole.
+    /// Messages are written whole.
     pub whole: bool,
 }
 
 impl Wire {
-    /// Nothing was sent, and no token drawn of this one.
+    /// Nothing was sent, and nothing was drawn of this token.
     pub fn new(told: &mut Told, style: Style, token: &[u8]) -> Wire {
         let token = told.copy(token);
         Wire {
@@ -86,7 +86,7 @@ pub fn branch_and_method(sent: &Sent) -> (&[u8], &[u8]) {
     (branch, method)
 }
 
-/// The names of lines that are told of whole messages alone.
+/// The names of header fields that are written of whole messages alone.
 const COMMON: &[u8] = b"Via;Max-Forwards;From;To;Call-ID;CSeq;Contact;Content-Length;Record-Route;";
 
 fn is_among(names: &[u8], name: &[u8]) -> bool {
@@ -105,7 +105,7 @@ fn is_among(names: &[u8], name: &[u8]) -> bool {
     false
 }
 
-/// Whether a line of this name is told: of one call all that are not common, of several whether a call waits or is to be tried later.
+/// Whether a header field of this name is written: of one call all that are not common, of several whether a call waits or is to be retried later.
 fn is_told(style: Style, name: &[u8]) -> bool {
     match style {
         Style::Call => !is_among(COMMON, name),
@@ -129,7 +129,7 @@ fn tell_start(told: &mut Told, start: &Start) {
     }
 }
 
-/// Tells a body, a line each.
+/// Writes a body, a line each.
 fn tell_body(told: &mut Told, body: &[u8]) {
     let mut rest = body;
     for _ in 0..40 {
@@ -144,7 +144,7 @@ fn tell_body(told: &mut Told, body: &[u8]) {
     }
 }
 
-/// Tells what a NOTIFY says.
+/// Writes the content of a NOTIFY.
 fn tell_state(told: &mut Told, message: &Msg) {
     if let Some(state) = message.first(b"Subscription-State") {
         told.add(b" ");
@@ -154,7 +154,7 @@ fn tell_state(told: &mut Told, message: &Msg) {
     }
 }
 
-/// Tells the start line, the CSeq, the lines that are told, and the body or the state.
+/// Writes the start line, the CSeq, the header fields that are to be written, and the body or the state.
 fn tell_short(told: &mut Told, style: Style, message: &Msg) {
     told.add(b" ");
     tell_start(told, message.start());
@@ -201,14 +201,14 @@ fn tell_text(told: &mut Told, wire: &Wire, text: &Text) {
     }
 }
 
-/// Tells a word and a number.
+/// Writes a word and a number.
 pub fn tell_head(told: &mut Told, word: &[u8], number: u64) {
     told.add(word);
     told.add_number(number);
     told.add(b":");
 }
 
-/// Tells a deadline behind whose it is.
+/// Writes a deadline after its owner.
 fn tell_deadline(told: &mut Told, word: &[u8], number: u64, at: u64) {
     told.add(word);
     told.add_number(number);
@@ -234,7 +234,7 @@ fn tell_room_due(told: &mut Told, what: RoomWord, at: u64) {
     }
 }
 
-/// Tells a request of the server and keeps it.
+/// Writes a request of the server and keeps it.
 fn tell_request(told: &mut Told, wire: &mut Wire, peer: Peer, message: Msg) {
     let key = wire.open();
     told.add(b"ask ");
@@ -250,14 +250,14 @@ fn tell_request(told: &mut Told, wire: &mut Wire, peer: Peer, message: Msg) {
     told.noted(kept);
 }
 
-/// Tells a message behind whose it is.
+/// Writes a message after its owner.
 fn tell_of(told: &mut Told, wire: &Wire, word: &[u8], number: u64, message: Msg) {
     tell_head(told, word, number);
     tell_message(told, wire, &message);
     drop(message);
 }
 
-/// Tells a message in no transaction behind to whom it goes.
+/// Writes a message in no transaction after its destination.
 fn tell_plain(told: &mut Told, wire: &Wire, peer: Peer, text: Text) {
     tell_head(told, b"plain to ", u64::from(peer.0));
     tell_text(told, wire, &text);
@@ -318,7 +318,7 @@ pub fn tell_emits(told: &mut Told, wire: &mut Wire, emits: Emits) {
     drop(rest);
 }
 
-/// Tells rows, a line each.
+/// Writes rows, a line each.
 pub fn tell_rows(told: &mut Told, rows: &[Row]) {
     let text = rows_text(told.alloc, rows);
     if let Some(text) = told.noted(text) {

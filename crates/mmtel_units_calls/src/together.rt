@@ -3,9 +3,9 @@
 use crate::asserting::assert_right;
 use crate::calling::wrong_call;
 
-/// Bob has waiting with two calls: Alice and Erin call him, Carol is told that he is busy (TS 24.615 §4.5.5). Each account has so many calls as it makes, as are offered to
-/// it and as it answered; a request is of the call whose dialog it names (RFC 3261 §12.2.2), a CANCEL of the one whose INVITE it names, refused or not (§9.2), and a
-/// response of the one whose INVITE it answers, which may be over (§13.2.2.4). Rows wait in the order in which they were closed.
+/// Bob has waiting with two calls: Alice and Erin call him, Carol gets a busy response for him (TS 24.615 §4.5.5). Each account has as many calls as it makes, as are offered to it
+/// and as it answered; a request is of the call whose dialog it names (RFC 3261 §12.2.2), a CANCEL of the one whose INVITE it matches, refused or not (§9.2), and a response of the
+/// one to whose INVITE it belongs, which may have ended (§13.2.2.4). Rows wait in the order in which they were closed.
 const TOGETHER: &[u8] = br#"> 0 invite 1 1 alice@home.example sip:bob@home.example
 reply 0: 100 Trying, 7 INVITE
 ask 1 to 1: INVITE sip:bob@home.example, 1 INVITE

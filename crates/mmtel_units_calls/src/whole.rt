@@ -1,9 +1,9 @@
 //! The messages of calls, whole.
 //!
-//! A caller who asks for privacy calls far away, and gives up before anything came back; what comes late has its CANCEL, its ACK and its BYE (RFC 3261 §9.1, §13.2.2.4; TS
-//! 24.607 §4.5.2).
-//! A caller whose record restricts always calls home and talks: its target is of the trust domain and learns that nobody else may know (RFC 3325 §7); each side's messages
-//! reach the other one by the table of lines, an early answer fixes the dialog, and BYE ends it.
+//! A caller who requests privacy calls another network, and abandons the call before any response; late responses have their CANCEL, their ACK and their BYE (RFC 3261 §9.1,
+//! §13.2.2.4; TS 24.607 §4.5.2).
+//! A caller whose record always restricts calls the home network and is answered: its target is in the trust domain and gets the identity with the request that no one else may
+//! (RFC 3325 §7); the header table decides which header fields of each side's messages reach the other one, an early response fixes the dialog, and BYE ends it.
 
 use crate::asserting::assert_right;
 use crate::stepping::wrong_step;

@@ -1,5 +1,5 @@
-//! What stands round calls and rooms: the peers and accounts, the records in force, how many calls keep each account busy, the bound, and whether answers may be reliable
-//! and sessions have timers; and the words of tables.
+//! The environment of calls and conferences: the peers and accounts, the records in force, how many calls each account has, the bound, and whether provisional responses may be
+//! reliable and sessions have timers; and the words of tables.
 
 use mmtel_answers::Hearing;
 use mmtel_call_decisions::Busy;
@@ -18,7 +18,7 @@ pub const SIP: Addr = Addr {
     port: 5060,
 };
 
-/// What stands round a call.
+/// The environment of a call.
 #[derive(Drop)]
 pub struct World {
     pub peers: PeerTable,
@@ -102,7 +102,7 @@ fn add_peer(told: &mut Told, peers: &mut PeerTable, peer: u16, trusted: bool, ho
     told.noted(added);
 }
 
-/// The first peer is trusted and leads home, the second is not and leads far.
+/// The first peer is trusted and is the route to the home domain, the second is not and is the route to far.example.
 fn peers(told: &mut Told) -> PeerTable {
     let mut peers = PeerTable::new();
     add_peer(told, &mut peers, 1, true, b"home.example");
@@ -134,7 +134,7 @@ fn accounts(told: &mut Told) -> Accounts {
     accounts
 }
 
-/// The world in which nobody has a record and nobody is in a call.
+/// The environment in which no account has a record and none is in a call.
 pub fn quiet_world(told: &mut Told) -> World {
     World {
         peers: peers(told),
@@ -147,7 +147,7 @@ pub fn quiet_world(told: &mut Told) -> World {
     }
 }
 
-/// What is read of an INVITE: of its parties, and who is asserted.
+/// The parsed values of an INVITE: its parties, and the asserted identities.
 pub fn readings(
     told: &mut Told,
     world: &World,

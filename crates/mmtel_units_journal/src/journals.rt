@@ -1,4 +1,4 @@
-//! A keeper over a journal on a disk in memory: how long the journal is, what a stop leaves of it, and where one is broken.
+//! A keeper over a journal on a disk in memory: the length of the journal, what a stop leaves of it, and where one is broken.
 
 use crate::keeping::{add_held, add_record, add_rows};
 use mmtel_journal::{Disk, JournalFault, JournalKeeper, MemoryDisk, make};
@@ -21,7 +21,7 @@ fn add_fault(told: &mut Told, fault: JournalFault) {
     }
 }
 
-/// Opens a disk, and tells what it finds.
+/// Opens a disk, and writes the contents.
 fn add_opened(told: &mut Told, disk: MemoryDisk) {
     match JournalKeeper::open(told.alloc, disk) {
         Ok(mut keeper) => {
@@ -35,7 +35,7 @@ fn add_opened(told: &mut Told, disk: MemoryDisk) {
     }
 }
 
-/// Tells the byte at a place.
+/// Writes the byte at a place.
 fn add_byte(told: &mut Told, disk: &mut MemoryDisk, at: u64) {
     let mut buf = [0; 1];
     match disk.read(at, &mut buf) {
@@ -44,14 +44,14 @@ fn add_byte(told: &mut Told, disk: &mut MemoryDisk, at: u64) {
     }
 }
 
-/// A keeper over a journal whose calls a table asks for.
+/// A keeper over a journal whose calls a table makes.
 #[derive(Drop)]
 struct Kept {
     keeper: JournalKeeper<MemoryDisk>,
 }
 
 impl Kept {
-    /// The disk as a stop right after all calls but so many leaves it.
+    /// The disk as a stop directly after all calls but so many leaves it.
     fn stopped(&self, told: &mut Told, but: u64) -> Option<MemoryDisk> {
         let calls = self.keeper.disk().calls();
         if but > calls {
@@ -61,7 +61,7 @@ impl Kept {
         told.noted(self.keeper.disk().stopped(calls - but))
     }
 
-    /// Tells how long the journal is, and whether another can be made over it.
+    /// Writes the length of the journal, and whether another can be created over it.
     fn add_long(&self, told: &mut Told) {
         if let Some(mut disk) = self.stopped(told, 0) {
             match make(&mut disk) {
@@ -72,7 +72,7 @@ impl Kept {
         }
     }
 
-    /// Tells the first byte and the last.
+    /// Writes the first byte and the last.
     fn add_gates(&self, told: &mut Told) {
         if let Some(mut disk) = self.stopped(told, 0) {
             if let Ok(len @ 1..) = disk.len() {
@@ -86,7 +86,7 @@ impl Kept {
     }
 }
 
-/// Tells what a stop right after all calls but so many leaves.
+/// Writes what a stop directly after all calls but so many leaves.
 fn add_stopped(told: &mut Told, kept: &Kept, but: u64) {
     if let Some(disk) = kept.stopped(told, but) {
         add_opened(told, disk);
@@ -107,8 +107,8 @@ impl Rows for Kept {
     }
 }
 
-/// `s` stores the record for the account of a digit, `a` adds the rows of two digits, `l` makes a journal over what is there, which tells how long it is, `g` tells its first
-/// byte and its last, `o` opens what a stop leaves right after all calls but so many, `h` tells what is held.
+/// `s` stores the record for the account of a digit, `a` adds the rows of two digits, `l` creates a journal over what is there, which reports its length, `g` writes its first byte
+/// and its last, `o` opens what a stop leaves directly after all calls but so many, `h` writes the contents.
 const KEEPING: &[u8] = b"> l
 not empty 1
 > s2
@@ -131,7 +131,7 @@ not empty 177
 2:38.12
 ";
 
-/// The third call of the disk fails in `a12`: nothing is held of it, and the gate is closed again.
+/// The third call of the disk fails in `a12`: nothing of it is in the contents, and the gate is closed again.
 const FAILING: &[u8] = b"> s2
 ok
 > a12
@@ -161,7 +161,7 @@ ok
 2:38.3:38.
 ";
 
-/// A keeper over a journal that is made on a disk whose calls of these numbers fail: three are made of `make`, two of `open`.
+/// A keeper over a journal that is created on a disk whose calls of these numbers fail: three are made by `make`, two by `open`.
 fn kept_on(told: &mut Told, failing: &[u64]) -> Option<Kept> {
     let mut numbers = List::new();
     for number in failing {

@@ -1,4 +1,4 @@
-//! Calls of a keeper that a table asks for, and what it holds.
+//! Calls of a keeper that a table makes, and its contents.
 
 use mmtel_charging::{Kind, Row};
 use mmtel_keeper::{KeepFault, Keeper};
@@ -8,7 +8,7 @@ use mmtel_types::{Account, CallNo, Cause, Moment};
 /// A record of 38 bytes.
 const SHEET: &[u8] = b"[communication-waiting]\nactive = true\n";
 
-/// A row that is told by one digit, which is how many times its call was held.
+/// A row that is written as one digit, which is how many times its call was held.
 fn row(digit: u8) -> Option<Row> {
     let began = Moment::new(1_700_000_000_000)?;
     Some(Row {
@@ -23,7 +23,7 @@ fn row(digit: u8) -> Option<Row> {
     })
 }
 
-/// Tells what a call came to.
+/// Writes the result of a call.
 pub fn add_kept(told: &mut Told, done: Result<(), KeepFault>) {
     match done {
         Ok(()) => told.add(b"ok"),
@@ -32,14 +32,14 @@ pub fn add_kept(told: &mut Told, done: Result<(), KeepFault>) {
     }
 }
 
-/// Keeps the record for the account of a digit, and tells what came of it.
+/// Stores the record for the account of a digit, and writes the result.
 pub fn add_record<K: Keeper>(told: &mut Told, keeper: &mut K, digit: u8) {
     let account = Account(u32::from(digit.saturating_sub(b'0')));
     let done = keeper.store(told.alloc, account, SHEET);
     add_kept(told, done);
 }
 
-/// Adds the rows of two digits, and tells what came of it.
+/// Adds the rows of two digits, and writes the result.
 pub fn add_rows<K: Keeper>(told: &mut Told, keeper: &mut K, digits: &[u8]) {
     let [one, other] = digits else {
         return told.fail();
@@ -54,7 +54,7 @@ pub fn add_rows<K: Keeper>(told: &mut Told, keeper: &mut K, digits: &[u8]) {
     add_kept(told, done);
 }
 
-/// Tells the accounts of the sheets, and the digits of the rows.
+/// Writes the accounts of the sheets, and the digits of the rows.
 pub fn add_held<K: Keeper>(told: &mut Told, keeper: &mut K) {
     let loaded = keeper.load(told.alloc);
     if let Some(sheets) = told.noted(loaded) {

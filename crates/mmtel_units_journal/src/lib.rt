@@ -1,6 +1,6 @@
 //! Tests of the keeper over a journal, on a disk in memory that is stopped: tables of calls.
 //!
-//! A line of a table that begins with `> ` asks, and the lines below it are what is wanted of it.
+//! A line of a table that begins with `> ` is the input, and the lines below it are its expected result.
 #![tactic(auto)]
 
 #[cfg(test)]

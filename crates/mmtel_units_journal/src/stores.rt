@@ -1,17 +1,17 @@
-//! A keeper over a journal or a database in files, whichever a path names: bound again, and to what is none.
+//! A keeper over a journal or a database in files, by the path: bound again, and to a path of neither.
 
 use crate::keeping::{add_held, add_kept, add_record, add_rows};
 use mmtel_keeper::Keeper;
 use mmtel_stores::StoreKeeper;
 use mmtel_told::{Rows, Told, wrong_line};
 
-/// A keeper whose calls a table asks for, and another. Both have to be closed.
+/// A keeper whose calls a table makes, and another. Both have to be closed.
 struct Stored<'a> {
     keeper: StoreKeeper<'a>,
     other: StoreKeeper<'a>,
 }
 
-/// Binds a keeper, and tells what came of it.
+/// Binds a keeper, and writes the result.
 fn add_bound(told: &mut Told, keeper: &mut StoreKeeper<'_>, path: &[u8]) {
     let done = keeper.bind(told.alloc, path);
     add_kept(told, done);
@@ -30,7 +30,7 @@ impl Rows for Stored<'_> {
     }
 }
 
-/// `b` binds the keeper to the path behind it, and `o` another keeper; `s` stores the record for the account of a digit, `a` adds the rows of two digits, `h` tells what is held.
+/// `b` binds the keeper to the path after it, and `o` another keeper; `s` stores the record for the account of a digit, `a` adds the rows of two digits, `h` writes the contents.
 const STORING: &[u8] = b"> s1
 failed
 > bjournal:keeper.journal

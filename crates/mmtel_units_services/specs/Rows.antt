@@ -1,5 +1,5 @@
--- Worked rows of Outcome, by computing it. The accounts are bob's, carol's and nobody's of home.example; vm is of far.example, without a served account. Nobody answers
--- unless it is said.
+-- Worked rows of Outcome, by computing it. The accounts are bob's, carol's and none at an identity of home.example; vm is of far.example, without a served account. Nobody answers
+-- unless a row says so.
 use Rattle.std.specs.Prelude.{◌≡◌, ◌==◌, ℕ, Bool, true, false, if◌then◌else◌, List, [], ◌∷◌, Option, Some, None, codes}
 use Rattle.mmtel_types.specs.declared.causes.Cause.TheVariants as causes
 use Rattle.mmtel_types.specs.declared.numbers.Account.{Account}
@@ -35,7 +35,7 @@ bob = at_home (codes "bob")
 abbrev pub carol : Uri
 carol = at_home (codes "carol")
 
--- of nobody
+-- of no account
 abbrev pub dave : Uri
 dave = at_home (codes "dave")
 
@@ -51,11 +51,11 @@ vm = Sip (Some (codes "vm")) (codes "far.example") None [] []
 
 -- ---- records
 
--- to this target, hiding nothing
+-- to this target, revealing everything
 abbrev pub shown_to_all : Uri → Forward
 shown_to_all to = record { target = to; notify_caller = true; reveal_to_caller = true; reveal_served_to_caller = true; reveal_to_target = true }
 
--- to this target, of which the caller is not told, and which does not learn whose call it is
+-- to this target, of which the caller is not notified, and to which the diverting user is not revealed
 abbrev pub hidden : Uri → Forward
 hidden to = record { target = to; notify_caller = false; reveal_to_caller = false; reveal_served_to_caller = true; reveal_to_target = false }
 
@@ -89,7 +89,7 @@ bars_abroad = record (diverts (rule None (Tel (codes "+33-1-2345") []) ∷ []) f
   outgoing = Some (record { rules = where_abroad (record (rule None vm) { action = action.Allow false }) ∷ []; reject_anonymous = false });
 }
 
--- rejects callers that hide who they are, and diverts each other call
+-- rejects anonymous callers, and diverts each other call
 abbrev pub rejects_and_diverts : Sheet
 rejects_and_diverts = record (diverts (rule None vm ∷ []) false) { incoming = Some (record { rules = []; reject_anonymous = true }) }
 
@@ -114,11 +114,11 @@ bars_and_diverts to = record (diverts (rule None to ∷ []) false) {
   });
 }
 
--- hides in each call who it is that calls
+-- is anonymous as the caller of each call
 abbrev pub restricts_always : Sheet
 restricts_always = record empty_sheet { oir = record { active = true; permanent = true; by_default = false } }
 
--- ---- accounts as they stand: alice's is number 1, bob's 2, carol's 3
+-- ---- accounts in their states: alice's is number 1, bob's 2, carol's 3
 
 abbrev pub of_account : Sheet → (registered : Bool) → (live : ℕ) → AccountState
 of_account sheet registered live = record { sheet = sheet; registered = registered; live = live }
@@ -152,16 +152,16 @@ stands a b c = record {
   live = λ n. (one_of a b c n).live;
 }
 
--- ---- calls to bob, of somebody without an account
+-- ---- calls to bob, of a user without an account
 
--- the words of Privacy: none, or one that hides
+-- the words of Privacy: none, or one that restricts
 abbrev pub words : (id session critical : Bool) → PrivacySet
 words id session critical = record { header = false; session = session; user = false; none = false; critical = critical; id = id; history = false }
 
 abbrev pub served_for : (origin target : Option Account) → (both : Bool) → Served
 served_for origin target both = record { origin = origin; target = target; both = both }
 
--- bob and carol stand so all the time
+-- bob and carol are in these states all the time
 abbrev pub call : (received bound : ℕ) → (bob carol : AccountState) → Call
 call received bound b c = record {
   privacy = words false false false;
@@ -181,11 +181,11 @@ call received bound b c = record {
   later = λ k. stands free b c;
 }
 
--- the call hides its caller
+-- the call has an anonymous caller
 abbrev pub hidden_call : Call → Call
 hidden_call c = record c { privacy = words true false false }
 
--- alice calls, whose account stands so
+-- alice calls, whose account is in this state
 abbrev pub called_by_alice : AccountState → Call → Call
 called_by_alice a c = record c { served = served_for (Some (number 1)) (Some (number 2)) true; opening = stands a free free }
 
@@ -193,7 +193,7 @@ called_by_alice a c = record c { served = served_for (Some (number 1)) (Some (nu
 abbrev pub to_nobody : Uri → Call → Call
 to_nobody uri c = record c { first = uri; served = served_for None None true }
 
--- by a diversion to here that hides nothing, for this cause
+-- by a diversion to here that reveals everything, for this cause
 abbrev pub by : Uri → (cause : ℕ) → Option DueDiversion
 by to cause = Some (record { forward = shown_to_all to; cause = cause; bound = None })
 
@@ -210,12 +210,12 @@ comes_to targets result = record { targets = targets; result = result }
 -- ---- the rows
 
 pub record AreOutcomes : Type 0 where
-  -- anonymous rejection before diversion: of a caller with an identity that it hides; not of one that has none
+  -- anonymous rejection before diversion: of an anonymous caller with an identity; not of one that has none
   pub anonymous_rejection : outcome (hidden_call (call 0 5 (of_account rejects_and_diverts true 0) free)) []
       ≡ comes_to (target bob None NotOffered ∷ []) (Final causes.AnonymousRejected)
   pub no_identity : outcome (record (hidden_call (call 0 5 (of_account rejects_and_diverts true 0) free)) { has_identity = false }) []
       ≡ comes_to (target bob None NotOffered ∷ target vm (by vm 302) (Offered false) ∷ []) Pending
-  -- a caller is hidden by its own record too
+  -- a caller is anonymous by its own record too
   pub hidden_by_record : outcome
       (record (call 0 5 free free) {
         served = served_for (Some (number 1)) (Some (number 2)) true;
@@ -226,7 +226,7 @@ pub record AreOutcomes : Type 0 where
   pub two_diversions : outcome (call 0 5 (of_account (diverts (rule None carol ∷ []) false) true 0) (of_account (diverts (rule (Some event.Busy) vm ∷ []) false) true 1))
       (record { at = 900; how = Answer } ∷ [])
       ≡ comes_to (target bob None NotOffered ∷ target carol (by carol 302) NotOffered ∷ target vm (by vm 486) (Offered false) ∷ []) Answered
-  -- the forward of the rule is said of the target
+  -- the target has the forward of the rule
   pub hidden_forward : outcome (call 0 5 (of_account (diverts (forwards None (hidden vm) ∷ []) false) true 0) free) []
       ≡ comes_to (target bob None NotOffered ∷ target vm (Some (record { forward = hidden vm; cause = 302; bound = None })) (Offered false) ∷ []) Pending
   -- received causes count against the bound: five, and busy; five, and free; four
@@ -242,7 +242,7 @@ pub record AreOutcomes : Type 0 where
   pub loop : outcome (call 0 5 (of_account (diverts (rule None bob ∷ []) false) true 0) free) []
       ≡ comes_to (target bob None NotOffered ∷ target bob (by bob 302) NotOffered ∷ target bob (by bob 302) NotOffered ∷ target bob (by bob 302) NotOffered
       ∷ target bob (by bob 302) NotOffered ∷ target bob (by bob 302) NotOffered ∷ []) (Final (causes.TooManyDiversions false))
-  -- the bound of the account that diverts: reached by what was received; not yet; by what was made; that of an account before it counts no more; and one above the configured
+  -- the bound of the account that diverts: reached by what was received; not yet; by what was made; that of an account before it no longer counts; and one above the configured
   pub own_bound_received : outcome (call 1 5 (of_account (bounds 1 (rule None vm ∷ [])) true 0) free) []
       ≡ comes_to (target bob None NotOffered ∷ []) (Final (causes.TooManyDiversions false))
   pub own_bound_below : outcome (call 1 5 (of_account (bounds 2 (rule None vm ∷ [])) true 0) free) []
@@ -269,14 +269,14 @@ pub record AreOutcomes : Type 0 where
       ≡ comes_to (target bob None NotOffered ∷ target number_abroad (by (Tel (codes "+33-1-2345") []) 302) (Offered false) ∷ []) Pending
   -- outgoing barring of the account that diverts comes before the bound
   pub barred_at_the_bound : outcome (call 5 5 (of_account (bars_and_diverts vm) true 0) free) [] ≡ comes_to (target bob None NotOffered ∷ []) (Final causes.OutgoingBarred)
-  -- deflection: before it rang, after it rang, and without leave
+  -- deflection: before it rang, after it rang, and where it is not allowed
   pub deflected : outcome (call 0 5 (of_account (diverts [] true) true 0) free) (record { at = 50; how = Deflection vm false } ∷ [])
       ≡ comes_to (target bob None (Offered false) ∷ target vm (by vm 480) (Offered false) ∷ []) Pending
   pub deflected_ringing : outcome (call 0 5 (of_account (diverts [] true) true 0) free) (record { at = 50; how = Deflection vm true } ∷ [])
       ≡ comes_to (target bob None (Offered false) ∷ target vm (by vm 487) (Offered false) ∷ []) Pending
   pub deflection_not_allowed : outcome (call 0 5 (of_account (diverts [] false) true 0) free) (record { at = 50; how = Deflection vm true } ∷ [])
       ≡ comes_to (target bob None (Offered false) ∷ []) (Final (causes.Relayed 480))
-  -- registration: without a rule, with a rule for it; and as it was told with the call
+  -- registration: without a rule, with a rule for it; and as it was given with the call
   pub not_registered : outcome (call 0 5 (of_account empty_sheet false 0) free) [] ≡ comes_to (target bob None NotOffered ∷ []) (Final causes.NotRegistered)
   pub not_registered_diverted : outcome (call 0 5 (of_account (diverts (rule (Some event.NotRegistered) vm ∷ []) false) false 0) free) []
       ≡ comes_to (target bob None NotOffered ∷ target vm (by vm 404) (Offered false) ∷ []) Pending
@@ -286,10 +286,10 @@ pub record AreOutcomes : Type 0 where
   pub told_of_the_first : outcome
       (record (call 0 5 (of_account (diverts (rule None carol ∷ []) false) true 0) (of_account empty_sheet false 0)) { registration = Some Registered }) []
       ≡ comes_to (target bob None NotOffered ∷ target carol (by carol 302) NotOffered ∷ []) (Final causes.NotRegistered)
-  -- an identity of the home domain that is no account's, and a target to which no peer leads
+  -- an identity of the home domain that is of no account, and a target to which no peer is the route
   pub no_account : outcome (to_nobody dave (call 0 5 free free)) [] ≡ comes_to (target dave None NotOffered ∷ []) (Final causes.NoAccount)
   pub no_route : outcome (record (call 0 5 free free) { peer_of = λ u. None }) [] ≡ comes_to (target bob None NotOffered ∷ []) (Final causes.NoRoute)
-  -- no answer, to a number, which is of the home domain and no account's; a caller cannot call it so
+  -- no answer, to a number, which is of the home domain and of no account; a caller cannot call it so
   pub to_a_number : outcome (call 0 5 (of_account (diverts (rule (Some event.NoAnswer) (Tel (codes "+49-30-1234") []) ∷ []) false) true 0) free)
       (record { at = 20100; how = NoReply } ∷ record { at = 20300; how = UserBusy 486 } ∷ [])
       ≡ comes_to (target bob None (Offered false) ∷ target number_at_home (by (Tel (codes "+49-30-1234") []) 408) (Offered false) ∷ []) (Final (causes.Relayed 486))
@@ -299,7 +299,7 @@ pub record AreOutcomes : Type 0 where
       ≡ comes_to (target bob None (Offered true) ∷ []) (Final (causes.Relayed 600))
   pub network_busy : outcome (call 0 5 (of_account (record empty_sheet { waiting = Some 2 }) true 2) free) []
       ≡ comes_to (target bob None NotOffered ∷ []) (Final causes.NetworkBusy)
-  -- the opening: privacy of the session that is critical, and that is not; a user of no account; the caller's own barring; in this order
+  -- the opening: session privacy that is critical, and that is not; a user of no account; the caller's own barring; in this order
   pub critical : outcome (record (called_by_alice (of_account (bars_and_diverts bob) true 0) (call 0 5 free free)) { privacy = words false true true }) []
       ≡ comes_to [] (Final causes.Critical)
   pub not_critical : outcome (record (call 0 5 free free) { privacy = words false true false }) [] ≡ comes_to (target bob None (Offered false) ∷ []) Pending
@@ -315,7 +315,7 @@ pub record AreOutcomes : Type 0 where
             (Some (number 2)) false;
       }) []
       ≡ comes_to (target bob None NotOffered ∷ target carol (by carol 302) (Offered false) ∷ []) Pending
-  -- the record as it stood: that of bob when he was reached, though he has another one when the attempt ends; and that of carol when she was reached
+  -- the record at that time: that of bob when he was reached, though he has another one when the attempt ends; and that of carol when she was reached
   pub record_of_the_attempt : outcome
       (record (call 0 5 (of_account (diverts (rule (Some event.NoAnswer) carol ∷ []) false) true 0) free) {
         later = λ k. stands free free
@@ -323,7 +323,8 @@ pub record AreOutcomes : Type 0 where
       }) (record { at = 20100; how = NoReply } ∷ [])
       ≡ comes_to (target bob None (Offered false) ∷ target carol (by carol 408) NotOffered ∷ target vm (by vm 302) (Offered false) ∷ []) Pending
 
--- what came of an attempt of which no turn is asked: a provisional response ends nothing, a 2xx answers, and the caller gives up; and what follows under whatever record
+-- the end of an attempt after which no next step is evaluated: a provisional response ends nothing, a 2xx answers, and the caller abandons the call; and what follows under any
+-- record
 pub record AreEnds : Type 0 where
   pub trying : end_by (Response 100 None) false ≡ None
   pub ringing : end_by (Response 180 None) false ≡ None

@@ -1,8 +1,8 @@
-//! What tests assert.
+//! The assertions of tests.
 
 use std::process::Abort;
 
-/// Ends the test where a line of the table of this name is wrong, whose number is not 0. It is called for each table, since a call costs its caller's proof less than an
+/// Fails the test where a line of the table of this name is wrong, whose number is not 0. It is called for each table, since a call makes its caller's proof cheaper than an
 /// assertion does.
 pub fn assert_right(rt: &impl Abort, table: &str, wrong: usize) {
     assert_eq!(rt; wrong, 0, "{table}");

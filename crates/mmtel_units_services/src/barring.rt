@@ -1,7 +1,7 @@
 //! Barring in both directions, and the rejection of anonymous callers (TS 24.611).
 //!
-//! An answer is the place of the rule that bars the call, `a` where its caller is rejected as anonymous, `-` where it is let through. A row of incoming calls has two: of a
-//! user who does not reject anonymous callers, and of one who does. A row of outgoing calls has one, and the other party is the target.
+//! A result is the index of the rule that bars the call, `a` where its caller is rejected as anonymous, `-` where it is allowed. A row of incoming calls has two: of a user who
+//! does not reject anonymous callers, and of one who does. A row of outgoing calls has one, and the other party is the target.
 
 use crate::asserting::assert_right;
 use crate::reading::{Called, Table, facts, read_called, sheet_of, wrong_line};
@@ -10,7 +10,7 @@ use mmtel_rules::all_bar;
 use mmtel_sheet_values::{BarPart, Sheet};
 use mmtel_told::Told;
 
-/// The place of a rule that bars, or of none.
+/// The index of a rule that bars, or `-`.
 fn place(rule: Option<usize>) -> &'static [u8] {
     match rule {
         None => b"-",
@@ -21,7 +21,7 @@ fn place(rule: Option<usize>) -> &'static [u8] {
     }
 }
 
-/// The letter of a refusal, or of none.
+/// The letter of a refusal, or `-`.
 fn refused(refusal: Option<Refusal>) -> &'static [u8] {
     match refusal {
         None => b"-",
@@ -30,7 +30,7 @@ fn refused(refusal: Option<Refusal>) -> &'static [u8] {
     }
 }
 
-/// Tells why the user whose record has these keys and rules refuses a call.
+/// Writes why the user whose record has these keys and rules refuses a call.
 fn tell_incoming(told: &mut Told, keys: &[u8], line: &[u8], called: &Called) {
     let sheet = sheet_of(told, b"incoming-communication-barring", keys, b"", line);
     if let Some(sheet) = sheet {
@@ -39,7 +39,7 @@ fn tell_incoming(told: &mut Told, keys: &[u8], line: &[u8], called: &Called) {
     }
 }
 
-/// Calls that come in.
+/// Incoming calls.
 struct Incoming;
 
 impl Table for Incoming {
@@ -51,7 +51,7 @@ impl Table for Incoming {
     }
 }
 
-/// The rule of the record that bars a call on its way out, if one does.
+/// The rule of the record that bars an outgoing call, if one does.
 fn barred_by(sheet: &Sheet, called: &Called) -> Option<usize> {
     match outgoing(sheet, &facts(called)) {
         None => None,
@@ -59,14 +59,14 @@ fn barred_by(sheet: &Sheet, called: &Called) -> Option<usize> {
     }
 }
 
-/// Tells which rule of the record bars a call on its way out; `?` where `all_bar` says otherwise.
+/// Writes which rule of the record bars an outgoing call; `?` where `all_bar` gives another result.
 fn tell_bars(told: &mut Told, sheet: &Sheet, part: &BarPart, called: &Called) {
     let rule = barred_by(sheet, called);
     let same = rule == all_bar(part.rules.items(), &facts(called));
     told.add_if(same, place(rule), b"?");
 }
 
-/// Tells which of these rules bars a call on its way out.
+/// Writes which of these rules bars an outgoing call.
 fn tell_outgoing(told: &mut Told, line: &[u8], called: &Called) {
     if let Some(sheet) = sheet_of(told, b"outgoing-communication-barring", b"", b"", line) {
         match &sheet.outgoing {
@@ -77,7 +77,7 @@ fn tell_outgoing(told: &mut Told, line: &[u8], called: &Called) {
     }
 }
 
-/// Calls that go out.
+/// Outgoing calls.
 struct Outgoing;
 
 impl Table for Outgoing {
@@ -88,7 +88,7 @@ impl Table for Outgoing {
     }
 }
 
-/// Everybody is barred but for exceptions; the rule that is named; anonymous callers.
+/// Everybody is barred with exceptions; the rule that is returned; anonymous callers.
 const INCOMING: &[u8] =
     b"# Everybody is barred and alice is let through, in both orders of the rules, and by an exception of one rule; without the exception she is barred too.
 :allow = false, many = \"*\"&allow = true, one = [\"sip:alice@home.example\"]

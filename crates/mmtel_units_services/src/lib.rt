@@ -1,14 +1,14 @@
-//! Tests of service records, of the services' public calls and of their precedence, and of the outside, which keeps records and is asked for them (`web`): one module a
-//! crate or two, a table a test.
+//! Tests of service records, of the services' public functions and of their precedence, and of the environment, which stores records and receives requests for them (`web`): one
+//! module for a crate or two, a table for a test.
 //!
-//! What the contracts say needs no test. Here stand rows whose answers come from the standards (RFC 4745, TS 24.604, 24.607, 24.608, 24.610, 24.611 and 24.615, RFC 4458),
-//! which show that the definitions mean what is wanted. Rules are written as records write them.
+//! What the contracts claim needs no test. These are rows whose results come from the standards (RFC 4745, TS 24.604, 24.607, 24.608, 24.610, 24.611 and 24.615, RFC 4458), which
+//! show that the definitions mean what is intended. Rules are written in the format of records.
 //!
-//! A line of a table that begins with `#` says what follows, and one that begins with `:` has the rules or the record for the rows below it. A row has the answers, a `|`,
-//! and what is asked.
+//! A line of a table that begins with `#` is a heading, and one that begins with `:` has the rules or the record for the rows below it. A row has the results, a `|`, and the
+//! input.
 //!
-//! Of records (`records`, `views`, `printing`) stand those whose sheets and faults are written down from the tables of keys, texts written by hand, and one call of each
-//! function that takes memory, with memory enough, since a body that always answers want of memory meets its contract too.
+//! The tables of records (`records`, `views`, `printing`) have those whose sheets and faults were written from the tables of keys, texts written by hand, and one call of each
+//! function that allocates, with enough memory, since a body that always returns out of memory satisfies its contract too.
 #![tactic(auto)]
 
 #[cfg(test)]

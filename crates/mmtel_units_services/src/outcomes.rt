@@ -1,7 +1,8 @@
 //! Worked rows of the definition of Outcome.
 ghost use Rattle.mmtel_units_services.specs.Rows.{AreEnds, AreOutcomes};
 
-/// A law, and no code: what the definition of Outcome gives for each worked row, as the standards have it; and what ends an attempt of which no turn is asked.
+/// A theorem, without code: the values of the definition of Outcome for each worked row are those of the standards; and so are the ends of attempts after which no next step is
+/// evaluated.
 pub fn rows_have_these_outcomes()
     ensures rows { AreOutcomes }
     ensures ends { AreEnds }

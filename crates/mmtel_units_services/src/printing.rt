@@ -6,7 +6,7 @@ use mmtel_sheets::{BarPart, DiversionPart, Restriction, Sheet, print_sheet, read
 use mmtel_told::Told;
 use std::alloc::Global;
 
-/// The number of the first line of a record that is printed otherwise; 0 where none is. A line `#` ends it.
+/// The number of the first line in which the printed record differs; 0 where there is none. A line `#` ends it.
 fn wrong_text(alloc: Global, printed: Result<Text, NoMemory>, record: &[u8]) -> usize {
     let mut told = Told::new(alloc);
     let printed = told.made(printed);
@@ -15,7 +15,7 @@ fn wrong_text(alloc: Global, printed: Result<Text, NoMemory>, record: &[u8]) -> 
     told.wrong_line(record)
 }
 
-/// The record of a sheet that says nothing: each part that is always there, with its default.
+/// The record of an empty sheet: each part that is always present, with its default.
 const EMPTY: &[u8] = b"version = 2
 
 [originating-identity-presentation]
@@ -164,7 +164,7 @@ rule = [{allow = true, anonymous = true, communication-diverted = true}, {allow 
 rule = [{allow = false, many = "far.example", except = ["tel:+1"], international = true}, {allow = true, day-from = "00:00", day-until = "09:05", days = ["wed"]}]
 "#;
 
-/// The same as it is printed, with a line `#` behind it.
+/// The same as it is printed, with a line `#` after it.
 const PRINTED: &[u8] = br#"version = 2
 
 [communication-diversion]
@@ -305,7 +305,7 @@ mode = "temporary"
 #
 "#;
 
-/// The number of the first line that the sheet of a record is not printed as.
+/// The number of the first line in which the printed sheet of a record differs.
 fn wrong_record(alloc: Global, record: &[u8], wanted: &[u8]) -> usize {
     match read_sheet(alloc, record) {
         Ok(sheet) => {
@@ -317,7 +317,7 @@ fn wrong_record(alloc: Global, record: &[u8], wanted: &[u8]) -> usize {
     }
 }
 
-/// Sheets without rules; and a rule of each kind: what is printed of the record, and of what was printed.
+/// Sheets without rules; and a rule of each kind: what is printed for the record, and for what was printed.
 #[test]
 fn prints_sheets(rt: HostRuntime) {
     assert_right(&rt, "empty", wrong_empty(rt.alloc()));

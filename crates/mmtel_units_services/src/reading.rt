@@ -1,9 +1,9 @@
 //! Records and calls from the rows of tables.
 //!
-//! A table is one text, which is told again. A line that begins with `#` says what follows. One that begins with `:` has the rules of the rows below it, as records write
-//! them, parted by `&`. A row is its answers and, behind `|`, what is asked.
-//! A call is its facts, the sip URI of the other party and its tel URI, parted by `|`. The facts are `r` where the caller hides who it is, else `-`; the moment; and the
-//! kinds of media that are offered, each after a blank.
+//! A table is one text, which is written again with the actual results. A line that begins with `#` is a heading. One that begins with `:` has the rules of the rows below it, in
+//! the format of records, separated by `&`. A row is its results and, after `|`, the input.
+//! A call is its facts, the sip URI of the other party and its tel URI, separated by `|`. The facts are `r` where the caller is anonymous, else `-`; the moment; and the kinds of
+//! media that are offered, each after a space.
 
 use mmtel_lex::{List, Text, Uri, read_uri};
 use mmtel_rules::{Facts, Identities2};
@@ -15,13 +15,13 @@ use mmtel_types::Moment;
 use mmtel_types::limits::LAST_MOMENT;
 use std::alloc::Global;
 
-/// What a table is about.
+/// The test of a table.
 pub trait Table {
-    /// Tells the answers of a row under the line above it that begins with `:`, which is of no bytes where there is none.
+    /// Writes the results of a row under the line above it that begins with `:`, which has no bytes where there is none.
     fn tell(told: &mut Told, line: &[u8], asked: &[u8]);
 }
 
-/// Tells a row again.
+/// Writes a row with its results.
 fn tell_row<T: Table>(told: &mut Told, line: &[u8], row: &[u8]) {
     let (_answers, asked) = cut(b'|', row);
     T::tell(told, line, asked);
@@ -29,7 +29,7 @@ fn tell_row<T: Table>(told: &mut Told, line: &[u8], row: &[u8]) {
     told.add_line(asked);
 }
 
-/// The number of the first line of a table, from 1, that is not told again; 0 where each is.
+/// The number of the first line of a table, from 1, that differs from the actual one; 0 where none does.
 pub fn wrong_line<T: Table>(alloc: Global, table: &[u8]) -> usize {
     let mut told = Told::new(alloc);
     let mut above: &[u8] = b"";
@@ -53,7 +53,7 @@ pub fn wrong_line<T: Table>(alloc: Global, table: &[u8]) -> usize {
     told.wrong_line(table)
 }
 
-/// What a row says of a call.
+/// A call of a row.
 #[derive(Drop)]
 pub struct Called {
     pub party: Identities2,
@@ -75,7 +75,7 @@ pub fn facts(called: &Called) -> Facts<'_> {
     }
 }
 
-/// The sheet of the record of these tables, which are parted by this byte.
+/// The sheet of the record of these tables, which are separated by this byte.
 pub fn read_tables(told: &mut Told, parted_by: u8, tables: &[u8]) -> Option<Sheet> {
     let mut text = Told::new(told.alloc);
     text.add_ended(parted_by, tables, b"\n");
@@ -93,7 +93,7 @@ pub fn identity(told: &mut Told, uri: &[u8]) -> Option<Uri> {
     told.noted(uri)
 }
 
-/// The party of a sip URI and a tel URI, of which each may be absent.
+/// The party with a sip URI and a tel URI, of which each may be absent.
 fn party(told: &mut Told, uris: &[u8]) -> Identities2 {
     let (sip, tel) = cut(b'|', uris);
     let sip = identity(told, sip);
@@ -101,7 +101,7 @@ fn party(told: &mut Told, uris: &[u8]) -> Identities2 {
     Identities2 { sip, tel }
 }
 
-/// The kinds of media, with a blank between two, at most four.
+/// The kinds of media, with a space between two, at most four.
 fn kinds(told: &mut Told, words: &[u8]) -> List<Text> {
     let mut kinds = List::new();
     let mut rest = words;
@@ -136,7 +136,7 @@ fn moment(told: &mut Told, digits: &[u8]) -> Moment {
     }
 }
 
-/// What is so of the call, and the digits of the moment.
+/// The flags of the call, and the digits of the moment.
 fn flagged(when: &[u8]) -> (u8, &[u8]) {
     match when {
         [flag, digits @ ..] => (*flag, digits),
@@ -144,8 +144,8 @@ fn flagged(when: &[u8]) -> (u8, &[u8]) {
     }
 }
 
-/// The call of a row: the facts, and the URIs of the other party. Its first byte is `r` where the caller hides who it is, `d` where the call was diverted before, `a` where
-/// its target is abroad, and else `-`.
+/// The call of a row: the facts, and the URIs of the other party. Its first byte is `r` where the caller is anonymous, `d` where the call was diverted before, `a` where its target
+/// is abroad, and else `-`.
 pub fn read_called(told: &mut Told, row: &[u8]) -> Called {
     let (known, uris) = cut(b'|', row);
     let (when, media) = cut(b' ', known);
@@ -163,7 +163,7 @@ pub fn read_called(told: &mut Told, row: &[u8]) -> Called {
     }
 }
 
-/// Writes a rule behind these keys.
+/// Writes a rule after these keys.
 fn write_rule(out: &mut Told, keys: &[u8], rule: &[u8]) {
     out.add(b"{ ");
     out.add(keys);
@@ -171,7 +171,7 @@ fn write_rule(out: &mut Told, keys: &[u8], rule: &[u8]) {
     out.add(b" }, ");
 }
 
-/// Writes the rules of a line, at most nine, each behind these keys.
+/// Writes the rules of a line, at most nine, each after these keys.
 fn write_rules(out: &mut Told, keys: &[u8], line: &[u8]) {
     let mut rest = line;
     for _ in 0..8 {
@@ -183,7 +183,7 @@ fn write_rules(out: &mut Told, keys: &[u8], line: &[u8]) {
     write_rule(out, keys, rest);
 }
 
-/// The sheet of the record of one table: these keys of the table, and the rules of a line, each behind these keys of a rule. A line of no bytes has no rules, and any other
+/// The sheet of the record of one table: these keys of the table, and the rules of a line, each after these keys of a rule. A line of no bytes has no rules, and any other
 /// begins with `:`. The record is of the second version.
 pub fn sheet_of(
     told: &mut Told,

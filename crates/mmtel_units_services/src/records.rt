@@ -1,7 +1,7 @@
 //! Service records: the sheet that is read of each, or its first fault.
 //!
-//! A table is one text: the lines of a record, behind them those that reading it answers, each behind `=`, and an empty line. A line behind `*` is meant 63 times, behind
-//! `**` 64 times, behind `***` 65 times.
+//! A table is one text: the lines of a record, after them the lines of its expected result, each after `=`, and an empty line. A line after `*` is repeated 63 times, after `**` 64
+//! times, after `***` 65 times.
 
 use crate::asserting::assert_right;
 use mmtel_lex::{List, Text, Uri, print_uri};
@@ -99,7 +99,7 @@ fn add_weekly(told: &mut Told, weekly: Option<Weekly>) {
     }
 }
 
-/// The parts of a condition that are there.
+/// The parts of a condition that are present.
 fn add_condition(told: &mut Told, condition: &Condition) {
     add_who(told, &condition.identity);
     add_flag(told, b"anonymous", condition.anonymous);
@@ -126,7 +126,7 @@ fn add_action(told: &mut Told, action: &Action) {
     }
 }
 
-/// Adds a line for each rule: when it holds, and what it does.
+/// Adds a line for each rule: its condition and its action.
 fn add_rules(told: &mut Told, rules: &List<Rule>) {
     for rule in rules.items() {
         told.add(b"rule");
@@ -160,7 +160,7 @@ fn add_bar(told: &mut Told, word: &[u8], part: &Option<BarPart>) {
     }
 }
 
-/// Adds a line for a restriction that says anything.
+/// Adds a line for a restriction that differs from the default.
 fn add_restriction(told: &mut Told, word: &[u8], restriction: Restriction) {
     if restriction.active || restriction.permanent || restriction.by_default {
         told.add(word);
@@ -179,7 +179,7 @@ fn add_waiting(told: &mut Told, calls: Option<u8>) {
     }
 }
 
-/// Adds a line for each part of the sheet that is not as in an empty record.
+/// Adds a line for each part of the sheet that differs from an empty record.
 fn add_sheet(told: &mut Told, sheet: &Sheet) {
     add_diversion(told, &sheet.diversion);
     add_bar(told, b"incoming", &sheet.incoming);
@@ -207,7 +207,7 @@ fn add_fault(told: &mut Told, fault: &SheetFault) {
     }
 }
 
-/// Tells what reading the record answers: the lines of the sheet, or a line for its first fault.
+/// Writes the result of reading the record: the lines of the sheet, or a line for its first fault.
 fn tell_read(told: &mut Told, record: &[u8]) {
     match read_sheet(told.alloc, record) {
         Ok(sheet) => {
@@ -221,7 +221,7 @@ fn tell_read(told: &mut Told, record: &[u8]) {
     }
 }
 
-/// How often a line is meant, and the line.
+/// How often a line is repeated, and the line.
 fn repeated(line: &[u8]) -> (u8, &[u8]) {
     match line {
         [b'*', b'*', b'*', rest @ ..] => (65, rest),
@@ -238,7 +238,7 @@ fn add_repeated(text: &mut Told, line: &[u8]) {
     }
 }
 
-/// Adds the lines of the first record of a table, and those that it is to give; gives what follows the row's end, an empty line.
+/// Adds the lines of the first record of a table, and its expected lines; returns what follows the row's end, an empty line.
 fn add_row<'a>(record: &mut Told, wanted: &mut Told, table: &'a [u8]) -> &'a [u8] {
     let mut rest = table;
     for _ in 0..120 {
@@ -253,7 +253,7 @@ fn add_row<'a>(record: &mut Told, wanted: &mut Told, table: &'a [u8]) -> &'a [u8
     rest
 }
 
-/// Whether the first record of a table gives another line than those that stand behind `=`, and what follows it.
+/// Whether the result for the first record of a table differs from the lines after `=`, and what follows it.
 fn is_wrong(alloc: Global, table: &[u8]) -> (bool, &[u8]) {
     let mut record = Told::new(alloc);
     let mut wanted = Told::new(alloc);
@@ -264,7 +264,7 @@ fn is_wrong(alloc: Global, table: &[u8]) -> (bool, &[u8]) {
     )
 }
 
-/// The number of the first record of a table, from 1, that gives another line; 0 where none does.
+/// The number of the first record of a table, from 1, with another result; 0 where there is none.
 fn wrong_record(alloc: Global, table: &[u8]) -> usize {
     let mut rest = table;
     for before in 0..60 {
@@ -277,7 +277,7 @@ fn wrong_record(alloc: Global, table: &[u8]) -> usize {
     rest.len()
 }
 
-/// The number of the first line, from 1, that reading this record answers otherwise; 0 where none is.
+/// The number of the first line, from 1, in which the result of reading this record differs; 0 where there is none.
 fn wrong_answer(alloc: Global, record: &[u8], answer: &[u8]) -> usize {
     let mut told = Told::new(alloc);
     tell_read(&mut told, record);
@@ -765,7 +765,7 @@ rule = []
 =waiting 2
 ";
 
-/// Windows: the ends of the range, offsets, fractions that are taken down, and what is no time.
+/// Windows: the ends of the range, offsets, fractions that are rounded down, and what is no time.
 const TIMES: &[u8] = br#"[[outgoing-communication-barring.rule]]
 allow = true
 from = "0001-01-01T00:00:00Z"
@@ -1039,7 +1039,7 @@ active = false
 "#;
 
 /// Records: keys, ranges and defaults of tables and rules, whole sheets, times, limits; and the first fault where there are several.
-/// Versions; and the keys of the second that stand alone, which are none of the first.
+/// Versions; and the keys of the second alone, which are none of the first.
 const VERSIONS: &[u8] = br#"version = 2
 
 version = 1

@@ -1,8 +1,8 @@
-//! Whose identity is restricted, and who is shown whose (TS 24.607 and 24.608, RFC 3323 §4.2).
+//! Whose identity is restricted, and to whom which identity is presented (TS 24.607 and 24.608, RFC 3323 §4.2).
 //!
-//! The answers of a row are four: `r` where the caller is restricted, `r` where the called party is, `p` where the called party is shown the caller, `p` where the caller
-//! is shown the called party; `-` for each that is not so. Behind them stand the words of Privacy. The record of the account that is served stands above, as tables parted
-//! by `&`; above the first rows there is no account.
+//! The results of a row are four: `r` where the caller is restricted, `r` where the called party is, `p` where the caller is presented to the called party, `p` where the called
+//! party is presented to the caller; `-` for each that is false. After them are the words of Privacy. The record of the account that is served is above, as tables separated by
+//! `&`; above the first rows there is no account.
 
 use crate::asserting::assert_right;
 use crate::reading::{Table, read_tables, wrong_line};
@@ -11,7 +11,7 @@ use mmtel_sheet_values::Sheet;
 use mmtel_told::{Told, cut};
 use mmtel_types::{PrivacySet, Side};
 
-/// Whether the word is one of these, which have a blank between two.
+/// Whether the word is one of these, which have a space between two.
 fn has(words: &[u8], word: &[u8]) -> bool {
     let mut rest = words;
     for _ in 0..8 {
@@ -36,7 +36,7 @@ fn privacy(words: &[u8]) -> PrivacySet {
     }
 }
 
-/// Tells the four answers.
+/// Writes the four results.
 fn tell_answers(told: &mut Told, words: &PrivacySet, sheet: Option<&Sheet>) {
     told.add_if(caller_restricted(words, sheet), b"r", b"-");
     told.add_if(callee_restricted(words, sheet), b"r", b"-");

@@ -1,9 +1,9 @@
 //! Conditions over facts, and the rules that decide (RFC 4745 §6 and §7, TS 24.604 §4.9.1).
 //!
-//! The answers of a row are five: as the call arrives at a registered user, as it arrives at one who is not registered, at a busy user, without an answer, at a user who
-//! cannot be reached. Each is the place of the first rule that holds, or `-`. Rules divert, and a line has the keys behind the target.
+//! The results of a row are five: as the call arrives at a registered user, as it arrives at one who is not registered, at a busy user, without an answer, at a user who cannot be
+//! reached. Each is the index of the first rule that holds, or `-`. Rules divert, and a line has the keys after the target.
 //!
-//! Of targets the answer is `a` where one is abroad, else `-`; a line has the digits of the home country.
+//! Of targets the result is `a` where one is abroad, else `-`; a line has the digits of the home country.
 
 use crate::asserting::assert_right;
 use crate::reading::{Called, Table, facts, identity, read_called, sheet_of, wrong_line};
@@ -12,14 +12,14 @@ use mmtel_rules::{Facts, When, abroad, first, holds};
 use mmtel_sheet_values::Rule;
 use mmtel_told::Told;
 
-/// The place of the first rule that holds, asked one after the other.
+/// The index of the first rule that holds, evaluated one after the other.
 fn first_by_holds(rules: &[Rule], facts: &Facts, when: When) -> Option<usize> {
     rules
         .iter()
         .position(|rule| holds(&rule.condition, facts, when))
 }
 
-/// The place of the first rule that holds.
+/// The index of the first rule that holds.
 fn place(rule: Option<usize>) -> &'static [u8] {
     match rule {
         None => b"-",
@@ -31,14 +31,14 @@ fn place(rule: Option<usize>) -> &'static [u8] {
     }
 }
 
-/// Tells an answer of a row; `?` where `first` and `holds` do not agree.
+/// Writes a result of a row; `?` where `first` and `holds` do not agree.
 fn tell_answer(told: &mut Told, rules: &[Rule], facts: &Facts, when: When) {
     let rule = first(rules, facts, when);
     let same = rule == first_by_holds(rules, facts, when);
     told.add_if(same, place(rule), b"?");
 }
 
-/// Tells the five answers of rules.
+/// Writes the five results of rules.
 fn tell_answers(told: &mut Told, rules: &[Rule], facts: &Facts) {
     tell_answer(told, rules, facts, When::Arrival { registered: true });
     tell_answer(told, rules, facts, When::Arrival { registered: false });
@@ -47,7 +47,7 @@ fn tell_answers(told: &mut Told, rules: &[Rule], facts: &Facts) {
     tell_answer(told, rules, facts, When::NotReachable);
 }
 
-/// Tells the five answers of the rules of a line.
+/// Writes the five results of the rules of a line.
 fn tell_of(told: &mut Told, line: &[u8], called: &Called) {
     let target = b"target = \"sip:vm@far.example\"";
     if let Some(sheet) = sheet_of(told, b"communication-diversion", b"", target, line) {
@@ -356,7 +356,7 @@ impl Table for Targets {
     }
 }
 
-/// Numbers of the home country and of others, as tel URIs and as sip URIs that stand for one (TS 24.611 §4.9.1.3, RFC 3966 §5.1.4, RFC 3261 §19.1.6).
+/// Numbers of the home country and of others, as tel URIs and as sip URIs that represent one (TS 24.611 §4.9.1.3, RFC 3966 §5.1.4, RFC 3261 §19.1.6).
 const TARGETS: &[u8] = b"# No home country is known.
 -|tel:+33155
 -|tel:+4930222

@@ -27,14 +27,14 @@ fn moment(digits: &[u8]) -> Option<Moment> {
     Moment::new(number_up_to(u64::MAX, digits)?)
 }
 
-/// A sheet with so many calls at once.
+/// A sheet with a capacity of so many calls.
 fn waiting(calls: u8) -> Sheet {
     let mut sheet = Sheet::empty();
     sheet.waiting = Some(calls);
     sheet
 }
 
-/// Tells a number, or `-` for none.
+/// Writes a number, or `-` for none.
 fn tell_number(told: &mut Told, number: Option<u64>) {
     match number {
         None => told.add(b"-\n"),
@@ -45,7 +45,7 @@ fn tell_number(told: &mut Told, number: Option<u64>) {
     }
 }
 
-/// Tells how many calls the sheet allows at once.
+/// Writes the capacity in the sheet.
 fn tell_calls(told: &mut Told, sheet: &Sheet) {
     match sheet.waiting {
         None => tell_number(told, None),
@@ -53,7 +53,7 @@ fn tell_calls(told: &mut Told, sheet: &Sheet) {
     }
 }
 
-/// Tells how many calls the sheet allows at once; `none` where there is no sheet.
+/// Writes the capacity in the sheet; `none` where there is no sheet.
 fn tell_sheet(told: &mut Told, sheet: Option<&Sheet>) {
     match sheet {
         None => told.add(b"none\n"),
@@ -68,7 +68,7 @@ fn tell_shared(told: &mut Told, shared: &Option<SharedSheet>) {
     }
 }
 
-/// Tells the no-reply time of a record, in which `|` ends a line.
+/// Writes the no-reply time of a record, in which `|` ends a line.
 fn tell_time(told: &mut Told, record: &[u8]) {
     if let Some(sheet) = read_tables(told, b'|', record) {
         tell_number(told, sheet.no_reply_time());
@@ -76,7 +76,7 @@ fn tell_time(told: &mut Told, record: &[u8]) {
     }
 }
 
-/// Tells how many calls at once a text allows that was kept.
+/// Writes the capacity in a text that was stored.
 fn tell_text(told: &mut Told, text: &[u8]) {
     match kept_sheet(told.alloc, text) {
         Ok(sheet) => {
@@ -101,7 +101,7 @@ impl Views {
         }
     }
 
-    /// Puts a sheet in the place of the account's without memory, and tells the one that was there.
+    /// Puts a sheet in place of the account's previous one without allocation, and writes the previous one.
     fn replace_by(&mut self, told: &mut Told, account: Account, sheet: SharedSheet) {
         match self.view.reserve(account) {
             Ok(()) => tell_shared(told, &self.view.replace(account, sheet)),
@@ -109,7 +109,7 @@ impl Views {
         }
     }
 
-    /// The same of a sheet with so many calls at once.
+    /// The same of a sheet with a capacity of so many calls.
     fn replace(&mut self, told: &mut Told, account: Account, digits: &[u8]) {
         let calls = number_up_to(9, digits).unwrap_or(0);
         let sheet = waiting(u8::try_from(calls).unwrap_or(0));
@@ -119,7 +119,7 @@ impl Views {
         }
     }
 
-    /// Keeps the account's sheet, and tells it.
+    /// Keeps the account's sheet, and writes it.
     fn keep(&mut self, told: &mut Told, account: Account) {
         match self.view.shared(account) {
             Ok(shared) => self.kept = shared,
@@ -134,7 +134,7 @@ impl Views {
         told.keep(done.is_ok());
     }
 
-    /// Tells whether the account is registered at this moment.
+    /// Writes whether the account is registered at this moment.
     fn tell_registered(&self, told: &mut Told, account: Account, digits: &[u8]) {
         match moment(digits) {
             Some(now) => told.add_if(self.view.registered(account, now), b"yes\n", b"no\n"),
@@ -142,7 +142,7 @@ impl Views {
         }
     }
 
-    /// What becomes of the sheets.
+    /// The states of the sheets.
     fn tell_sheets(&mut self, told: &mut Told, word: &[u8], account: Account, rest: &[u8]) {
         match word {
             b"reserve" => self.reserve(told, account),
@@ -169,7 +169,7 @@ impl Rows for Views {
     }
 }
 
-/// What was put is there, in the place of what was there before; the sheets of other accounts stay. A sheet is told by the calls that it allows at once.
+/// What was put is there, in place of what was there before; the sheets of other accounts are unchanged. A sheet is written by its capacity.
 const KEPT: &[u8] = b"> put 1 communication-waiting.calls = 4
 > put 4294967295 communication-waiting.calls = 5
 > put 1 communication-waiting.calls = 6
@@ -184,7 +184,7 @@ none
 5
 ";
 
-/// Room is no sheet and takes none away; a sheet that is kept stays as it is when another is put in its place.
+/// Reserved space is no sheet and removes none; a sheet that is kept is unchanged when another replaces it.
 const REPLACED: &[u8] = b"> reserve 1
 > sheet 1
 none
@@ -210,7 +210,7 @@ none
 none
 ";
 
-/// The no-reply time is there where the diversion is active and has a rule for calls that are not answered. A `|` ends a line of a record.
+/// There is a no-reply time where the diversion is active and has a rule for calls that are not answered. A `|` ends a line of a record.
 const TIMES: &[u8] = b"> time 
 -
 > time [communication-diversion]
@@ -227,7 +227,7 @@ const TIMES: &[u8] = b"> time
 180000
 ";
 
-/// A text that was kept and is no record counts as the empty one.
+/// A text that was stored and is no record counts as the empty one.
 const TEXTS: &[u8] = b"> text 
 -
 > text communication-waiting.calls = 4
@@ -270,7 +270,7 @@ yes
 yes
 ";
 
-/// The number of the first line of a table that is not told again; 0 where each is.
+/// The number of the first line of a table that differs from the actual one; 0 where none does.
 fn wrong(alloc: Global, table: &[u8]) -> usize {
     let mut views = Views {
         view: SheetView::new(alloc),

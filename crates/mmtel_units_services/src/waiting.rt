@@ -1,4 +1,4 @@
-//! How many calls a user may have at once (TS 24.615), and which sides of a call hold it (RFC 3264 §8.4, TS 24.610).
+//! How many calls a user may have at the same time (TS 24.615), and which sides of a call hold it (RFC 3264 §8.4, TS 24.610).
 
 use crate::asserting::assert_right;
 use crate::reading::{Table, wrong_line};
@@ -9,7 +9,7 @@ use mmtel_told::Told;
 use mmtel_types::Side;
 use mmtel_waiting::{HoldState, capacity, is_busy};
 
-/// The capacity of the record above, whose keys stand behind `:`, and whether its user is busy in so many calls.
+/// The capacity of the record above, whose keys follow `:`, and whether its user is busy with so many calls.
 struct BusyUsers;
 
 /// A number of calls.
@@ -80,7 +80,7 @@ fn direction_of(letter: u8) -> Direction {
     }
 }
 
-/// The state after these steps, each of two letters: a side, and the direction that it asks for.
+/// The state after these steps, each of two letters: a side, and the direction that it offers.
 fn state_after(told: &mut Told, steps: &[u8]) -> HoldState {
     let mut state = HoldState::default();
     let mut rest = steps;

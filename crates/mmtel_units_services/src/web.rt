@@ -1,7 +1,7 @@
-//! The outside: keepers in memory and over a database, the texts of records, links, HTTP, and requests with their replies.
+//! The environment: keepers in memory and over a database, the texts of records, links, HTTP, and requests with their replies.
 //!
-//! A table is one text: a line that begins with `> ` has what is asked, and the line below it the answer. In both `%` stands for CR and `~` for LF. A test writes the lines
-//! of the questions and the answers that it is given, and compares the whole.
+//! A table is one text: a line that begins with `> ` has the input, and the line below it the result. In both `%` represents CR and `~` LF. A test writes the lines of the inputs
+//! and the actual results, and compares the whole.
 
 mod heads;
 mod keeping;

@@ -1,4 +1,4 @@
--- The empty text is a record that says nothing.
+-- The empty text is a record without settings.
 use Rattle.std.proofs.Common.{◌≡◌, [], Some, Ok, Err, true, refl, ap, ◌∙◌}
 use Rattle.std.specs.Prelude.{if◌then◌else◌}
 use Rattle.std.specs.Str.{is_utf8, chars}

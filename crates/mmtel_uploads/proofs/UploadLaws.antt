@@ -1,4 +1,4 @@
--- What reading a record answers, as what an upload is, and as the sheet of a text that was kept.
+-- The result of reading a record, as an upload, and as the sheet of a text that was stored.
 use Rattle.std.proofs.Common.{◌≡◌, ℕ, List, Ok, refl, sym, ap}
 use Rattle.mmtel_sheet_grammar.specs.Texts.{sheet_read, sheet_or_empty, kept_sheet, TellsFault}
 use Rattle.mmtel_sheet_grammar.specs.declared.faults.SheetFault.{SheetFault}

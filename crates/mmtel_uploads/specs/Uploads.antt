@@ -1,4 +1,4 @@
--- What the bytes of an upload are (3GPP TS 24.623 §5): a service record, or the line that tells their first fault.
+-- The content of an upload (3GPP TS 24.623 §5): a service record, or the line with the first fault of the bytes.
 use Rattle.std.specs.Prelude.{ℕ, List, [], ◌++◌, Ok, Err, codes, decimal}
 use Rattle.mmtel_sheet_grammar.specs.Answers.{Read}
 use Rattle.mmtel_sheet_grammar.specs.Texts.{sheet_read}
@@ -8,7 +8,7 @@ use Rattle.mmtel_sheet_values.specs.declared.values.Sheet.{Sheet}
 use Rattle.mmtel_uploads.specs.declared.uploads.Upload.{Upload}
 use Rattle.mmtel_uploads.specs.declared.uploads.Upload.TheVariants.{Accepted, Refused}
 
--- the line that tells the fault
+-- the line with the fault
 abbrev pub fault_text : SheetFault → List ℕ
 fault_text NotToml = codes "not toml\n"
 fault_text (Unknown key) = codes "unknown " ++ (key ++ codes "\n")

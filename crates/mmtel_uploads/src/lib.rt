@@ -1,4 +1,4 @@
-//! Texts of service records, uploaded, checked or kept: what the bytes of one say, or the line that tells their first fault.
+//! Texts of service records, uploaded, checked or stored: the content of one, or the line with its first fault.
 #![tactic(auto)]
 
 pub mod laws;

@@ -1,4 +1,4 @@
-//! What an upload is.
+//! The content of an upload.
 ghost use Rattle.std.specs.Prelude.{◌≡◌, ◌≢◌, ◌++◌, ◌∷◌, [], IfOk, OnOk, codes, decimal};
 ghost use Rattle.mmtel_uploads.specs.Uploads.{upload_of, fault_text};
 ghost use Rattle.mmtel_sheet_grammar.specs.Texts.{kept_sheet};
@@ -12,12 +12,12 @@ use mmtel_sheet_reader::read_sheet;
 use mmtel_sheet_values::Sheet;
 use std::alloc::Global;
 
-/// What an upload is.
+/// The content of an upload.
 #[derive(Drop)]
 pub enum Upload {
     /// A service record.
     Accepted(Sheet),
-    /// None; the line tells its first fault.
+    /// None; the line has its first fault.
     Refused(Text),
 }
 
@@ -44,11 +44,11 @@ fn many_line(alloc: Global, key: &Text, limit: u32) -> Result<Text, NoMemory>
     Ok(line)
 }
 
-/// The line that tells a fault of a service record: `not toml`, or `unknown`, `wrong` or `many` with the key, and LF. No line tells want of memory.
+/// The line with a fault of a service record: `not toml`, or `unknown`, `wrong` or `many` with the key, and LF. There is no line for out of memory.
 ///
 /// # Errors
 ///
-/// Want of memory, and where that is the fault.
+/// Out of memory, also where that is the given fault.
 pub fn fault_text(alloc: Global, fault: &SheetFault) -> Result<Text, NoMemory>
     ensures line { IfOk result (λ line. line ≡ fault_text fault.now) }
     ensures other { IfOk result (λ _. fault.now ≢ kinds.NoMemory) }
@@ -62,11 +62,11 @@ pub fn fault_text(alloc: Global, fault: &SheetFault) -> Result<Text, NoMemory>
     }
 }
 
-/// What the bytes are as an upload.
+/// The upload that the bytes are.
 ///
 /// # Errors
 ///
-/// Want of memory alone.
+/// Out of memory only.
 pub fn upload_of(alloc: Global, bytes: &[u8]) -> Result<Upload, NoMemory>
     ensures exact { IfOk result (λ upload. upload ≡ upload_of bytes.now) }
 {
@@ -79,7 +79,7 @@ pub fn upload_of(alloc: Global, bytes: &[u8]) -> Result<Upload, NoMemory>
     }
 }
 
-/// The sheet of a text that has this fault: that of an account which never said anything. None where memory ran out.
+/// The sheet of a text that has this fault: that of an account without a record. None where memory ran out.
 fn without_record(fault: &SheetFault) -> Result<Sheet, NoMemory>
     ensures its { IfOk result (λ sheet. sheet ≡ empty_sheet) }
     ensures other { IfOk result (λ _. fault.now ≢ kinds.NoMemory) }
@@ -93,11 +93,11 @@ fn without_record(fault: &SheetFault) -> Result<Sheet, NoMemory>
     }
 }
 
-/// The sheet of a text that was kept: where it is no service record, that of an account which never said anything.
+/// The sheet of a text that was stored: where it is no service record, that of an account without a record.
 ///
 /// # Errors
 ///
-/// Want of memory alone.
+/// Out of memory only.
 pub fn kept_sheet(alloc: Global, bytes: &[u8]) -> Result<Sheet, NoMemory>
     ensures exact { IfOk result (λ sheet. sheet ≡ kept_sheet bytes.now) }
 {

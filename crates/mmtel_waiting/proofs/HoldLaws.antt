@@ -1,11 +1,11 @@
--- After directions that were noted one by one: who holds, and how often a hold began.
+-- After directions that were noted one by one: which side holds, and how often a hold began.
 use Rattle.std.proofs.Common.{◌≡◌, ℕ, ◌+◌, Bool, true, false, List, [], ◌∷◌, refl, ap, ◌∙◌, arith}
 use Rattle.std.specs.Prelude.{min, not, ◌&&◌, if◌then◌else◌}
 use Rattle.mmtel_types.specs.declared.sides.Side.{Side}
 use Rattle.mmtel_types.specs.declared.sides.Side.TheVariants.{Caller, Callee}
 use Rattle.mmtel_waiting.specs.Hold.{is_hold, holds_of, Ask, state_after, holds_by_last, times_begun, count_after, most_holds}
 
--- a side holds as the last direction that it asked for says
+-- a side holds exactly where its last direction is a hold
 pub holds_of-state_after : (asks : List Ask) (side : Side) → holds_of (state_after asks) side ≡ holds_by_last side asks
 holds_of-state_after [] Caller = refl
 holds_of-state_after [] Callee = refl
@@ -14,11 +14,11 @@ holds_of-state_after ((Caller, d) ∷ earlier) Callee = holds_of-state_after ear
 holds_of-state_after ((Callee, d) ∷ earlier) Caller = holds_of-state_after earlier Caller
 holds_of-state_after ((Callee, d) ∷ earlier) Callee = refl
 
--- one more, up to the most
+-- one more, up to the maximum
 min-one_more : (n most : ℕ) → min (min n most + 1) most ≡ min (n + 1) most
 min-one_more n most = omega arith
 
--- the count goes on as the times do
+-- the count increases with the number of times
 count_after-times : (n : ℕ) (now before : Bool) → count_after (min n most_holds) before now ≡ min (if now && not before then n + 1 else n) most_holds
 count_after-times n true true = refl
 count_after-times n true false = min-one_more n most_holds
@@ -29,7 +29,7 @@ count-step : (last : Ask) (earlier : List Ask) → (state_after (last ∷ earlie
 count-step (Caller, d) earlier = refl
 count-step (Callee, d) earlier = refl
 
--- the count is how often a hold began, up to the most
+-- the count is how often a hold began, up to the maximum
 pub holds-state_after : (asks : List Ask) → (state_after asks).holds ≡ min (times_begun asks) most_holds
 holds-state_after [] = refl
 holds-state_after (last ∷ earlier) =

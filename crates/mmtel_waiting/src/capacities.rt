@@ -1,10 +1,10 @@
-//! How many calls a user may have at once.
+//! How many calls a user may have at the same time.
 ghost use Rattle.std.specs.Prelude.{◌≡◌};
 ghost use Rattle.mmtel_waiting.specs.Waiting.{capacity_of, is_busy};
 
 use mmtel_sheet_values::Sheet;
 
-/// The calls that the user may have at once: one, or with communication waiting the number of the record (TS 24.615 §4.5.5).
+/// The number of calls that the user may have at the same time: one, or with communication waiting the number in the record (TS 24.615 §4.5.5).
 pub fn capacity(s: &Sheet) -> u8
     ensures exact { result ≡ capacity_of s.now }
 {
@@ -14,7 +14,7 @@ pub fn capacity(s: &Sheet) -> u8
     }
 }
 
-/// Whether a user that has this many live calls is busy as the network sees it: it has as many as it may have, or more (network determined user busy, TS 24.615 §4.5.5).
+/// Whether a user that has this many live calls is network determined user busy: it has as many as it may have, or more (TS 24.615 §4.5.5).
 pub fn is_busy(live: u32, s: &Sheet) -> bool
     ensures exact { result ≡ is_busy live s.now }
 {

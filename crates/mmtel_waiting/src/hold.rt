@@ -12,13 +12,12 @@ pub struct HoldState {
     pub caller: bool,
     /// The called party holds the call.
     pub callee: bool,
-    /// How often a side began to hold the call; it stands still at the greatest number.
+    /// How often a side began to hold the call; it remains at the greatest number.
     pub holds: u32,
 }
 
 impl HoldState {
-    /// Notes the direction that this side asked for in a new offer: the side holds the call exactly for `SendOnly` and `Inactive`, and the count rises where it did not
-    /// hold it before.
+    /// Notes the direction of a new offer of this side: the side holds the call exactly for `SendOnly` and `Inactive`, and the count increases where it did not hold it before.
     pub fn note(&mut self, side: Side, d: Direction)
         ensures exact { self.new ≡ noted self.old side d }
     {
@@ -44,7 +43,7 @@ impl HoldState {
     }
 }
 
-/// Whether the side that asks for this direction holds the call.
+/// Whether the side that offers this direction holds the call.
 fn is_hold(d: Direction) -> bool
     ensures { result ≡ is_hold d }
 {
@@ -54,8 +53,8 @@ fn is_hold(d: Direction) -> bool
     }
 }
 
-/// A law, and no code: after any directions, noted one by one, a side holds the call exactly where the last direction that it asked for is a hold, and the count is how
-/// often a direction that is a hold came to a side that did not hold, or the greatest number where it was more often.
+/// A theorem, without code: after any directions, noted one by one, a side holds the call exactly where the last direction that it offered is a hold, and the count is how often a
+/// direction that is a hold came from a side that did not hold, or the greatest number where it was more often.
 pub fn hold_is_told_by_the_last_directions()
     ensures law { IsToldByTheLast }
 {}

@@ -1,4 +1,4 @@
--- A request for a record sees one account, and an upload is of that account.
+-- The reply to a request for a record depends on one account, and an upload is of that account.
 use Rattle.std.proofs.Common.{◌≡◌, Bool, true, false, ℕ, List, [], Option, Some, None, cond, refl, ap}
 use Rattle.mmtel_types.specs.declared.numbers.Account.{Account}
 use Rattle.mmtel_charging.specs.declared.rows.Row.{Row}
@@ -21,7 +21,7 @@ use Rattle.mmtel_web.specs.declared.answers.Web.{Web}
 use Rattle.mmtel_web.specs.declared.answers.Web.TheVariants as web
 use Rattle.mmtel_directory.specs.declared.directories.WebDirectory.{WebDirectory}
 
--- ---- what one account is answered
+-- ---- the replies for one account
 
 may_alike : (account : Account) (d e : List AccountIdentity) (o : Option Uri) → ((u : Uri) → is_own d account u ≡ is_own e account u) → may_ask d account o ≡ may_ask e account o
 may_alike account d e None own = refl
@@ -57,7 +57,7 @@ pub replied_alike : (account : Account) (d e : WebDirectory) (s t : List (Accoun
     → web_reply d s (asked a) kept rows ≡ web_reply e t (asked a) kept rows
 replied_alike account d e s t a kept rows asks agree same = ap (λ (w : Web). reply_to kept rows w) (done_alike account d e s t a asks agree same)
 
--- ---- of whom an upload is
+-- ---- the account of an upload
 
 module _ (b : Account) (sheet : Sheet) (text reply : List ℕ) where
   upload_for : (account : Account) (body : List ℕ) (u : Upload) → by_upload account body u ≡ web.Store b sheet text reply → account ≡ b

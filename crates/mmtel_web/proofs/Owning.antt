@@ -1,4 +1,4 @@
--- An identity that nobody has is nobody's own, and the first account that has one has it for its own.
+-- An identity of no account is no account's own, and one that some account has is an own identity of the first account that has it.
 use Rattle.std.proofs.Common.{◌≡◌, Bool, true, false, List, [], ◌∷◌, Some, None, refl, ap, arith, ◌∙◌}
 use Rattle.std.proofs.lemmas.Bool.Decides.{nat_tests}
 use Rattle.std.specs.Prelude.{◌==◌, ◌&&◌, ◌||◌, cond, find}

@@ -1,4 +1,4 @@
--- What a request asks to keep rests on no text that there is, and what is put in force is what its text says.
+-- What a request is to store does not depend on the texts in force, and the sheet that is put in force is that of its text.
 use Rattle.std.proofs.Common.{◌≡◌, ◌∙◌, Bool, true, false, ℕ, List, [], Option, Some, None, Ok, Err, cond, refl, sym, ap}
 use Rattle.mmtel_directory.specs.Directory.{is_account}
 use Rattle.mmtel_directory.specs.declared.directories.WebDirectory.{WebDirectory}
@@ -22,7 +22,7 @@ use Rattle.mmtel_web.specs.Uploads.{MailboxesSeeNoText, OnlyRepliesSeeTexts, Upl
 use Rattle.mmtel_web.specs.declared.answers.Web.{Web}
 use Rattle.mmtel_web.specs.declared.answers.Web.TheVariants as web
 
--- ---- no text is seen
+-- ---- no text has an effect
 
 module _ (d : WebDirectory) (texts : List (Account × List ℕ)) (a : Asking) where
   method_same : (account : Account) (m : Method) → unsaid (by_method texts a account m) ≡ unsaid (by_method [] a account m)

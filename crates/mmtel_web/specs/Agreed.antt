@@ -1,4 +1,4 @@
--- What one account is answered depends on that account alone: directories and tables of texts that agree on it.
+-- The reply to a request for the record of an account depends on that account alone: directories and tables of texts that agree on it.
 use Rattle.std.specs.Prelude.{◌≡◌, List, Some}
 use Rattle.mmtel_types.specs.declared.numbers.Account.{Account}
 use Rattle.mmtel_lex.specs.declared.values.Uri.{Uri}
@@ -14,6 +14,6 @@ pub record AgreeOnIdentities (account : Account) (d e : List AccountIdentity) : 
   pub known : is_account d account ≡ is_account e account
   pub own : (u : Uri) → is_own d account u ≡ is_own e account u
 
--- what is asked is of the account's record
+-- the request is for the account's record
 abbrev pub AsksOf : Account → Asking → Type 0
 AsksOf account a = place_of a.target ≡ Sheet (Some account)

@@ -1,5 +1,5 @@
--- What the server does for a request (RFC 9110 §9.3 and §15; 3GPP TS 24.623 §5): a reply, or a record to be kept and a reply, or the charging rows, or what waits in a mailbox.
--- The first that applies is the answer.
+-- What the server does for a request (RFC 9110 §9.3 and §15; 3GPP TS 24.623 §5): a reply, or a record to be stored and a reply, or the charging rows, or the counts of a mailbox.
+-- The first case that applies decides.
 use Rattle.std.specs.Prelude.{ℕ, List, [], Some, None, if◌then◌else◌, codes, unwrap_or}
 use Rattle.std.specs.declared.option.Option.{Option}
 use Rattle.mmtel_types.specs.declared.numbers.Account.{Account}
@@ -30,14 +30,14 @@ abbrev pub by_upload : Account → List ℕ → Upload → Web
 by_upload account text (Accepted sheet) = web.Store account sheet text (reply_text 200 None [] [])
 by_upload account text (Refused fault) = web.Read (reply_text 409 None (codes "text/plain") fault)
 
--- what an account asks of its record
+-- a request of an account for its record
 abbrev pub by_method : List (Account × List ℕ) → Asking → Account → Method → Web
 by_method texts a account method.Get = web.Read (reply_text 200 None toml (unwrap_or (text_at texts account) []))
 by_method texts a account method.Put = if is_toml a.kind then by_upload account a.body (upload_of a.body) else bare 415
 by_method texts a account method.Delete = by_upload account [] (upload_of [])
 by_method texts a account method.Other = not_allowed (codes "GET, PUT, DELETE")
 
--- what somebody asks of the record of an account, if it is one
+-- a request of somebody for the record of an account, if it is one
 abbrev pub by_account : WebDirectory → List (Account × List ℕ) → Asking → Method → Option Account → Web
 by_account d texts a m None = bare 404
 by_account d texts a m (Some account) =
@@ -45,14 +45,14 @@ by_account d texts a m (Some account) =
     then (if may_ask d.accounts account (identity_of a.identity) then by_method texts a account m else bare 403)
     else bare 404
 
--- what somebody asks of a record
+-- a request of somebody for a record
 abbrev pub of_sheet : WebDirectory → List (Account × List ℕ) → Asking → Option Account → Method → Web
 of_sheet d texts a account method.Get = by_account d texts a method.Get account
 of_sheet d texts a account method.Put = by_account d texts a method.Put account
 of_sheet d texts a account method.Delete = by_account d texts a method.Delete account
 of_sheet d texts a account method.Other = not_allowed (codes "GET, PUT, DELETE")
 
--- what somebody asks of the charging rows
+-- a request of somebody for the charging rows
 abbrev pub of_charges : WebDirectory → Asking → Method → Web
 of_charges d a method.Get = if is_operator d.operator (identity_of a.identity) then web.Charges else bare 403
 of_charges d a method.Put = not_allowed (codes "GET")
@@ -65,7 +65,7 @@ by_place d texts a (place.Sheet account) = of_sheet d texts a account (method_of
 by_place d texts a (place.Mailbox account) = of_mailbox d a account (method_of a.method)
 by_place d texts a place.Elsewhere = bare 404
 
--- what the server does for what is asked; a connection that ended before there was a whole request asked nothing that is understood
+-- what the server does for a request; a connection that ended before there was a whole request is a malformed one
 abbrev pub web_of : WebDirectory → List (Account × List ℕ) → Request → Web
 web_of d texts unfinished = bare 400
 web_of d texts bad = bare 400
@@ -83,7 +83,7 @@ after_call made text = text
 after_call failed text = reply_of 503 []
 after_call no_memory text = reply_of 507 []
 
--- without a keeper's call only want of memory changes a reply
+-- without a call of the keeper only out of memory changes a reply
 abbrev pub without_call : Kept → List ℕ → List ℕ
 without_call made text = text
 without_call failed text = text

@@ -1,4 +1,4 @@
--- What public clauses cite, which a user of the crate has to believe.
+-- Definitions that public contracts cite: a user of the crate has to trust them.
 pub mod Parties
 pub mod Replies
 pub mod Mailboxes
@@ -6,4 +6,4 @@ pub mod Answers
 pub mod Agreed
 pub mod Uploads
 
--- What private functions alone cite: nothing.
+-- Definitions that only private functions cite: none.

@@ -1,4 +1,4 @@
--- What the server does for a request to the mailbox of an account, in a run with message waiting (RFC 9110 §9.3, §15; 3GPP TS 24.606): the first that applies is the answer.
+-- What the server does for a request to the mailbox of an account, in a run with message waiting (RFC 9110 §9.3, §15; 3GPP TS 24.606): the first case that applies decides.
 use Rattle.std.specs.Prelude.{ℕ, List, [], Option, Some, None, Ok, Err, if◌then◌else◌, codes}
 use Rattle.mmtel_directory.specs.Directory.{is_account}
 use Rattle.mmtel_directory.specs.declared.directories.WebDirectory.{WebDirectory}
@@ -19,11 +19,11 @@ use Rattle.mmtel_web.specs.declared.answers.Web.TheVariants as web
 
 -- ---- what is done
 
--- the body is a TOML document, whatever it says
+-- the body is a TOML document, whatever its content
 abbrev pub of_document : Asking → Account → Web
 of_document a account = if is_toml a.kind then web.Mailbox account a.body else bare 415
 
--- the operator alone says what waits
+-- only the operator may set what waits
 abbrev pub of_owner : WebDirectory → Asking → Account → Web
 of_owner d a account = if is_operator d.operator (identity_of a.identity) then of_document a account else bare 403
 
@@ -37,13 +37,13 @@ by_put d a account method.Get = not_allowed (codes "PUT")
 by_put d a account method.Delete = not_allowed (codes "PUT")
 by_put d a account method.Other = not_allowed (codes "PUT")
 
--- without message waiting there is no such place
+-- without message waiting there is no such resource
 abbrev pub of_mailbox : WebDirectory → Asking → Option Account → Method → Web
 of_mailbox d a account m = if d.mwi then by_put d a account m else bare 404
 
--- ---- the reply, for which the keeper is not called
+-- ---- the reply, without a call of the keeper
 
--- the line of the first fault
+-- the line with the first fault
 abbrev pub fault_reply : SheetFault → List ℕ
 fault_reply fault = reply_text 409 None (codes "text/plain") (fault_text fault)
 
@@ -51,7 +51,7 @@ abbrev pub counts_reply : Read Counts → List ℕ
 counts_reply (Ok counts) = reply_text 200 None [] []
 counts_reply (Err fault) = fault_reply fault
 
--- ---- what is put, exactly where the reply is 200
+-- ---- the counts that are set, exactly where the reply is 200
 
 abbrev pub accepted : Kept → Account → Read Counts → Option (Account × Counts)
 accepted made account (Ok counts) = Some (account, counts)
@@ -59,7 +59,7 @@ accepted failed account (Ok counts) = Some (account, counts)
 accepted no_memory account (Ok counts) = None
 accepted kept account (Err fault) = None
 
--- the mailbox and its counts, of what the server does for the request
+-- the mailbox and its counts, by what the server does for the request
 abbrev pub put_by : Kept → Web → Option (Account × Counts)
 put_by kept (web.Read text) = None
 put_by kept (web.Store account sheet text reply) = None

@@ -1,4 +1,4 @@
--- Who asks, and who may ask what: the identities of accounts, and the operator (3GPP TS 24.109 §6, TS 24.623 §5).
+-- Who makes a request, and who may request what: the identities of accounts, and the operator (3GPP TS 24.109 §6, TS 24.623 §5).
 use Rattle.std.specs.Prelude.{ℕ, ◌==◌, ◌&&◌, Bool, false, List, length, Some, None, if◌then◌else◌}
 use Rattle.std.specs.declared.option.Option.{Option}
 use Rattle.std.specs.List.{list_any}
@@ -11,24 +11,24 @@ use Rattle.mmtel_scan.specs.Chain.{◌>>=◌}
 use Rattle.mmtel_scan.specs.Scanning.{after_byte, parted}
 use Rattle.mmtel_trust.specs.declared.accounts.AccountIdentity.{AccountIdentity}
 
--- what stands before the quote, where nothing stands behind it
+-- what precedes the quote, where nothing follows it
 abbrev pub closed : List ℕ × List ℕ → Option (List ℕ)
 closed x = if length x.1 == 0 then Some x.0 else None
 
--- what stands in the quotes
+-- what is in the quotes
 abbrev pub quoted : List ℕ → Option (List ℕ)
 quoted value = after_byte 34 value >>= λ rest. parted 34 rest >>= closed
 
--- the identity that the one value of the field of the asserted identity names: one URI in quotes, and nothing else
+-- the identity in the one value of the field of the asserted identity: one URI in quotes, and nothing else
 abbrev pub identity_of : Option (List ℕ) → Option Uri
 identity_of None = None
 identity_of (Some value) = quoted value >>= λ bytes. readable (uri_of bytes)
 
--- the URI is an identity of the account's own, whatever other account has one that is equal to it too
+-- the URI is an identity of the account, whether or not another account has one that is equal to it
 abbrev pub is_own : List AccountIdentity → Account → Uri → Bool
 is_own identities account u = list_any (λ identity. identity.account.0 == account.0 && is_same_identity identity.uri u) identities
 
--- it was asserted, and is an identity of the account's own
+-- it was asserted, and is an identity of the account
 abbrev pub may_ask : List AccountIdentity → Account → Option Uri → Bool
 may_ask identities account None = false
 may_ask identities account (Some u) = is_own identities account u

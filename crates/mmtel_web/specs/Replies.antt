@@ -1,4 +1,4 @@
--- Replies without a body; and what became of the keeper's call, where one was due (RFC 9110 §15).
+-- Replies without a body; and the result of the keeper's call, where one was due (RFC 9110 §15).
 use Rattle.std.specs.Prelude.{ℕ, Bool, List, [], false, Some, None, codes}
 use Rattle.std.specs.declared.option.Option.{Option}
 use Rattle.std.specs.Str.{bytes_eq}
@@ -22,7 +22,7 @@ abbrev pub is_toml : Option (List ℕ) → Bool
 is_toml None = false
 is_toml (Some kind) = bytes_eq kind toml
 
--- what became of the keeper's call, where one was due
+-- the result of the keeper's call, where one was due
 pub data Kept : Type 0 where
   made : Kept
   failed : Kept

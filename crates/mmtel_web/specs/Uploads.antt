@@ -1,4 +1,4 @@
--- What a request asks to keep: an upload, or the empty text of a DELETE (3GPP TS 24.623 §5).
+-- What a request is to store: an upload, or the empty text of a DELETE (3GPP TS 24.623 §5).
 use Rattle.std.specs.Prelude.{◌≡◌, ℕ, List, [], Option, Some, None}
 use Rattle.mmtel_directory.specs.declared.directories.WebDirectory.{WebDirectory}
 use Rattle.mmtel_http.specs.Requests.{Request}
@@ -11,47 +11,47 @@ use Rattle.mmtel_web.specs.Mailboxes.{put_by}
 use Rattle.mmtel_web.specs.declared.answers.Web.{Web}
 use Rattle.mmtel_web.specs.declared.answers.Web.TheVariants as web
 
--- the account and the text, of what the server does for the request
+-- the account and the text, by what the server does for the request
 abbrev pub upload_by : Web → Option (Account × List ℕ)
 upload_by (web.Read text) = None
 upload_by (web.Store account sheet text reply) = Some (account, text)
 upload_by web.Charges = None
 upload_by (web.Mailbox account body) = None
 
--- what is kept does not rest on what texts there are, so it is asked without any
+-- what is stored does not depend on the texts in force, so it is defined without any
 abbrev pub upload_in : WebDirectory → Request → Option (Account × List ℕ)
 upload_in d request = upload_by (web_of d [] request)
 
--- nor what is put into a mailbox
+-- nor do the counts that are set in a mailbox
 abbrev pub put_in : WebDirectory → Request → Kept → Option (Account × Counts)
 put_in d request kept = put_by kept (web_of d [] request)
 
--- and it is kept exactly where the keeper's call was made
+-- and it is stored exactly where the keeper's call was made
 abbrev pub kept_upload : Kept → Option (Account × List ℕ) → Option (Account × List ℕ)
 kept_upload made upload = upload
 kept_upload failed upload = None
 kept_upload no_memory upload = None
 
--- what is done, but for what a reply reads
+-- what is done, except for the texts that a reply reads
 abbrev pub unsaid : Web → Web
 unsaid (web.Read text) = web.Read []
 unsaid (web.Store account sheet text reply) = web.Store account sheet text reply
 unsaid web.Charges = web.Charges
 unsaid (web.Mailbox account body) = web.Mailbox account body
 
--- what is done rests on what texts there are only in what a reply reads,
+-- what is done depends on the texts in force only in what a reply reads,
 abbrev pub OnlyRepliesSeeTexts : Type 0
 OnlyRepliesSeeTexts = (d : WebDirectory) (texts : List (Account × List ℕ)) (request : Request) → unsaid (web_of d texts request) ≡ unsaid (web_of d [] request)
 
--- and so what is kept does not
+-- and so what is stored does not
 abbrev pub UploadsSeeNoText : Type 0
 UploadsSeeNoText = (d : WebDirectory) (texts : List (Account × List ℕ)) (request : Request) → upload_by (web_of d texts request) ≡ upload_in d request
 
--- nor does what is put
+-- nor do the counts that are set
 abbrev pub MailboxesSeeNoText : Type 0
 MailboxesSeeNoText = (d : WebDirectory) (texts : List (Account × List ℕ)) (request : Request) (kept : Kept) → put_by kept (web_of d texts request) ≡ put_in d request kept
 
--- what is to be put in force is what the text says
+-- the sheet that is to be put in force is that of the text
 abbrev pub UploadsSayTheirText : Type 0
 UploadsSayTheirText = (d : WebDirectory) (texts : List (Account × List ℕ)) (request : Request) (account : Account) (sheet : Sheet) (text reply : List ℕ)
     → web_of d texts request ≡ web.Store account sheet text reply → sheet ≡ kept_sheet text

@@ -27,26 +27,26 @@ use std::alloc::Global;
 /// What the server does for a request.
 #[derive(Drop)]
 pub enum Web {
-    /// It replies this.
+    /// It sends this reply.
     Read(Text),
-    /// It keeps the text as the account's service record, which says `sheet`, and then replies.
+    /// It stores the text as the account's service record, whose sheet is `sheet`, and then replies.
     Store {
         /// The account.
         account: Account,
-        /// What the record says.
+        /// The sheet of the record.
         sheet: Sheet,
         /// The record.
         text: Text,
-        /// The reply, where the record was kept.
+        /// The reply, where the record was stored.
         reply: Text,
     },
     /// It replies with the charging rows.
     Charges,
-    /// It reads how many messages wait in the account's mailbox, and replies.
+    /// It reads the counts of the account's mailbox from the body, and replies.
     Mailbox {
         /// The account.
         account: Account,
-        /// The document that says so.
+        /// The document with the counts.
         body: Text,
     },
 }
@@ -68,7 +68,7 @@ fn not_allowed(alloc: Global, methods: &[u8]) -> Result<Web, NoMemory>
     Ok(Web::Read(text))
 }
 
-/// What an upload for the account comes to.
+/// What is done with an upload for the account.
 fn by_upload(alloc: Global, account: Account, text: &[u8]) -> Result<Web, NoMemory>
     ensures { IfOk result (λ w. w ≡ by_upload account text.now (upload_of text.now)) }
 {
@@ -100,7 +100,7 @@ fn is_toml(kind: Option<&[u8]>) -> bool
     }
 }
 
-/// The record that was kept or loaded last for the account, if any.
+/// The record that was stored or loaded last for the account, if any.
 fn told(alloc: Global, texts: &SheetTexts, account: Account) -> Result<Web, NoMemory>
     ensures { IfOk result (λ w. w ≡ web.Read (reply_text 200 None (codes "application/toml") (unwrap_or (text_at texts.now.texts account) []))) }
 {
@@ -111,7 +111,7 @@ fn told(alloc: Global, texts: &SheetTexts, account: Account) -> Result<Web, NoMe
     Ok(Web::Read(text))
 }
 
-/// What an account asks of its record.
+/// A request of an account for its record.
 fn by_method(
     alloc: Global,
     texts: &SheetTexts,
@@ -135,7 +135,7 @@ fn by_method(
     }
 }
 
-/// What somebody asks of the record of an account, if it is one.
+/// A request of somebody for the record of an account, if it is one.
 fn by_account(
     alloc: Global,
     d: &WebDirectory,
@@ -160,7 +160,7 @@ fn by_account(
     }
 }
 
-/// What somebody asks of a record.
+/// A request of somebody for a record.
 fn of_sheet(
     alloc: Global,
     d: &WebDirectory,
@@ -177,7 +177,7 @@ fn of_sheet(
     }
 }
 
-/// What somebody asks of the charging rows.
+/// A request of somebody for the charging rows.
 fn of_charges(
     alloc: Global,
     d: &WebDirectory,
@@ -199,7 +199,7 @@ fn of_charges(
     }
 }
 
-/// What the operator says of the mailbox of an account: a TOML document.
+/// An upload of the operator for the mailbox of an account: a TOML document.
 fn of_document(alloc: Global, asked: Asked<'_>, account: Account) -> Result<Web, NoMemory>
     ensures { IfOk result (λ w. w ≡ of_document (asking asked.entry) account) }
 {
@@ -211,7 +211,7 @@ fn of_document(alloc: Global, asked: Asked<'_>, account: Account) -> Result<Web,
     }
 }
 
-/// What somebody says of the mailbox of an account: the operator alone may.
+/// An upload of somebody for the mailbox of an account: only the operator may make one.
 fn of_owner(
     alloc: Global,
     d: &WebDirectory,
@@ -228,7 +228,7 @@ fn of_owner(
     }
 }
 
-/// What somebody says of the mailbox of an account, if it is one.
+/// An upload of somebody for the mailbox of an account, if it is one.
 fn of_account(
     alloc: Global,
     d: &WebDirectory,
@@ -247,7 +247,7 @@ fn of_account(
     }
 }
 
-/// What somebody asks of a mailbox: PUT alone is known there.
+/// A request of somebody for a mailbox: PUT is the only method there.
 fn by_put(
     alloc: Global,
     d: &WebDirectory,
@@ -263,7 +263,7 @@ fn by_put(
     }
 }
 
-/// What somebody asks of a mailbox, where there are mailboxes.
+/// A request of somebody for a mailbox, where there are mailboxes.
 fn of_mailbox(
     alloc: Global,
     d: &WebDirectory,
@@ -280,7 +280,7 @@ fn of_mailbox(
     }
 }
 
-/// What is asked of a place.
+/// A request for a resource.
 fn by_place(
     alloc: Global,
     d: &WebDirectory,
@@ -298,11 +298,11 @@ fn by_place(
     }
 }
 
-/// What the server does for the bytes of a connection. They are a whole request, or none will come of them, or the connection ended.
+/// What the server does for the bytes of a connection. They are a whole request, or cannot become one, or the connection ended.
 ///
 /// # Errors
 ///
-/// Want of memory alone.
+/// Out of memory only.
 pub fn answer(
     alloc: Global,
     d: &WebDirectory,
@@ -319,11 +319,11 @@ pub fn answer(
     }
 }
 
-/// The reply with the charging rows (200), or without a body (200), or where the keeper failed (503), or for want of memory (507).
+/// The reply with the charging rows (200), or without a body (200), or where the keeper failed (503), or where memory runs out (507).
 ///
 /// # Errors
 ///
-/// Want of memory alone.
+/// Out of memory only.
 pub fn reply(alloc: Global, code: u16, body: &[u8]) -> Result<Text, NoMemory>
     requires { IsStatusCode code }
     ensures text { IfOk result (λ text. text ≡ reply_of code body.now) }
@@ -331,11 +331,11 @@ pub fn reply(alloc: Global, code: u16, body: &[u8]) -> Result<Text, NoMemory>
     reply_text(alloc, code, None, b"text/csv", body)
 }
 
-/// The reply to a document that is refused (409): the line that tells its first fault. No reply tells want of memory.
+/// The reply to a document that is refused (409): the line with its first fault. There is no reply for out of memory.
 ///
 /// # Errors
 ///
-/// Want of memory, and where that is the fault.
+/// Out of memory, also where that is the given fault.
 pub fn fault_reply(alloc: Global, fault: &SheetFault) -> Result<Text, NoMemory>
     ensures text { IfOk result (λ text. text ≡ fault_reply fault.now) }
     ensures other { IfOk result (λ _. fault.now ≢ kinds.NoMemory) }

@@ -1,4 +1,4 @@
-//! Laws of what the server does for a request.
+//! Theorems about what the server does for a request.
 ghost use Rattle.std.specs.Prelude.{◌≡◌, ℕ, List, true};
 ghost use Rattle.mmtel_types.specs.declared.numbers.Account.{Account};
 ghost use Rattle.mmtel_charging.specs.declared.rows.Row.{Row};
@@ -12,8 +12,8 @@ ghost use Rattle.mmtel_web.specs.Uploads.{MailboxesSeeNoText, OnlyRepliesSeeText
 ghost use Rattle.mmtel_web.specs.declared.answers.Web.TheVariants as web;
 ghost use Rattle.mmtel_directory.specs.declared.directories.WebDirectory.{WebDirectory};
 
-/// A law, and no code: what is done for a request for the record of an account, and what it is replied, are the same in any two directories and tables of texts that agree
-/// on that account.
+/// A theorem, without code: what is done for a request for the record of an account, and the reply to it, are the same in any two directories and tables of texts that agree on
+/// that account.
 pub fn requests_see_one_account()
     ensures done { (account : Account) (d e : WebDirectory) (s t : List (Account × List ℕ)) (a : Asking)
         → AsksOf account a → AgreeOnIdentities account d.accounts e.accounts → text_at s account ≡ text_at t account
@@ -23,7 +23,7 @@ pub fn requests_see_one_account()
         → web_reply d s (asked a) kept rows ≡ web_reply e t (asked a) kept rows }
 {}
 
-/// A law, and no code: an upload that is to be kept is of the account whose record was asked for, and an identity of that account's own asked for it.
+/// A theorem, without code: an upload that is to be stored is of the account whose record was requested, and was requested by an identity of that account.
 pub fn uploads_are_of_one_account()
     ensures its { (account b : Account) (d : WebDirectory) (s : List (Account × List ℕ)) (a : Asking) (sheet : Sheet) (text reply : List ℕ)
         → AsksOf account a → web_of d s (asked a) ≡ web.Store b sheet text reply → account ≡ b }
@@ -31,8 +31,8 @@ pub fn uploads_are_of_one_account()
         → AsksOf account a → web_of d s (asked a) ≡ web.Store b sheet text reply → may_ask d.accounts account (identity_of a.identity) ≡ true }
 {}
 
-/// A law, and no code: what is done for a request rests on the texts in force only in what a reply reads, so what it asks to keep does not; and what is to be put in force
-/// is what the text says that is kept.
+/// A theorem, without code: what is done for a request depends on the texts in force only in what a reply reads, so what it is to store does not; and the sheet that is to be put
+/// in force is that of the text that is stored.
 pub fn uploads_are_what_they_say()
     ensures replies { OnlyRepliesSeeTexts }
     ensures any { UploadsSeeNoText }

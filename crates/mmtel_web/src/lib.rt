@@ -1,4 +1,4 @@
-//! HTTP requests for service records, charging rows and mailboxes: who may ask what, and what is done.
+//! HTTP requests for service records, charging rows and mailboxes: who may request what, and what is done.
 #![tactic(auto)]
 
 mod answers;

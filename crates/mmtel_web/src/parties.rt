@@ -1,4 +1,4 @@
-//! Who asks.
+//! Who makes a request.
 ghost use Rattle.std.specs.Prelude.{◌≡◌, IfOk};
 ghost use Rattle.std.specs.Option.{option_copied};
 ghost use Rattle.mmtel_web.specs.Parties.{identity_of, quoted, is_own, may_ask, is_operator};
@@ -10,7 +10,7 @@ use mmtel_trust::{AccountIdentity, Accounts};
 use mmtel_types::Account;
 use std::alloc::Global;
 
-/// What stands in the quotes.
+/// What is in the quotes.
 fn quoted(value: &[u8]) -> Option<&[u8]>
     ensures { option_copied result ≡ quoted value.now }
 {
@@ -19,7 +19,7 @@ fn quoted(value: &[u8]) -> Option<&[u8]>
     if behind.is_empty() { Some(inner) } else { None }
 }
 
-/// The identity that the value of the header line of the asserted identity names.
+/// The identity in the value of the header field of the asserted identity.
 pub fn identity_of(alloc: Global, value: Option<&[u8]>) -> Result<Option<Uri>, NoMemory>
     ensures { IfOk result (λ identity. identity ≡ identity_of (option_copied value.entry)) }
 {
@@ -32,7 +32,7 @@ pub fn identity_of(alloc: Global, value: Option<&[u8]>) -> Result<Option<Uri>, N
     }
 }
 
-/// Whether one of these is an identity of the account's own that is equal to the URI.
+/// Whether one of these is an identity of the account that is equal to the URI.
 fn has_own(identities: &[AccountIdentity], account: Account, uri: &Uri) -> bool
     ensures { result ≡ is_own identities.now account uri.now }
 {
@@ -40,7 +40,7 @@ fn has_own(identities: &[AccountIdentity], account: Account, uri: &Uri) -> bool
         && same_identity(&identity.uri, uri))
 }
 
-/// Whether the URI is an identity of the account's own. All of them are asked only where it is one of another account.
+/// Whether the URI is an identity of the account. All of its identities are compared only where the URI is one of another account.
 fn is_own(accounts: &Accounts, account: Account, uri: &Uri) -> bool
     ensures { result ≡ is_own accounts.now account uri.now }
 {
@@ -55,7 +55,7 @@ fn is_own(accounts: &Accounts, account: Account, uri: &Uri) -> bool
     }
 }
 
-/// Whether the identity was asserted, and is one of the account's own.
+/// Whether the identity was asserted, and is one of the account.
 pub fn may_ask(accounts: &Accounts, account: Account, identity: &Option<Uri>) -> bool
     ensures { result ≡ may_ask accounts.now account identity.now }
 {

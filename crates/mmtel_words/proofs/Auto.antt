@@ -1,4 +1,4 @@
--- A command of options and places, each with one value that has to be there: what `clap` makes of any words is what the reader makes of them.
+-- A command of options and places (positional arguments), each with one required value: the result of `clap` for any words is that of the reader.
 use Rattle.std.proofs.Common.{◌≡◌, ◌∙◌, ℕ, ◌+◌, ◌&&◌, ◌||◌, cond, min, true, false, not, refl, sym, ap, List, [], ◌∷◌, ◌++◌, Bool, Some, None, Option, slice_get, find}
 use Rattle.std.specs.List.{list_all}
 use Rattle.std.specs.Option.{option_map_or}
@@ -35,7 +35,7 @@ abbrev pub settle : List Entry → Option Entry → (List Entry → Option (List
 settle E None f = f E
 settle E (Some e) f = cond (has_row e.0 (rows E)) None (f (E ++ e ∷ []))
 
--- these entries more, each of a new name, and all names that have to be there are there
+-- these entries more, each of a new name, and all required names are there
 abbrev pub puts : List Text → List Entry → List Entry → Option (List Row)
 puts keys E [] = cond (list_all (λ k. has_row k (rows E)) keys) (Some (rows E)) None
 puts keys E (e ∷ es) = settle E (Some e) (λ F. puts keys F es)
@@ -93,7 +93,7 @@ abbrev pub AllReadable : List Text → Type 0
 AllReadable [] = Unit {0}
 AllReadable (x ∷ xs) = Readable x × AllReadable xs
 
--- what comes by the words is given
+-- what was added by the words is present
 given-is : (k : Text) (E : List Entry) → is_given k (rows E) ≡ has_row k (rows E)
 given-is k [] = refl
 given-is k (e ∷ es) = by (bytes_eq e.0 k) (given-is k es)
@@ -130,7 +130,7 @@ used_here s E e key new =
 settled_here : (s : Shape) (E : List Entry) (e : Entry) → Keyed s e.0 → has_row e.0 (rows E) ≡ false → settled_rows s.rules (Some (e.0, e.1 ∷ [])) (rows E) ≡ rows (E ++ e ∷ [])
 settled_here s E e key new = rw key.by_id (used_here s E e key new)
 
--- a word at which the pending entry is settled
+-- a word at which the pending entry is completed
 settling : (s : Shape) (E : List Entry) (p : Option Entry) → Ready s p → (g : Option (List Row)) (C : List Row → Option (List Row)) (f : List Entry → Option (List Row))
     → g ≡ cond (open_at s E (held p)) (C (settled_rows s.rules (held p) (rows E))) None → ((F : List Entry) → C (rows F) ≡ f F) → g ≡ settle E p f
 settling s E None r g C f step rest = step ∙ rest E
@@ -170,7 +170,7 @@ module _ (s : Shape) (names keys : List Text) (u : Setup s names keys) where
   abbrev waits : List Entry → Text → ℕ → Walk
   waits E k n = at (rows E) (Some (k, [])) (option k) false n
 
-  -- what is claimed of the words that are left, in each of three states
+  -- what is claimed of the remaining words, in each of three states
   record Claim (ws : List Text) : Type 0 where
     tr : (E : List Entry) (p : Option Entry) (wt : Waiting) (n : ℕ) (left : List Text) → Places s n left → Ready s p → goes s (st E p wt true n) ws ≡ settle E p (λ F. good keys F (read names ws left trailing))
     rd : (E : List Entry) (p : Option Entry) (n : ℕ) (left : List Text) → Places s n left → Ready s p → goes s (st E p idle false n) ws ≡ settle E p (λ F. good keys F (read names ws left reading))
@@ -186,7 +186,7 @@ module _ (s : Shape) (names keys : List Text) (u : Setup s names keys) where
       ∙ cond-and (open_at s E (held p)) D (Some (settled s.rules h).rows))
       (λ F. ap (λ b. cond b (Some (rows F)) None) (all-given F keys))
 
-  -- an option with no value behind it
+  -- an option with no value after it
   shut : (E : List Entry) (k : Text) → Keyed s k → open_at s E (Some (k, [])) ≡ false
   shut E k key = rw key.by_id (use-none key.a (rows E) key.single)
 
@@ -223,7 +223,7 @@ module _ (s : Shape) (names keys : List Text) (u : Setup s names keys) where
       (place-next s here.a (rows E) (held p) wt n x here.single pl.0.index pl.0.fits ∙ ap (λ i. at R (Some (i, x ∷ [])) idle true (n + 1)) here.named))
       (λ F. ih.tr F (Some (id, x)) idle (n + 1) left pl.1 here ∙ sym (and-good keys F (id, x) (read names xs left trailing)))
 
-  -- a word that is read as the grammar says, by what it looks like
+  -- a word that is read according to the grammar, by its form
   abbrev Reads : Text → List Text → List Entry → Option Entry → ℕ → List Text → Form → Type 0
   Reads x xs E p n left f = goes s (st E p idle false n) (x ∷ xs)
       ≡ settle E p (λ F. good keys F (by_form f (read names xs left trailing) (λ k v. and_entry (k, v) (read names xs left reading)) (λ k. read names xs left (wanting k)) (at_place left x (λ l. read names xs l reading))))
@@ -286,7 +286,7 @@ module _ (s : Shape) (names keys : List Text) (u : Setup s names keys) where
       failing s (st E p idle false n) x xs (ap none (short-turn s (rows E) (held p) n q.2 q.0 x q.1 d le (she ∙ ap (λ t. Some t) q.3) q.4 (u.short q.2))) ∙ sym (settle-none E p (λ F. None) (λ F. refl))
   rd-case x xs ok ih E p n left pl r false None None d le she = place-step x xs ih E p n left pl r d le she
 
-  -- a word behind an option that waits for its value
+  -- a word after an option that waits for its value
   abbrev Waits : Text → List Text → List Entry → Text → ℕ → List Text → Form → Type 0
   Waits x xs E k n left f = goes s (waits E k n) (x ∷ xs) ≡ good keys E (by_form f None (λ _ _. None) (λ _. None) (and_entry (k, x) (read names xs left reading)))
 
@@ -335,6 +335,6 @@ module _ (s : Shape) (names keys : List Text) (u : Setup s names keys) where
         wt = λ E k n left pl among. wt-case x xs ok.0 ih E k n left pl among (bytes_eq x (45 ∷ 45 ∷ [])) (long_of x) (short_of x) refl refl refl;
       }
 
-  -- from nothing held, the walk is that of the reader
+  -- from an empty state, the walk is that of the reader
   pub reads_exactly : (left ws : List Text) → Places s 1 left → AllReadable ws → goes s (at [] None idle false 1) ws ≡ good keys [] (read names ws left reading)
   reads_exactly left ws pl ok = (claim ws ok).rd [] None 1 left pl tt

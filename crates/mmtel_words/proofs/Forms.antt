@@ -1,4 +1,4 @@
--- What single words are read as, and what they are spelled by.
+-- How single words are read, and what they are spelled by.
 use Rattle.std.proofs.Common.{◌≡◌, ◌∙◌, ℕ, suc, zero, ◌+◌, ◌<◌, ◌&&◌, ◌||◌, cond, true, false, not, nat_eq, refl, sym, ap, subst, codes, List, [], ◌∷◌, ◌++◌, Bool, Some, None, Option, length, get_or, take, drop, arith, inl, inr, ◌==◌, ◌≢◌}
 use Rattle.std.proofs.lemmas.Bool.{cases_Bool, eqb-true, eqb-false, ne_eqb}
 use Rattle.std.proofs.lemmas.Slice.Eq.{bytes_eq-Decides}
@@ -29,7 +29,7 @@ same_both a b = by (bytes_eq a b) (bytes_eq b a) refl refl
     by true false e f = sym (turned a b e) ∙ f
     by false true e f = sym e ∙ turned b a f
 
--- ---- cut at the first `=`
+-- ---- split at the first `=`
 
 abbrev is_equals : ℕ → Bool
 is_equals x = x == 61
@@ -68,7 +68,7 @@ lacks (x ∷ xs) e i lt = by (x == 61) refl e (lacks xs) i lt
     by false other e h zero lt = λ is. eqb-false x 61 other is
     by false other e h (suc i) lt = h e i (omega arith)
 
--- what is cut is what was joined
+-- what is split is what was joined
 cut_joined : (t k v : Text) → name_and_value t ≡ (k, Some v) → t ≡ k ++ 61 ∷ v
 cut_joined t k v e = by (has_byte 61 t) refl e
   where

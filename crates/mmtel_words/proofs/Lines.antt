@@ -1,4 +1,4 @@
--- The words of each command: what is read of them, and that they spell one command at most.
+-- The words of each command: what is read of them, and that they spell at most one command.
 use Rattle.std.proofs.Common.{◌≡◌, ◌≢◌, ◌∙◌, ℕ, ◌≤◌, ◌<◌, ◌^◌, cond, true, false, nat_eq, refl, sym, ap, subst, codes, List, [], ◌∷◌, ◌++◌, Bool, Some, None, Option, length, arith, inl, inr}
 use Rattle.std.specs.Prelude.{decimal}
 use Rattle.std.proofs.lemmas.Bool.{cases_Bool, false≢true, eqb-true}
@@ -228,7 +228,7 @@ same_replay c c' z z' t t' e f g = rw (e, f, g) refl
 same_workload : (c c' s s' : ℕ) → c ≡ c' → s ≡ s' → Workload c s ≡ Workload c' s'
 same_workload c c' s s' e f = cc
 
--- two commands that the same words behind a name spell
+-- two commands that the same words after a name spell
 alike : (one other : Command) (ws : List Text) → EachText ws → IsCommand one (name_of one ∷ ws) → IsCommand other (name_of one ∷ ws) → one ≡ other
 alike (Serve c t n) (Serve c' t' n') ws texts a b =
     let p = serve_line c t (decimal n) ws texts a.3 in
@@ -284,7 +284,7 @@ only_one one other words a b =
     let s = begins one words a in
     alike one other s.rest s.texts (subst (IsCommand one) s.whole a) (subst (IsCommand other) s.whole b)
 
--- words behind a name spell a command of that name, or none
+-- words after a name spell a command of that name, or none
 pub none_else : (name : Text) (ws : List Text) → ((c : Command) → bytes_eq name (name_of c) ≡ true → IsCommand c (name ∷ ws) → ⊥) → SpellsNone (name ∷ ws)
 none_else name ws h = λ c. λ s. by (bytes_eq name (name_of c)) c refl s
   where

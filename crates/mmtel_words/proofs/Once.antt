@@ -62,7 +62,7 @@ one_more k F e new le = by (bytes_eq e.0 k) refl (entries_append k F (e ∷ []))
         let n : length (entries k (F ++ e ∷ [])) ≡ 1 = ap length (is ∙ ap (λ l. l ++ e.1 ∷ []) none) in
         omega arith
 
--- what is put is behind what was there, and no name comes twice
+-- what is put is after what was there, and no name comes twice
 pub record Put (F es : List Entry) (R : List Row) : Type 0 where
   pub are : R ≡ rows (F ++ es)
   pub once : (k : Text) → length (entries k F) ≤ 1 → length (entries k (F ++ es)) ≤ 1

@@ -1,4 +1,4 @@
--- A word that is text has a first character after its dash.
+-- A word that is UTF-8 has a first character after its dash.
 use Rattle.std.proofs.Common.{◌≡◌, ℕ, ◌==◌, cond, true, false, refl, List, [], ◌∷◌, Some, None, slice_get, Bool, arith}
 use Rattle.std.proofs.lemmas.Bool.Decides.{nat_tests}
 use Rattle.std.specs.Str.{chars, IsUtf8, encode_utf8_all}

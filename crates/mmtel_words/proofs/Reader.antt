@@ -1,11 +1,11 @@
--- The words behind a command, read from the left: which value each option gets, and which each place.
+-- The words after a command, read from the left: which value each option gets, and which each place (positional argument).
 use Rattle.std.proofs.Common.{cond, List, [], ◌∷◌, Some, None, Option}
 use Rattle.std.specs.Str.{bytes_eq}
 use Rattle.clap.specs.Words.{Text}
 use Rattle.clap.specs.Lexer.{long_of, short_of}
 use Rattle.mmtel_words.specs.CommandLine.{is_among}
 
--- what a word is
+-- the kind of a word
 pub data Form : Type 0 where
   mark : Form
   joined : (name value : Text) → Form
@@ -13,7 +13,7 @@ pub data Form : Type 0 where
   place : Form
   bad : Form
 
--- how the next word is read: options may stand, the value of this one stands, or it is positional
+-- how the next word is read: options are allowed, the value of this one is expected, or it is positional
 pub data Mode : Type 0 where
   reading : Mode
   wanting : (name : Text) → Mode
@@ -36,7 +36,7 @@ abbrev pub and_entry : Entry → Option (List Entry) → Option (List Entry)
 and_entry e None = None
 and_entry e (Some es) = Some (e ∷ es)
 
--- a positional word takes the first of the places that are left
+-- a positional word takes the first of the remaining places
 abbrev pub at_place : List Text → Text → (List Text → Option (List Entry)) → Option (List Entry)
 at_place [] x f = None
 at_place (id ∷ left) x f = and_entry (id, x) (f left)

@@ -75,7 +75,7 @@ known_in s names ids are k among = record {
   long = ap (λ r. arg_by_long r k) are ∙ long_in names ids k ∙ ap (λ b. cond b (Some (option_rule k)) None) among;
 }
 
--- after the walk each rule asks for its value, and for nothing else
+-- after the walk each rule requires its value, and nothing else
 abbrev AllPlain : List Rule → Type 0
 AllPlain [] = Unit {0}
 AllPlain (a ∷ rules) = (a.defaults ≡ []) × (a.required ≡ true) × AllPlain rules
@@ -119,7 +119,7 @@ none-check : (b : Bool) → none (check_kinds false false (not b)) ≡ b
 none-check true = refl
 none-check false = refl
 
--- a command that is told as this crate tells them
+-- a command that is configured as in this crate
 record Told (s : Shape) (names ids : List Text) : Type 0 where
   rules : s.rules ≡ rules_from names ids
   plain : AllPlain s.rules
@@ -150,7 +150,7 @@ setup_of s names ids t = record {
   ends = ends_of s names ids t;
 }
 
--- what the command makes of the words
+-- the result of the command for the words
 abbrev pub IsRead : App → List Text → List Text → List Text → Type 0
 IsRead a names ids ws = good (names ++ ids) [] (read names ws ids reading) ≡ cond (none (fault_of a ws)) (Some (matches_of a ws)) None
 

@@ -1,4 +1,4 @@
--- The words that the reader takes are those that pieces spell.
+-- The words that the reader accepts are those that elements spell.
 use Rattle.std.proofs.Common.{◌≡◌, ◌∙◌, ◌≤◌, cond, true, false, refl, sym, ap, subst, codes, List, [], ◌∷◌, ◌++◌, Bool, Some, None, Option, length, arith}
 use Rattle.std.specs.List.{flat_map, list_all}
 use Rattle.std.specs.Str.{bytes_eq}
@@ -14,7 +14,7 @@ placed [] left = []
 placed (w ∷ ws) [] = []
 placed (w ∷ ws) (id ∷ left) = (id, w) ∷ placed ws left
 
--- what pieces, and positional words behind them, give
+-- the result of elements, and of positional words after them
 abbrev pub given : List Piece → List Text → List Text → List Entry
 given [] left ws = placed ws left
 given (Word w ∷ pieces) [] ws = given pieces [] ws
@@ -22,7 +22,7 @@ given (Word w ∷ pieces) (id ∷ left) ws = (id, w) ∷ given pieces left ws
 given (Apart k v ∷ pieces) left ws = (k, v) ∷ given pieces left ws
 given (Joined k v ∷ pieces) left ws = (k, v) ∷ given pieces left ws
 
--- as `MayStand`, but `-` may be a value apart
+-- as `MayStand`, but `-` may be a separate value
 abbrev pub Stands : List Text → Piece → Type 0
 Stands names (Word w) = is_positional w ≡ true
 Stands names (Apart k v) = (is_among names k ≡ true) × (is_positional v ≡ true)
@@ -35,7 +35,7 @@ EachStands names (piece ∷ pieces) = Stands names piece × EachStands names pie
 abbrev pub words_of : List Piece → Option (List Text) → List Text
 words_of pieces marked = flat_map word_in pieces ++ behind_mark marked
 
--- words that pieces spell
+-- words that elements spell
 pub record Spelled (names left ws : List Text) (es : List Entry) : Type 0 where
   pub pieces : List Piece
   pub marked : Option (List Text)
@@ -44,7 +44,7 @@ pub record Spelled (names left ws : List Text) (es : List Entry) : Type 0 where
   pub are : es ≡ given pieces left (behind_mark marked)
   pub few : length (words_of pieces marked) ≤ length left
 
--- the words behind an option that waits for its value
+-- the words after an option that waits for its value
 record Valued (names left ws : List Text) (k : Text) (es : List Entry) : Type 0 where
   value : Text
   rest : List Text
@@ -108,7 +108,7 @@ with_word names left xs id w fs p r = record {
   few = omega (arith, r.few);
 }
 
--- a word that is read in three ways, with what is claimed of the words behind it
+-- a word that is read in three ways, with what is claimed of the words after it
 module _ (names : List Text) (x : Text) (xs : List Text) (ih : (m : Mode) (left : List Text) (es : List Entry) → read names xs left m ≡ Some es → SpelledAt names m xs left es) where
   abbrev on_reading : List Text → Form → Option (List Entry)
   on_reading left f = by_form f (read names xs left trailing) (λ n v. and_entry (n, v) (read names xs left reading)) (λ n. read names xs left (wanting n)) (at_place left x (λ l. read names xs l reading))

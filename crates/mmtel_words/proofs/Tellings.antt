@@ -1,4 +1,4 @@
--- What the functions that read the words of one command answer, from what `clap` found.
+-- The results of the functions that read the words of one command, from what `clap` found.
 use Rattle.std.proofs.Common.{◌≡◌, ◌∙◌, ℕ, ◌≤◌, true, false, refl, sym, ap, codes, List, [], ◌∷◌, Some, None, Option, arith}
 use Rattle.std.specs.Prelude.{Result, Ok, Err, decimal}
 use Rattle.std.proofs.lemmas.Bool.{false≢true}
@@ -43,7 +43,7 @@ wrong_token : (o : Option Text) (t : Text) → ((text : Text) → o ≡ Some tex
 wrong_token o t h e is = false≢true (sym (h t e) ∙ is)
 
 module _ (a : App) (ws : List Text) (m : ArgMatches) (f : FoundIn a ws (Ok m)) where
-  -- what is found is what the words have
+  -- what is found are the arguments of the words
   at : (name : Text) (o : Option Text) → value_of m name ≡ o → first_of name (matches_of a ws) ≡ o
   at name o e = ap (first_of name) (sym f.1) ∙ e
 

@@ -32,7 +32,7 @@ and-true : (b : Bool) → (b && true) ≡ b
 and-true true = refl
 and-true false = refl
 
--- an argument with one value for each use, and nothing else to it
+-- an argument with one value for each use, and no other property
 pub record Single (a : Rule) : Type 0 where
   pub values : takes_values a ≡ true
   pub several : takes_several a ≡ false
@@ -64,7 +64,7 @@ use-one a v rows p = rw (p.least, p.most, p.act, p.parser, and-true (has_row a.i
 pub use-none : (a : Rule) (rows : List Row) → Single a → none (use_fault false a [] rows) ≡ false
 use-none a rows p = rw p.least refl
 
--- a row of a name that is not there yet goes last
+-- a row of a name that is not present yet is appended
 at-new : (id : Text) (change : Row → List Row) (missing rows : List Row) → has_row id rows ≡ false → at_row id change missing rows ≡ rows ++ missing
 at-new id change missing [] h = refl
 at-new id change missing (r ∷ rs) h = by (bytes_eq r.id id) h (λ e. at-new id change missing rs e)
@@ -86,7 +86,7 @@ used-one a v rows p new =
     let gone : without a.id rows ≡ rows = at-new a.id (λ _. []) [] rows new ∙ nil-right rows in
     rw (p.act, gone) (at-new a.id (more_values CommandLine (v ∷ [])) (row_by a v ∷ []) rows new)
 
--- what is left to fail after the walk
+-- what can still fail after the walk
 abbrev pub end_kinds : Shape → Held → Kinds
 end_kinds s h = or_else (settle_fault s.rules false h) (or_else (defaults_fault (settled s.rules h).rows s.rules) (check_fault s (finished s.rules h) false))
 

@@ -1,4 +1,4 @@
--- The words of a command, as the grammar spells them, are exactly those that the reader takes.
+-- The words of a command, as the grammar spells them, are exactly those that the reader accepts.
 use Rattle.std.proofs.Common.{◌≡◌, ◌∙◌, ◌≤◌, ◌&&◌, ◌||◌, cond, not, true, false, nat_eq, refl, sym, ap, subst, codes, List, [], ◌∷◌, ◌++◌, Bool, Some, None, Option, length, arith}
 use Rattle.std.specs.List.{flat_map, list_all, starts_with}
 use Rattle.std.specs.Str.{bytes_eq}
@@ -64,7 +64,7 @@ place_values names k (Apart name v ∷ pieces) left ws off stand =
 place_values names k (Joined name v ∷ pieces) left ws off stand =
     ap (λ b. cond b (v ∷ entries k (given pieces left ws)) (entries k (given pieces left ws))) (other_name names name k stand.0 off) ∙ place_values names k pieces left ws off stand.1
 
--- ---- a value apart does not begin with `-`
+-- ---- a separate value does not begin with `-`
 
 abbrev pub is_plain : Text → Bool
 is_plain v = not (starts_with nat_eq v (codes "-"))
@@ -140,7 +140,7 @@ abbrev NoneAmong : List Text → List Text → Type 0
 NoneAmong names [] = Unit {0}
 NoneAmong names (id ∷ ids) = (is_among names id ≡ false) × NoneAmong names ids
 
--- options and places of different names; what is told of a place tells the word
+-- options and places of different names; the entry of a place determines the word
 pub record Names (options : List (Text × Text)) (ids pos : List Text) : Type 0 where
   pub fine : list_all is_name (names_of options) ≡ true
   pub off : EachOff ids options

@@ -13,17 +13,17 @@ is_hex byte = (nat_le 48 byte && nat_le byte 57) || (nat_le 97 byte && nat_le by
 abbrev pub is_token : List ℕ → Bool
 is_token word = (length word == 16) && list_all is_hex word
 
--- a positional word where options may stand: `-`, or one that does not begin with `-`
+-- a positional word where options are allowed: `-`, or one that does not begin with `-`
 abbrev pub is_positional : List ℕ → Bool
 is_positional word = bytes_eq word (codes "-") || not (starts_with nat_eq word (codes "-"))
 
--- what `replay` is asked to do: the names of its two files, and the token
+-- the arguments of `replay`: the names of its two files, and the token
 pub record Asked : Type 0 where
   pub config : List ℕ
   pub script : List ℕ
   pub token : List ℕ
 
--- a piece of the words before the mark `--`: a positional word, or an option with its value, which stands apart or is joined by `=`
+-- an element of the words before the mark `--`: a positional word, or an option with its value, which is separate or joined by `=`
 pub data Piece : Type 0 where
   Word : (word : List ℕ) → Piece
   Apart : (name value : List ℕ) → Piece
@@ -39,7 +39,7 @@ spelling (Joined name value) = (codes "--" ++ name ++ 61 ∷ value) ∷ []
 abbrev pub is_among : List (List ℕ) → List ℕ → Bool
 is_among names name = list_any (λ n. bytes_eq n name) names
 
--- a positional word is `-` or does not begin with `-`; an option is the command's own, and a value apart from it does not begin with `-`
+-- a positional word is `-` or does not begin with `-`; an option is the command's own, and a separate value does not begin with `-`
 abbrev pub MayStand : List (List ℕ) → Piece → Type 0
 MayStand names (Word word) = is_positional word ≡ true
 MayStand names (Apart name value) = (is_among names name ≡ true) × (starts_with nat_eq value (codes "-") ≡ false)
@@ -49,19 +49,19 @@ abbrev pub EachMayStand : List (List ℕ) → List Piece → Type 0
 EachMayStand names [] = ⊤
 EachMayStand names (piece ∷ pieces) = MayStand names piece × EachMayStand names pieces
 
--- the positional word of a piece, if it is one
+-- the positional word of an element, if it is one
 abbrev pub word_in : Piece → List (List ℕ)
 word_in (Word word) = word ∷ []
 word_in (Apart name value) = []
 word_in (Joined name value) = []
 
--- the value that a piece gives the option of that name, if it does
+-- the value that an element gives the option of that name, if it does
 abbrev pub value_in : List ℕ → Piece → List (List ℕ)
 value_in option (Word word) = []
 value_in option (Apart name value) = if bytes_eq option name then value ∷ [] else []
 value_in option (Joined name value) = if bytes_eq option name then value ∷ [] else []
 
--- each of these options has exactly this value, and stands once
+-- each of these options has exactly this value, and occurs once
 abbrev pub EachOnce : List (List ℕ × List ℕ) → List Piece → Type 0
 EachOnce [] pieces = ⊤
 EachOnce (option ∷ options) pieces = (flat_map (value_in option.0) pieces ≡ option.1 ∷ []) × EachOnce options pieces
@@ -71,7 +71,7 @@ abbrev pub names_of : List (List ℕ × List ℕ) → List (List ℕ)
 names_of [] = []
 names_of (option ∷ options) = option.0 ∷ names_of options
 
--- the words behind the pieces: none, or the mark and then positional words alone
+-- the words after the elements: none, or the mark and then positional words only
 abbrev pub mark_words : Option (List (List ℕ)) → List (List ℕ)
 mark_words None = []
 mark_words (Some words) = codes "--" ∷ words

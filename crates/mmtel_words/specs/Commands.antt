@@ -1,10 +1,10 @@
--- What the reader of the words gives, by its texts.
+-- The result of reading the words, by its texts.
 use Rattle.std.specs.Prelude.{Option, Some, None}
 use Rattle.mmtel_words.specs.CommandLine.{Command, Serve, Replay, Check, Charges, Workload}
 use Rattle.mmtel_words.specs.declared.wanted.Wanted.{Wanted}
 use Rattle.mmtel_words.specs.declared.wanted.Wanted.TheVariants as wanted
 
--- the command that is wanted
+-- the requested command
 abbrev pub command_in : Wanted → Command
 command_in (wanted.Serve serve) = Serve serve.config serve.token serve.turns
 command_in (wanted.Replay replay) = Replay (record { config = replay.config; script = replay.script; token = replay.token })

@@ -1,6 +1,6 @@
--- What a user of the crate believes: the grammar of the command line, and the command that an answer stands for.
+-- Definitions that a user of the crate has to trust: the grammar of the command line, and the command that a result means.
 pub mod CommandLine
 pub mod Commands
--- What private functions cite: the commands as `clap` is told of them, and what the readers answer.
+-- Definitions that private functions cite: the commands as `clap` is configured, and the results of the readers.
 pub mod Rules
 pub mod Reads

@@ -1,4 +1,4 @@
--- What the functions that read the words of one command answer.
+-- The results of the functions that read the words of one command.
 use Rattle.std.specs.Prelude.{◌≡◌, ◌≢◌, ℕ, ◌≤◌, List, [], ◌∷◌, map, true, false, Option, Some, None, Result, Ok, Err, ⊤, decimal, Vec}
 use Rattle.std.specs.Borrow.{Bor}
 use Rattle.std.specs.declared.alloc.Global.{Global}
@@ -32,7 +32,7 @@ AreTexts words (Ok texts) = (map (λ w. w.now) texts.items ≡ words) × EachTex
 AreTexts words (Err Words) = EachText words → ⊥
 AreTexts words (Err NoMemory) = ⊤
 
--- what `clap` finds in the words behind a command
+-- what `clap` finds in the words after a command
 abbrev pub FoundIn : App → List Text → Result ArgMatches Refused → Type 0
 FoundIn app words (Ok m) = (fault_of app words ≡ []) × (rows_of (found_of m) ≡ matches_of app words)
 FoundIn app words (Err Words) = fault_of app words ≢ []
@@ -54,7 +54,7 @@ IsToken value (Ok text) = (value ≡ Some text) × (is_token text ≡ true)
 IsToken value (Err Words) = (text : Text) → value ≡ Some text → is_token text ≡ false
 IsToken value (Err NoMemory) = ⊤
 
--- the number that is that value, within these
+-- the number that is that value, within these limits
 abbrev pub IsNumber : Option Text → ℕ → ℕ → Result ℕ Refused → Type 0
 IsNumber value least most (Ok number) = (value ≡ Some (decimal number)) × (least ≤ number) × (number ≤ most)
 IsNumber value least most (Err Words) = (number : ℕ) → least ≤ number → number ≤ most → value ≢ Some (decimal number)

@@ -1,17 +1,17 @@
--- The commands as the library `clap` is told of them.
+-- The commands as the library `clap` is configured.
 use Rattle.std.specs.Prelude.{Some, true, codes}
 use Rattle.clap.specs.Words.{App, Rule, Text, new_app, new_rule, with_rule}
 use Rattle.clap.specs.Simple.{on_top}
 
--- an option that has to be there, with a value
+-- a required option, with a value
 abbrev pub option_arg : Text → Rule
 option_arg name = record (new_rule name) { long = Some name; required = true }
 
--- a positional word that has to be there
+-- a required positional word
 abbrev pub position_arg : Text → Rule
 position_arg name = record (new_rule name) { required = true }
 
--- a command whose words do not begin with the program's name, and that knows no request for help
+-- a command whose words do not begin with the program's name, and that has no help option
 abbrev pub bare : Text → App
 bare name = on_top (λ s. record s { no_binary_name = true; disable_help_flag = true }) (new_app name)
 

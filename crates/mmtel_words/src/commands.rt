@@ -22,7 +22,7 @@ const CALLS: u32 = 10_000;
 /// The greatest salt of a workload.
 const SALT: u32 = 4_294_967_295;
 
-/// A command whose words do not begin with the program's name, and that knows no request for help.
+/// A command whose words do not begin with the program's name, and that has no help option.
 fn bare<'a>(alloc: Global, name: &'a str) -> Command<'a>
     ensures { app_of result ≡ bare name.entry.now }
 {
@@ -31,7 +31,7 @@ fn bare<'a>(alloc: Global, name: &'a str) -> Command<'a>
         .disable_help_flag(true)
 }
 
-/// An option that has to be there, with a value.
+/// A required option, with a value.
 fn option<'a>(alloc: Global, name: &'a str) -> Arg<'a>
     ensures rule { rule_of result ≡ option_arg name.entry.now }
     ensures local { result.global ≡ false }
@@ -39,7 +39,7 @@ fn option<'a>(alloc: Global, name: &'a str) -> Arg<'a>
     Arg::new(alloc, name).long(name).required(true)
 }
 
-/// A positional word that has to be there.
+/// A required positional word.
 fn positional<'a>(alloc: Global, name: &'a str) -> Arg<'a>
     ensures rule { rule_of result ≡ position_arg name.entry.now }
     ensures local { result.global ≡ false }
@@ -83,7 +83,7 @@ fn workload_command<'a>(alloc: Global) -> Result<Command<'a>, AllocError>
         .arg(option(alloc, "salt"))
 }
 
-/// What the words behind `serve` ask for.
+/// What the words after `serve` request.
 fn read_serve<'a>(alloc: Global, words: &'a [&'a str]) -> Result<Wanted, Refused>
     requires { EachText (codes "serve" ∷ map (λ w. w.now) words.now) }
     ensures { Tells (codes "serve" ∷ map (λ w. w.now) words.entry.now) result }
@@ -102,7 +102,7 @@ fn read_serve<'a>(alloc: Global, words: &'a [&'a str]) -> Result<Wanted, Refused
     }))
 }
 
-/// What the words behind `replay` ask for.
+/// What the words after `replay` request.
 fn read_replay<'a>(alloc: Global, words: &'a [&'a str]) -> Result<Wanted, Refused>
     requires { EachText (codes "replay" ∷ map (λ w. w.now) words.now) }
     ensures { Tells (codes "replay" ∷ map (λ w. w.now) words.entry.now) result }
@@ -121,7 +121,7 @@ fn read_replay<'a>(alloc: Global, words: &'a [&'a str]) -> Result<Wanted, Refuse
     }))
 }
 
-/// The one word behind `check` or `charges`.
+/// The one word after `check` or `charges`.
 fn read_file<'a>(alloc: Global, name: &'a str, words: &'a [&'a str]) -> Result<Text, Refused>
     requires { EachText (name.now ∷ map (λ w. w.now) words.now) }
     ensures { IsOneFile name.entry.now (map (λ w. w.now) words.entry.now) result }
@@ -133,7 +133,7 @@ fn read_file<'a>(alloc: Global, name: &'a str, words: &'a [&'a str]) -> Result<T
     text(alloc, &matches, "file")
 }
 
-/// What the words behind `workload` ask for.
+/// What the words after `workload` request.
 fn read_workload<'a>(alloc: Global, words: &'a [&'a str]) -> Result<Wanted, Refused>
     requires { EachText (codes "workload" ∷ map (λ w. w.now) words.now) }
     ensures { Tells (codes "workload" ∷ map (λ w. w.now) words.entry.now) result }
@@ -147,7 +147,7 @@ fn read_workload<'a>(alloc: Global, words: &'a [&'a str]) -> Result<Wanted, Refu
     Ok(Wanted::Workload { calls, salt })
 }
 
-/// What the words behind `check` ask for.
+/// What the words after `check` request.
 fn read_check<'a>(alloc: Global, words: &'a [&'a str]) -> Result<Wanted, Refused>
     requires { EachText (codes "check" ∷ map (λ w. w.now) words.now) }
     ensures { Tells (codes "check" ∷ map (λ w. w.now) words.entry.now) result }
@@ -156,7 +156,7 @@ fn read_check<'a>(alloc: Global, words: &'a [&'a str]) -> Result<Wanted, Refused
     Ok(Wanted::Check(records))
 }
 
-/// What the words behind `charges` ask for.
+/// What the words after `charges` request.
 fn read_charges<'a>(alloc: Global, words: &'a [&'a str]) -> Result<Wanted, Refused>
     requires { EachText (codes "charges" ∷ map (λ w. w.now) words.now) }
     ensures { Tells (codes "charges" ∷ map (λ w. w.now) words.entry.now) result }
@@ -165,7 +165,7 @@ fn read_charges<'a>(alloc: Global, words: &'a [&'a str]) -> Result<Wanted, Refus
     Ok(Wanted::Charges(config))
 }
 
-/// What the words behind this first one ask for.
+/// The command that this first word and the words after it are.
 fn read_rest<'a>(alloc: Global, name: &str, words: &'a [&'a str]) -> Result<Wanted, Refused>
     requires { EachText (name.now ∷ map (λ w. w.now) words.now) }
     ensures { Tells (name.now ∷ map (λ w. w.now) words.entry.now) result }
@@ -201,7 +201,7 @@ fn texts_of<'a>(alloc: Global, words: &'a [Text]) -> Result<Vec<&'a str>, Refuse
     Ok(texts)
 }
 
-/// What the words ask for, the command first.
+/// The command of the words, the command's name first.
 fn read_words(alloc: Global, words: &[Text]) -> Result<Wanted, Refused>
     ensures { Tells words.now result }
 {
@@ -212,17 +212,16 @@ fn read_words(alloc: Global, words: &[Text]) -> Result<Wanted, Refused>
     }
 }
 
-/// What the words ask for, the command first; None exactly where they are not of the grammar.
+/// The command of the words, the command's name first; None exactly where they are not of the grammar.
 ///
-/// The commands are `serve CONFIG --token T --turns N`, `replay CONFIG SCRIPT --token T`, `check RECORDS`, `charges CONFIG` and `workload --calls N --salt S`. The words
-/// behind the command are read from the left: `--name value` or `--name=value` for an option of the command, each exactly once, a separate value not beginning with `-`;
-/// `--`, which makes all later words positional; any other word is positional if it is `-` or does not begin with `-`. The positional words are exactly as many as named. T
-/// is 16 lower-case hexadecimal digits; turns are 1 to 1,000,000,000, calls 1 to 10,000 and the salt 0 to 4,294,967,295, each in decimal without leading zeros. Each word
-/// is UTF-8.
+/// The commands are `serve CONFIG --token T --turns N`, `replay CONFIG SCRIPT --token T`, `check RECORDS`, `charges CONFIG` and `workload --calls N --salt S`. The words after the
+/// command are read from the left: `--name value` or `--name=value` for an option of the command, each exactly once, a separate value not beginning with `-`; `--`, which makes all
+/// later words positional; any other word is positional if it is `-` or does not begin with `-`. The positional words are exactly as many as named. T is 16 lower-case hexadecimal
+/// digits; turns are 1 to 1,000,000,000, calls 1 to 10,000 and the salt 0 to 4,294,967,295, each in decimal without leading zeros. Each word is UTF-8.
 ///
 /// # Errors
 ///
-/// Want of memory alone.
+/// Out of memory only.
 pub fn command(alloc: Global, words: &[Text]) -> Result<Option<Wanted>, NoMemory>
     ensures spelled { IfOk result (λ given. IfSome (command_given given) (λ wanted. IsCommand wanted words.now)) }
     ensures only { IfOk result (λ given. (wanted : Spelled) → IsCommand wanted words.now → command_given given ≡ Some wanted) }
@@ -234,7 +233,7 @@ pub fn command(alloc: Global, words: &[Text]) -> Result<Option<Wanted>, NoMemory
     }
 }
 
-/// The same words spell one command at most.
+/// The same words spell at most one command.
 pub fn one_command_at_most()
     ensures alone { (one other : Spelled) (words : List (List ℕ)) → IsCommand one words → IsCommand other words → one ≡ other }
 {}

@@ -1,4 +1,4 @@
-//! The words of the command line, read by `clap` behind a grammar of this project's own.
+//! The words of the command line, read by `clap` according to a grammar of this project's own.
 #![tactic(auto)]
 
 mod commands;

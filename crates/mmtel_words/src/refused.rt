@@ -1,7 +1,7 @@
-//! Why words gave no command.
+//! Why words are no command.
 use mmtel_scan::NoMemory;
 
-/// Why words gave no command.
+/// Why words are no command.
 #[derive(Clone, Copy, Debug, PartialEq, Eq)]
 pub enum Refused {
     /// They are not of the grammar.

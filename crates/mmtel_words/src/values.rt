@@ -32,7 +32,7 @@ fn is_token(word: &[u8]) -> bool
     word.len() == 16 && is_all_hex(word)
 }
 
-/// What a command finds in the words behind its name.
+/// The arguments that a command finds in the words after its name.
 pub fn found<'a>(command: Command<'a>, words: &'a [&'a str]) -> Result<ArgMatches<'a>, Refused>
     requires { is_simple_and_free (app_of command) ≡ true }
     ensures { FoundIn (app_of command.entry) (map (λ w. w.now) words.entry.now) result }
@@ -81,7 +81,7 @@ pub fn token(alloc: Global, matches: &ArgMatches<'_>, name: &str) -> Result<Text
     }
 }
 
-/// The number of that name, within these.
+/// The number of that name, within these limits.
 pub fn number(matches: &ArgMatches<'_>, name: &str, least: u64, most: u64) -> Result<u64, Refused>
     ensures { IsNumber (value_of matches.now name.now) least most result }
 {
@@ -94,7 +94,7 @@ pub fn number(matches: &ArgMatches<'_>, name: &str, least: u64, most: u64) -> Re
     }
 }
 
-/// The number of that name, of 32 bits, within these.
+/// The number of that name, of 32 bits, within these limits.
 pub fn small_number(
     matches: &ArgMatches<'_>,
     name: &str,

@@ -1,40 +1,40 @@
-//! What the words ask for.
+//! The requested command.
 use mmtel_scan::Text;
 
-/// What `serve` is asked to do.
+/// The arguments of `serve`.
 #[derive(Drop)]
 pub struct Serve {
     /// The name of the configuration's file.
     pub config: Text,
-    /// The token: 16 lower-case hexadecimal digits, from which branches, tags and Call-IDs are made.
+    /// The token: 16 lower-case hexadecimal digits, from which branches, tags and Call-IDs are generated.
     pub token: Text,
-    /// How many turns are made at most: 1 to 1,000,000,000.
+    /// The maximum number of turns: 1 to 1,000,000,000.
     pub turns: u64,
 }
 
-/// What `replay` is asked to do: the names of its two files, and the token.
+/// The arguments of `replay`: the names of its two files, and the token.
 #[derive(Drop)]
 pub struct Replay {
     /// The name of the configuration's file.
     pub config: Text,
     /// The name of the script's file.
     pub script: Text,
-    /// The token: 16 lower-case hexadecimal digits, from which branches, tags and Call-IDs are made.
+    /// The token: 16 lower-case hexadecimal digits, from which branches, tags and Call-IDs are generated.
     pub token: Text,
 }
 
-/// What the words ask for.
+/// The requested command.
 #[derive(Drop)]
 pub enum Wanted {
-    /// That the server serve the network.
+    /// Serve the network.
     Serve(Serve),
-    /// That a script be replayed.
+    /// Replay a script.
     Replay(Replay),
-    /// That the file of this name be checked: whether it is a service record.
+    /// Check the file of this name: whether it is a service record.
     Check(Text),
-    /// That the charging rows be written that the store of the configuration of this name holds.
+    /// Write the charging rows in the store that the configuration of this name names.
     Charges(Text),
-    /// That so many calls be made of this salt, over links and a keeper in memory.
+    /// Make so many calls of this salt, over links and a keeper in memory.
     Workload {
         /// How many: 1 to 10,000.
         calls: u32,

@@ -1,4 +1,4 @@
--- Texts behind texts, and what follows of a call that answers Ok.
+-- Texts after texts, and what follows of a call that answers Ok.
 use Rattle.std.proofs.Common.{◌≡◌, List, ◌++◌, ◌∙◌, append_assoc, Ok, Err}
 use Rattle.std.specs.Prelude.{OnOk}
 use Rattle.std.specs.declared.result.Result.{Result}

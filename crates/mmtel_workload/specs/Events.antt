@@ -1,4 +1,4 @@
--- What the server hears of a workload: the events of so many calls by a salt.
+-- The inputs of the server in a workload: the events of so many calls by a salt.
 use Rattle.std.specs.Prelude.{ℕ, zero, suc, ◌+◌, ◌*◌, List, [], ◌∷◌, ◌++◌, map}
 use Rattle.mmtel_outside.specs.declared.events.Event.{Event}
 use Rattle.mmtel_outside.specs.declared.events.Event.TheVariants.{Datagram}
@@ -18,7 +18,7 @@ core_addr = record { ip = 127 ∷ 0 ∷ 0 ∷ 1 ∷ []; port = 5071 }
 abbrev pub far_addr : Addr
 far_addr = record { ip = 127 ∷ 0 ∷ 0 ∷ 1 ∷ []; port = 5072 }
 
--- where the answers come from: where she reaches the other network, from there
+-- where the responses come from: where she reaches the other network, from there
 abbrev pub answers_from : Kind → Addr
 answers_from Answered = core_addr
 answers_from Diverted = far_addr
@@ -38,19 +38,19 @@ heard_from kind act.Cancel = core_addr
 heard_from kind act.Stopped = answers_from kind
 heard_from kind act.Terminated = answers_from kind
 
--- what is heard of an act: call `k` begins at 10,000 `k` milliseconds
+-- the input of an action: call `k` begins at 10,000 `k` milliseconds
 abbrev pub event_of : Call → (ℕ × Act) → Event
 event_of call step = Datagram (heard_from call.kind step.1) (call.number * 10000 + step.0) (heard_text call step.1)
 
--- what is heard of a call
+-- the inputs of a call
 abbrev pub events_of : Call → List Event
 events_of call = map (event_of call) (acts_of call.kind)
 
--- the call behind so many, by the salt
+-- the call after so many, by the salt
 abbrev pub call_behind : (salt before : ℕ) → Call
 call_behind salt before = record { number = before + 1; kind = kind_by (value_of salt (suc before)); drawn = drawn_before salt before }
 
--- what is heard of so many calls, by the salt
+-- the inputs of so many calls, by the salt
 abbrev pub work_events : (calls salt : ℕ) → List Event
 work_events zero salt = []
 work_events (suc before) salt = work_events before salt ++ events_of (call_behind salt before)

@@ -1,15 +1,15 @@
--- Which calls a workload makes: the kind of each by its number and a salt, what is done in it, and how many numbers the server draws for it.
+-- Which calls a workload makes: the kind of each by its number and a salt, the actions in it, and how many numbers the server draws for it.
 use Rattle.std.specs.Prelude.{ℕ, zero, suc, ◌+◌, ◌*◌, ◌/◌, ◌%◌, ◌^◌, ◌==◌, if◌then◌else◌, List, [], ◌∷◌}
 use Rattle.mmtel_workload.specs.declared.kinds.Act.{Act}
 use Rattle.mmtel_workload.specs.declared.kinds.Act.TheVariants as act
 use Rattle.mmtel_workload.specs.declared.kinds.Kind.{Kind}
 use Rattle.mmtel_workload.specs.declared.kinds.Kind.TheVariants.{Answered, Diverted, Busy, GivenUp}
 
--- the value of the rule behind another
+-- the value of the rule after another
 abbrev pub next_value : ℕ → ℕ
 next_value value = (1103515245 * value + 12345) % 2 ^ 31
 
--- the value of the rule behind the salt so many times: that of a call is the one of its number
+-- the value of the rule so many times after the salt: that of a call is the one of its number
 abbrev pub value_of : (salt number : ℕ) → ℕ
 value_of salt zero = salt
 value_of salt (suc before) = next_value (value_of salt before)
@@ -22,7 +22,7 @@ kind_by value =
     else if value / 65536 % 4 == 2 then Busy
     else GivenUp
 
--- what is done in a call of this kind, in order, each so many milliseconds behind its begin
+-- the actions in a call of this kind, in order, each so many milliseconds after its beginning
 abbrev pub acts_of : Kind → List (ℕ × Act)
 acts_of Answered = (0, act.Invite) ∷ (100, act.Ring) ∷ (200, act.Answer) ∷ (300, act.Confirm) ∷ (400, act.Bye) ∷ (500, act.Ended) ∷ []
 acts_of Diverted = (0, act.Invite) ∷ (100, act.Ring) ∷ (200, act.Answer) ∷ (300, act.Confirm) ∷ (400, act.Bye) ∷ (500, act.Ended) ∷ []

@@ -1,4 +1,4 @@
--- What the parties of a workload's call send, byte by byte (RFC 3261 §7): requests of alice, and responses of whom she reaches.
+-- What the parties of a workload's call send, byte by byte (RFC 3261 §7): requests of alice, and responses of the party that she reaches.
 use Rattle.std.specs.Prelude.{ℕ, ◌+◌, List, [], ◌++◌, codes, decimal}
 use Rattle.mmtel_workload.specs.declared.calls.Call.{Call}
 use Rattle.mmtel_workload.specs.declared.calls.Way.{Way}
@@ -8,19 +8,19 @@ use Rattle.mmtel_workload.specs.declared.kinds.Act.TheVariants as act
 use Rattle.mmtel_workload.specs.declared.kinds.Kind.{Kind}
 use Rattle.mmtel_workload.specs.declared.kinds.Kind.TheVariants as kind
 
--- the identifier that the server draws as this one of the call, from the token 0123456789abcdef: its own tag, and the Call-ID, tag and branch of its INVITE, are the first to
+-- the identifier with this number of the call that the server draws, from the token 0123456789abcdef: its own tag, and the Call-ID, tag and branch of its INVITE, are the first to
 -- the fourth, and the branches of its ACK and its BYE the fifth and the sixth
 abbrev pub drawn_text : Call → ℕ → List ℕ
 drawn_text call number = codes "0123456789abcdef-" ++ decimal (call.drawn + number)
 
--- whom alice calls
+-- the user that alice calls
 abbrev pub callee : Kind → List ℕ
 callee kind.Answered = codes "sip:bob@home.example"
 callee kind.Diverted = codes "sip:carol@home.example"
 callee kind.Busy = codes "sip:bob@home.example"
 callee kind.GivenUp = codes "sip:bob@home.example"
 
--- whom she reaches
+-- the user that she reaches
 abbrev pub reached : Kind → List ℕ
 reached kind.Answered = codes "sip:bob@home.example"
 reached kind.Diverted = codes "sip:vm@far.example"
@@ -29,13 +29,13 @@ reached kind.GivenUp = codes "sip:bob@home.example"
 
 -- ---- requests of alice
 
--- where one goes: to the callee, and in the dialog to the server
+-- its Request-URI: the callee, and in the dialog the server
 abbrev pub request_uri : Call → Way → List ℕ
 request_uri call Opening = callee call.kind
 request_uri call Tagged = callee call.kind
 request_uri call Dialog = codes "sip:127.0.0.1:5060"
 
--- Via, Max-Forwards and From, by the letter of its branch: branch and tag are made of the number of the call
+-- Via, Max-Forwards and From, by the letter of its branch: branch and tag are built of the number of the call
 abbrev pub from_lines : Call → (letter : List ℕ) → List ℕ
 from_lines call letter =
     codes "Via: SIP/2.0/UDP 127.0.0.1:5071;branch=z9hG4bK" ++ letter ++ decimal call.number
@@ -55,17 +55,17 @@ abbrev pub call_lines : Call → (method : List ℕ) → (sequence : ℕ) → Li
 call_lines call method sequence =
     codes "Call-ID: w" ++ decimal call.number ++ codes "\r\nCSeq: " ++ decimal sequence ++ codes " " ++ method ++ codes "\r\n"
 
--- one of this method, letter and CSeq number, with lines of its own
+-- one of this method, letter and CSeq number, with header fields of its own
 abbrev pub request_text : Call → (method letter : List ℕ) → (sequence : ℕ) → Way → (more : List ℕ) → List ℕ
 request_text call method letter sequence way more =
     method ++ codes " " ++ request_uri call way ++ codes " SIP/2.0\r\n" ++ from_lines call letter ++ to_line call way ++ call_lines call method sequence
     ++ more ++ codes "Content-Length: 0\r\n\r\n"
 
--- the lines that her INVITE has of its own
+-- the header fields that only her INVITE has
 abbrev pub invite_lines : List ℕ
 invite_lines = codes "Contact: <sip:alice@127.0.0.1:5071>\r\nP-Asserted-Identity: <sip:alice@home.example>\r\n"
 
--- ---- responses of whom she reaches
+-- ---- responses of the party that she reaches
 
 -- Via and From of the server's request, whose branch is the identifier of this number
 abbrev pub asked_lines : Call → (branch : ℕ) → List ℕ
@@ -84,7 +84,7 @@ response_text call status branch sequence =
     codes "SIP/2.0 " ++ status ++ codes "\r\n" ++ asked_lines call branch ++ reached_lines call ++ codes "CSeq: " ++ sequence
     ++ codes "\r\nContact: <sip:target@127.0.0.1:5071>\r\nContent-Length: 0\r\n\r\n"
 
--- ---- what is heard
+-- ---- inputs of the server
 
 abbrev pub heard_text : Call → Act → List ℕ
 heard_text call act.Invite = request_text call (codes "INVITE") (codes "i") 1 Opening invite_lines

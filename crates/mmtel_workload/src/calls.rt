@@ -12,24 +12,24 @@ use std::alloc::Global;
 pub struct Call {
     /// Its number, from 1.
     pub number: u32,
-    /// What becomes of it.
+    /// Its kind.
     pub kind: Kind,
     /// How many numbers for identifiers the server drew before it.
     pub drawn: u64,
 }
 
-/// Where a request goes: in the call's dialog (RFC 3261 §12) or outside it, and there with or without the tag of the other side.
+/// The Request-URI and To of a request: in the call's dialog (RFC 3261 §12) or outside it, and there with or without the tag of the other side.
 #[derive(Clone, Copy, Debug, PartialEq, Eq)]
 pub enum Way {
     /// To the callee, outside a dialog.
     Opening,
-    /// To the callee, with the tag of the answer.
+    /// To the callee, with the tag of the response.
     Tagged,
     /// To the server, in the dialog.
     Dialog,
 }
 
-/// Adds a text and a number behind it.
+/// Adds a text and a number after it.
 fn add_numbered(alloc: Global, text: &mut Text, front: &[u8], number: u64) -> Result<(), NoMemory>
     ensures added { OnOk result (text.new ≡ text.old ++ front.now ++ decimal number) }
 {
@@ -38,7 +38,7 @@ fn add_numbered(alloc: Global, text: &mut Text, front: &[u8], number: u64) -> Re
 }
 
 impl Call {
-    /// Whom alice calls.
+    /// The user that alice calls.
     fn callee(self) -> &'static [u8]
         ensures callee { result.now ≡ callee self.kind }
     {
@@ -48,7 +48,7 @@ impl Call {
         }
     }
 
-    /// Whom she reaches.
+    /// The user that she reaches.
     fn reached(self) -> &'static [u8]
         ensures reached { result.now ≡ reached self.kind }
     {
@@ -58,7 +58,7 @@ impl Call {
         }
     }
 
-    /// Where a request goes.
+    /// The Request-URI of a request.
     fn request_uri(self, way: Way) -> &'static [u8]
         ensures uri { result.now ≡ request_uri self way }
     {
@@ -129,7 +129,7 @@ impl Call {
         text.push(alloc, b"\r\n")
     }
 
-    /// A request of alice, with lines of its own.
+    /// A request of alice, with header fields of its own.
     fn request(
         self,
         alloc: Global,
@@ -177,7 +177,7 @@ impl Call {
         text.push(alloc, b"\r\n")
     }
 
-    /// A response of whom she reaches.
+    /// A response of the party that she reaches.
     fn response(
         self,
         alloc: Global,
@@ -202,7 +202,7 @@ impl Call {
         Ok(text)
     }
 
-    /// What the server hears of an act.
+    /// The message of an action, which the server receives.
     pub fn heard(self, alloc: Global, act: Act) -> Result<Text, NoMemory>
         requires few { self.drawn < 2 ^ 63 }
         ensures text { IfOk result (λ text. text ≡ heard_text self act) }

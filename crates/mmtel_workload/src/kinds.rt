@@ -1,8 +1,8 @@
-//! Which calls are made, and what is done in each of them.
+//! Which calls are made, and the actions in each of them.
 ghost use Rattle.std.specs.Prelude.{◌≡◌, ◌≤◌};
 ghost use Rattle.mmtel_workload.specs.Kinds.{acts_of, drawn_in, kind_by, next_value};
 
-/// What becomes of a call.
+/// The kind of a call.
 #[derive(Clone, Copy, Debug, PartialEq, Eq)]
 pub enum Kind {
     /// Bob answers, and alice hangs up.
@@ -11,16 +11,16 @@ pub enum Kind {
     Diverted,
     /// Bob is busy.
     Busy,
-    /// Alice gives up while bob's phone rings.
+    /// Alice abandons the call while bob's phone rings.
     GivenUp,
 }
 
-/// What a party does.
+/// An action of a party.
 #[derive(Clone, Copy, Debug, PartialEq, Eq)]
 pub enum Act {
     /// Alice's INVITE.
     Invite,
-    /// 180 of whom she reaches.
+    /// 180 of the party that she reaches.
     Ring,
     /// 200 to the INVITE.
     Answer,
@@ -55,7 +55,7 @@ const ANSWERED: &[(u16, Act)] = &[
 /// A call to one who is busy.
 const BUSY: &[(u16, Act)] = &[(0, Act::Invite), (100, Act::Busy), (200, Act::Accept)];
 
-/// A call that is given up.
+/// A call that is abandoned.
 const GIVEN_UP: &[(u16, Act)] = &[
     (0, Act::Invite),
     (100, Act::Ring),
@@ -78,7 +78,7 @@ impl Kind {
         }
     }
 
-    /// What is done in such a call, each so many milliseconds behind its begin.
+    /// The actions in such a call, each so many milliseconds after its beginning.
     pub fn acts(self) -> &'static [(u16, Act)]
         ensures acts { result.now ≡ acts_of self }
     {

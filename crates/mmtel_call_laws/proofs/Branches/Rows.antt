@@ -1,4 +1,4 @@
--- Each row of the step table sends at most one INVITE, PRACK or UPDATE, with a number that is drawn for it; and the INVITEs of the call, and what is in flight, were sent to their peers.
+-- Each transition of the step table sends at most one INVITE, PRACK or UPDATE, with a number that is drawn for it; and the INVITEs of the call, and its requests in flight, were sent to their peers.
 use Rattle.std.proofs.Common.{◌≡◌, ◌<◌, ◌≤◌, ◌^◌, ◌+◌, ◌==◌, ◌&&◌, Bool, true, false, not, ℕ, zero, suc, List, [], ◌∷◌, ◌++◌, Option, Some, None, refl, sym, subst, inl, inr, arith, nat_lt, Result, Ok, Err, codes, append-nil}
 use Rattle.std.specs.Prelude.{IfSome, if◌then◌else◌, option_to_list, position, slice_get}
 use Rattle.std.specs.List.{filter}
@@ -113,9 +113,9 @@ module _ (asked : (method branch : List ℕ) → Peer → Type 0) (site : Site) 
   abbrev sent : List ℕ → Peer → Type 0
   sent = asked (codes "INVITE")
 
-  -- ---- what goes out
+  -- ---- what is sent
 
-  -- what is asked is among what was asked, by its method
+  -- a request that is sent is among those that were sent, by its method
   abbrev pub AskWasSent : Emit → Type 0
   AskWasSent (emit.Ask peer m) = (method branch : List ℕ) → IsRequest method site.sip branch m → asked method branch peer
   AskWasSent (emit.Reply key m) = Unit {0}
@@ -129,7 +129,7 @@ module _ (asked : (method branch : List ℕ) → Peer → Type 0) (site : Site) 
     pub same : desk.tokens.token ≡ text
     pub out_in : desk.tokens.drawn < 2 ^ 60 → AreNumbered site.sip text low desk.tokens.drawn desk.out
 
-  -- a step leaves a call whose INVITEs were sent, and what is in flight, where those were that go out in it
+  -- after a step the INVITEs of the call were sent, and its requests in flight, if those were that the step sends
   pub record Good (s : Step) : Type 0 where
     pub call_in : Each AskWasSent s.desk.out → CallWasSent asked s.call
     pub desk_in : Counted s.desk
@@ -178,7 +178,7 @@ module _ (asked : (method branch : List ℕ) → Peer → Type 0) (site : Site) 
   if_desk true one two e f = e
   if_desk false one two e f = f
 
-  -- ---- what is asked and has no answer that is waited for
+  -- ---- requests whose response is not awaited
 
   no_bye : (d : Dialogue) (number : ℕ) (given : Given) → IsNotAwaited (numbered d number (codes "BYE") given)
   no_bye d number given None = refl
@@ -271,7 +271,7 @@ module _ (asked : (method branch : List ℕ) → Peer → Type 0) (site : Site) 
       by true = is
       by false = is
 
-  -- what is armed for the session of a 2xx sends nothing
+  -- the deadline for the session of a 2xx sends nothing
   expiries_in : (timer : Bool) (time : Option ℕ) (at : ℕ) (c : Call) (desk : Desk) → Counted desk → Counted (record desk { out = desk.out ++ (if timer then expiry_in time at c else []) })
   expiries_in true None at c desk had = simp append-nil had
   expiries_in true (Some time) at c desk had = emit_in _ desk (λ n. refl) had
@@ -280,7 +280,7 @@ module _ (asked : (method branch : List ℕ) → Peer → Type 0) (site : Site) 
   expiry_awaited : (at : ℕ) (m : Said) (c : Call) (desk : Desk) → Counted desk → Counted (awaiting_expiry site at m c desk)
   expiry_awaited at m c desk had = expiries_in site.timer (expiry_after m.heard.session) at c desk had
 
-  -- ---- what is in flight
+  -- ---- requests in flight
 
   settled_good : (own : Option ℕ) (c : Call) (desk : Desk) → Counted desk → Counted (settled site own c desk)
   settled_good own c desk had = if_desk site.reliable (emitted (emit.Settled c.opening.key own) desk) desk (emit_in _ desk (λ n. refl) had) had
@@ -304,7 +304,7 @@ module _ (asked : (method branch : List ℕ) → Peer → Type 0) (site : Site) 
   with_flights : (flights : List Flight) (c : Call) → Each (FlightWasSent asked) flights → Others c → Others (record c { flights = flights })
   with_flights flights c all k = record { loose_in = k.loose_in; taken_in = k.taken_in; flights_in = all }
 
-  -- its answer comes back
+  -- the final response is relayed back
 
   agreed_row : (kind : FlightKind) (at : ℕ) (side : Side) (request response : Said) (c : Call) (desk : Desk) → At c.phase → Others c → Counted desk → Good (flying.agreed kind site at side request response c desk)
   agreed_row Prack at side request response c desk p k had = onward_good c desk p k had
@@ -339,7 +339,7 @@ module _ (asked : (method branch : List ℕ) → Peer → Type 0) (site : Site) 
   silent_in_flight_row None c desk p k had = onward_good c desk p k had
   silent_in_flight_row (Some place) c desk p k had = silent_flight_row place (slice_get c.flights place) c desk p k had
 
-  -- one more is asked: it goes to the peer of the leg in which it is made
+  -- one more is sent: to the peer of the leg in which it is made
 
   asked_row : (flight : Flight) (passed : List Line) (m : HeardMessage) (d : Dialogue) (c : Call) (told : Desk) → is_awaited_method (method_of flight.kind) ≡ true →
       flight.asked.invitation.branch ≡ token told → flight.asked.invitation.dialogue.peer ≡ d.peer → At c.phase → Others c → Counted told →
@@ -361,7 +361,7 @@ module _ (asked : (method branch : List ℕ) → Peer → Type 0) (site : Site) 
   prack_refused_row key m c desk p k had =
       let code : ℕ = status_of_refusal (acknowledged_by m) in onward_good c (replied_to site c key m code desk) p k (replied_in c key m code desk had)
 
-  -- what is settled draws no token
+  -- settling reliable responses draws no token
   settled_token : (own : Option ℕ) (c : Call) (desk : Desk) → token desk ≡ token (settled site own c desk)
   settled_token own c desk = by site.reliable
     where
@@ -420,7 +420,7 @@ module _ (asked : (method branch : List ℕ) → Peer → Type 0) (site : Site) 
       (if_good (is_update m) (on_update site x side key m c desk) (onward c (unlisted site c key m desk)) (update_row x side key m c desk t p k had)
       (onward_good c (unlisted site c key m desk) p k (unlisted_in c key m desk had)))
 
-  -- ---- the way on
+  -- ---- how the call continues
 
   refused_good : (at : ℕ) (caller : Leg) (cause : Cause) (c : Call) (desk : Desk) → Others c → Counted desk → Good (refused site at caller cause c desk)
   refused_good at caller cause c desk k had = over_good at cause caller.meter None c (told_caller site c (of_causes.status_of cause) desk) k (told_in c (of_causes.status_of cause) desk had)
@@ -664,7 +664,7 @@ module _ (asked : (method branch : List ℕ) → Peer → Type 0) (site : Site) 
       (over_stood_good at x c (acked_and_left site x (other_of side) desk) k (acked_left_in x (other_of side) desk had))
       (staged_good x (Parting waiting success) c desk tt k had)
 
-  -- an INVITE goes across
+  -- an INVITE is relayed
 
   with_leg_sent : (branch : List ℕ) (side : Side) (leg : Leg) (x : Pair) → sent branch leg.dialogue.peer → sent branch (leg_of side (with_leg side leg x)).dialogue.peer
   with_leg_sent branch Caller leg x is = is
@@ -687,7 +687,7 @@ module _ (asked : (method branch : List ℕ) → Peer → Type 0) (site : Site) 
   invited_good : (x : Pair) (side : Side) (key : TKey) (m : Said) (c : Call) (desk : Desk) → Others c → Counted desk → Good (invited site x side key m c desk)
   invited_good x side key m c desk k had = asked_across_good x side key m c (replied_to site c key m 100 desk) k (replied_in c key m 100 desk had)
 
-  -- and its answers come back
+  -- and the responses to it are relayed back
 
   relayed_back_in : (x : Pair) (side : Side) (q : Reinvite) (m : Said) (c : Call) (desk : Desk) → Counted desk → Counted (relayed_back site x side q m c desk)
   relayed_back_in x side q m c desk had = emit_in _ desk (λ n. refl) had
@@ -798,7 +798,7 @@ module _ (asked : (method branch : List ℕ) → Peer → Type 0) (site : Site) 
       (prack_refused_row key m now desk e k had)
       (staged_good x stage c (unlisted site now key m desk) e k (unlisted_in now key m desk had)))))
 
-  -- a request leaves the peers of both legs
+  -- a request does not change the peer of either leg
   leg_heard : (branch : List ℕ) (of side : Side) (m : Said) (x : Pair) → sent branch (leg_of of x).dialogue.peer → sent branch (leg_of of (with_leg side (having_heard (leg_of side x) m) x)).dialogue.peer
   leg_heard branch Caller Caller m x is = is
   leg_heard branch Caller Callee m x is = is
@@ -864,7 +864,7 @@ module _ (asked : (method branch : List ℕ) → Peer → Type 0) (site : Site) 
   due_at_row stage at x what c desk e k had =
       if_good (is_due_at stage c.successes what) (rung_out stage site at x (stood x stage c) desk) (onward (stood x stage c) desk) (rung_row stage at x c desk e k had) (staged_good x stage c desk e k had)
 
-  -- ---- INVITEs that the call does not wait on
+  -- ---- INVITEs for which the call does not wait
 
   record GoodRest (rest : Rest) : Type 0 where
     left_in : IfSome rest.left (LooseWasSent sent)
@@ -1051,7 +1051,7 @@ module _ (asked : (method branch : List ℕ) → Peer → Type 0) (site : Site) 
       unless_refused_good (refusal_of site now.at c.opening) now (caller_of now.at c) c (told_caller site c 100 (drew desk)) (record { loose_in = tt; taken_in = tt; flights_in = tt })
       (told_in c 100 (drew desk) (drew_in desk had))
 
-  -- ---- without a leg
+  -- ---- without a detached leg
 
   finished_in_good : (phase : Phase) (at : ℕ) (c : Call) (desk : Desk) → At phase → Others c → Counted desk → Good (finished_in phase site at (at_phase phase c) desk)
   finished_in_good (Offered x) at c desk p k had = onward_good (at_phase (Offered x) c) desk p k had

@@ -1,4 +1,4 @@
--- The laws: where what was sent is told by what was asked.
+-- The theorems, where what was sent is determined by the requests that were sent to peers.
 use Rattle.std.proofs.Common.{ℕ, List, [], ◌∷◌, ◌++◌, refl, inl, inr, arith, codes}
 use Rattle.mmtel_call_decisions.specs.Site.{Site}
 use Rattle.mmtel_call.specs.Closing.{Step}
@@ -79,7 +79,7 @@ module _ (sip : Addr) where
   sent_behind [] others method branch peer is = is
   sent_behind (ask ∷ asks) others method branch peer is = inr (sent_behind asks others method branch peer is)
 
--- each request that goes out is among what is asked
+-- each request that is sent is among those to peers
 module _ (site : Site) (asked : (method branch : List ℕ) → Peer → Type 0) where
   each_asked : (out : List Emit) → ((method branch : List ℕ) (peer : Peer) → WasAsked site.sip (asks_in out) method branch peer → asked method branch peer) → Each (rows.AskWasSent asked site [] 0) out
   each_asked [] sub = tt
@@ -128,7 +128,7 @@ ends_send_once site at c before tokens is =
     let had = now_sent site before tokens s c is in
     once_good site before tokens s (rows.finished_good sent site tokens.token tokens.drawn at c (fresh tokens) had.phase_in had.others_in (fresh_in sent site tokens))
 
--- ---- a leg is taken out, or put back
+-- ---- a leg is detached, or put back
 
 module _ (asked : (method branch : List ℕ) → Peer → Type 0) where
   abbrev sent : List ℕ → Peer → Type 0

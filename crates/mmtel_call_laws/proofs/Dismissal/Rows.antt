@@ -1,5 +1,4 @@
--- Each row of the step table: where the attempt is left, or the call ends, nothing is added to what is in flight; and in each other one the attempt is the same one, and what is in
--- flight goes on.
+-- Each transition of the step table: where the attempt ends without a 2xx, or the call ends, nothing is added to the requests in flight; in any other the attempt is the same one, and the requests in flight continue.
 use Rattle.std.proofs.Common.{◌≡◌, ◌⊎◌, inl, inr, ◌==◌, ◌&&◌, Bool, true, false, not, ℕ, zero, suc, List, [], ◌∷◌, ◌++◌, Option, Some, None, nat_lt, Result, Ok, Err, codes, refl, sym, subst, append_assoc}
 use Rattle.std.specs.Prelude.{if◌then◌else◌, is_ok, position, slice_get}
 use Rattle.mmtel_answers.specs.Answers.{own_answer, relayed_answer}
@@ -80,19 +79,19 @@ use Rattle.mmtel_call_laws.specs.Dismissal as dismissal
 use Rattle.mmtel_call_laws.specs.Dismissal.{FlightsGoOn, IsAcross, other_dialogue}
 use Rattle.mmtel_call_laws.specs.Story.{is_over}
 
--- ---- what a row may do
+-- ---- what a transition may do
 
--- the attempt is left, or the call ends: nothing is added to what is in flight
+-- the attempt ends without a 2xx, or the call ends: nothing is added to the requests in flight
 abbrev pub Leaves : Call → Step → Type 0
 Leaves c s = (s.call.flights ≡ []) ⊎ (s.call.flights ≡ c.flights)
 
--- the attempt is the same one, and the call goes on, or was over
+-- the attempt is the same one, and the call continues, or was over
 pub record Stays (heard : Signal) (c : Call) (desk : Desk) (s : Step) : Type 0 where
   pub attempts : s.call.attempts ≡ c.attempts
   pub over : is_over s.call.phase ≡ is_over c.phase
   pub flies : FlightsGoOn heard c desk s
 
--- by whether the attempt is left
+-- by whether the attempt ends without a 2xx, or the call ends
 abbrev pub Row : Signal → Bool → Call → Desk → Step → Type 0
 Row heard true c desk s = Leaves c s
 Row heard false c desk s = Stays heard c desk s
@@ -122,7 +121,7 @@ stays_if heard true c desk one two e f = e
 stays_if heard false c desk one two e f = f
 
 module _ (site : Site) where
-  -- ---- the way on
+  -- ---- how the call continues
 
   refused_by_leaves : (at : ℕ) (caller : Leg) (service : Option Service) (m : Option Said) (cause : Cause) (c : Call) (desk : Desk) → Leaves c (refused_by site at caller service m cause c desk)
   refused_by_leaves at caller service None cause c desk = inl refl
@@ -232,7 +231,7 @@ module _ (site : Site) where
 
   -- ---- requests
 
-  -- one that is heard is in order, whatever else is to be said of it
+  -- one that is accepted is in order, whatever else the checks require
   in_order : (n last : Option ℕ) (otherwise fine : Result (Unit {0}) DialogueFault) (heard : Unit {0}) → is_ok fine ≡ true → unless_old n last otherwise ≡ Ok heard → is_ok (unless_old n last fine) ≡ true
   in_order None last otherwise fine heard is e = is
   in_order (Some n) None otherwise fine heard is e = is
@@ -242,7 +241,7 @@ module _ (site : Site) where
       by true f = absurd cc
       by false f = is
 
-  -- of no INVITE nothing else is to be said
+  -- if it is no INVITE, nothing else is required
   abbrev fine : Result (Unit {0}) DialogueFault
   fine = unless_busy false in_flight.None
 
@@ -477,7 +476,7 @@ module _ (site : Site) where
     due_at_row : (stage : Stage) (at : ℕ) (x : Pair) (what : DueWord) (c : Call) (desk : Desk) → Row heard (is_due_at stage c.successes what) (stood x stage c) desk (on_due_at stage site at x what (stood x stage c) desk)
     due_at_row stage at x what c desk = row_if heard (is_due_at stage c.successes what) (stood x stage c) desk _ _ (rung_leaves stage at x c desk) (standing x stage stage c desk desk)
 
-    -- ---- what the call does not wait on
+    -- ---- requests for which the call does not wait
 
     onward_stays : (c : Call) (desk told : Desk) → Stays heard c desk (onward c told)
     onward_stays c desk told = quiet_stays heard c desk _ (record { attempts = refl; over = refl; flights = refl })
@@ -493,7 +492,7 @@ module _ (site : Site) where
         (stays_if heard (is_fork t m) c desk (forked site key m place t c desk) (repeated t c desk) (quiet_stays heard c desk _ (record { attempts = refl; over = refl; flights = refl }))
         (quiet_stays heard c desk _ (record { attempts = refl; over = refl; flights = refl })))
 
-    -- what is in flight has its final
+    -- a request in flight gets its final response
 
     agreed_stays : (kind : FlightKind) (at : ℕ) (side : Side) (before response : Said) (place : ℕ) (flight : Flight) (final : Message Start) (c : Call) (desk told : Desk) →
         slice_get c.flights place ≡ Some flight → told.out ≡ desk.out ++ emit.Reply flight.asked.key final ∷ [] →

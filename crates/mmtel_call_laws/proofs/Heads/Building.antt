@@ -1,4 +1,4 @@
--- Clean parts give clean messages: the requests of a dialog, and responses.
+-- Clean parts make clean messages: the requests of a dialog, and responses.
 use Rattle.std.proofs.Common.{◌≡◌, ◌==◌, Bool, true, false, not, ◌&&◌, ℕ, ◌-◌, List, [], ◌∷◌, ◌++◌, length, take, drop, map, Option, Some, None, refl, subst, nat_lt}
 use Rattle.std.specs.Prelude.{codes, cond, decimal, if◌then◌else◌, get_or}
 use Rattle.std.specs.List.{list_all, flat_map}
@@ -54,7 +54,7 @@ via_text_clean sip branch e =
     joined (codes "SIP/2.0/UDP ") (addr_text sip ++ (codes ";branch=z9hG4bK" ++ branch)) refl
     (joined (addr_text sip) (codes ";branch=z9hG4bK" ++ branch) (addr_clean sip) (joined (codes ";branch=z9hG4bK") branch refl e))
 
--- ---- lines
+-- ---- header fields
 
 pub one_clean : (name value : List ℕ) → IsClean name → IsClean value → AreCleanLines (line name value)
 unfolding line

@@ -1,4 +1,4 @@
--- Clean texts and lines, put together and taken apart.
+-- Clean texts and header fields, joined and split.
 use Rattle.std.proofs.Common.{◌≡◌, ◌==◌, Bool, true, false, ◌&&◌, ℕ, zero, suc, ◌+◌, ◌≤◌, ◌/◌, ◌%◌, List, [], ◌∷◌, ◌++◌, take, drop, map, refl, arith, nat_lt}
 use Rattle.std.specs.Prelude.{codes, decimal, filter, if◌then◌else◌}
 use Rattle.std.specs.List.{list_all, flat_map}
@@ -105,7 +105,7 @@ pub decimal_clean : (n : ℕ) → IsClean (decimal n)
 unfolding digits
 decimal_clean n = onto_clean 64 n [] refl
 
--- ---- lines
+-- ---- header fields
 
 pub line_clean : (name value : List ℕ) → IsClean name → IsClean value → is_clean_line (name, value) ≡ true
 line_clean name value e f = both (list_all is_value_byte name) (list_all is_value_byte value) e f

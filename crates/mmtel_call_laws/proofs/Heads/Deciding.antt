@@ -1,4 +1,4 @@
--- Where a call is diverted to is clean, where its records are: a forward of a record, or a URI that was read.
+-- The URI to which a call is diverted is clean, if its records are: that of a forward of a record, or a URI that was read.
 use Rattle.std.proofs.Common.{◌≡◌, ◌==◌, Bool, true, false, not, ℕ, zero, suc, List, [], ◌∷◌, ◌++◌, Option, Some, None, refl, nat_lt, ◌&&◌}
 use Rattle.std.specs.Prelude.{IfSome, codes, if◌then◌else◌, slice_get, Result, Ok, Err}
 use Rattle.std.specs.Option.{option_and_then, option_map, unwrap_or}
@@ -42,7 +42,7 @@ use Rattle.mmtel_call_laws.specs.Heads.Heard.{AreCleanRules, AreCleanSheets, IsC
 use Rattle.mmtel_call_laws.proofs.Heads.Bytes.{all_filter, joined, parted as cut}
 use Rattle.mmtel_call_laws.proofs.Heads.Hearing.{read_uri_clean}
 
--- ---- what a record asks for
+-- ---- what a record requires
 
 abbrev pub IsCleanDue : DueDiversion → Type 0
 IsCleanDue due = IsCleanUri due.forward.target
@@ -206,7 +206,7 @@ after_clean c sheet NoReply e f = or_refuse_clean (option_and_then (due_on c eve
 after_clean c sheet (Deflection target rang) e f = or_refuse_clean (option_and_then (deflection_by target rang) sheet) (causes.Relayed 480) (deflection_clean target rang sheet f)
 after_clean c sheet (Other code) e f = tt
 
--- ---- records, as they stand
+-- ---- the current records
 
 sheet_or : (o : Option Sheet) → IfSome o IsCleanSheet → IsCleanSheet (unwrap_or o empty_sheet)
 sheet_or None e = tt

@@ -1,4 +1,4 @@
--- What is in flight stays clean, and so does what is asked and answered of it; and what is armed for a 2xx sends nothing.
+-- The requests in flight remain clean, and so do the requests and responses that are sent for them; and the deadline for a 2xx sends nothing.
 use Rattle.std.proofs.Common.{◌+◌, Bool, true, false, not, ℕ, List, [], ◌∷◌, ◌++◌, Option, Some, None, refl, nat_lt, append-nil}
 use Rattle.std.specs.Prelude.{IfSome, codes, decimal, if◌then◌else◌, slice_get}
 use Rattle.std.specs.List.{filter}
@@ -49,7 +49,7 @@ use Rattle.mmtel_call_laws.proofs.Heads.Hearing.{IsCleanHeard}
 use Rattle.mmtel_call_laws.proofs.Heads.Keeping.{IsCleanFlight, IsCleanPhase, IsCleanStep, IsCleanTrial, IsKept, answered_to_clean, if_step, onward_clean, replied_to_clean, shown_to_clean, unlisted_clean, with_flights}
 use Rattle.mmtel_call_laws.proofs.Heads.Sending.{asked_for_clean, each_append, each_filter, each_get, each_without, emit_clean, if_desk, relayed_clean}
 
--- ---- what is armed for a 2xx
+-- ---- the deadline for a 2xx
 
 pub awaiting_clean : (acks : List Acked) (at : ℕ) (c : Call) (desk : Desk) → IsCleanDesk acks desk → IsCleanDesk acks (awaiting_ack at c desk)
 awaiting_clean acks at c desk had = emit_clean acks (emit.Arm c.opening.number (due.NoAck (next_success c)) (at + ack_time)) desk tt had
@@ -63,7 +63,7 @@ expiries_clean acks false time at c desk had = simp append-nil had
 pub expiry_clean : (acks : List Acked) (site : Site) (at : ℕ) (m : Said) (c : Call) (desk : Desk) → IsCleanDesk acks desk → IsCleanDesk acks (awaiting_expiry site at m c desk)
 expiry_clean acks site at m c desk had = expiries_clean acks site.timer (expiry_after m.heard.session) at c desk had
 
--- ---- what is in flight is dismissed
+-- ---- requests in flight are dismissed
 
 settled_clean : (acks : List Acked) (site : Site) (own : Option ℕ) (c : Call) (desk : Desk) → IsCleanDesk acks desk → IsCleanDesk acks (settled site own c desk)
 settled_clean acks site own c desk had = if_desk acks site.reliable (emitted (emit.Settled c.opening.key own) desk) desk (emit_clean acks (emit.Settled c.opening.key own) desk tt had) had
@@ -91,7 +91,7 @@ dismissing_clean acks site c desk k had =
 pub dismissed_kept : (acks : List Acked) (c : Call) → IsKept acks c → IsKept acks (dismissed c)
 dismissed_kept acks c k = with_flights acks [] c tt k
 
--- ---- its answer comes back
+-- ---- the final response is relayed back
 
 back_clean : (acks : List Acked) (site : Site) (flight : Flight) (m : Said) (c : Call) (desk : Desk) → IsCleanHeard m.heard → IsCleanFlight flight → IsKept acks c → IsCleanDesk acks desk →
     IsCleanDesk acks (relayed_back_to site flight m c desk)
@@ -141,7 +141,7 @@ pub silent_in_flight_row : (acks : List Acked) (site : Site) (o : Option ℕ) (c
 silent_in_flight_row acks site None c desk k p had = onward_clean acks c desk k p had
 silent_in_flight_row acks site (Some place) c desk k p had = silent_flight_row acks site place (slice_get c.flights place) c desk (each_get IsCleanFlight c.flights place k.flights_in) k p had
 
--- ---- a reliable answer
+-- ---- a reliable response
 
 reliable_clean : (own : ℕ) → AreCleanLines (reliable_lines own)
 reliable_clean own =
@@ -170,7 +170,7 @@ pub prack_refused_clean : (acks : List Acked) (site : Site) (key : TKey) (m : Sa
 prack_refused_clean acks site key m c desk is k p had =
     let code : ℕ = status_of_refusal (acknowledged_by m) in onward_clean acks c (replied_to site c key m code desk) k p (replied_to_clean acks site c key m code desk k is had)
 
--- its leg, and the INVITE, know that it was asked
+-- its leg, and the INVITE, record that it was sent
 asked_early_clean : (acks : List Acked) (method : List ℕ) (x : Trial) → IsCleanTrial acks x → IsCleanTrial acks (having_asked_early method x)
 asked_early_clean acks method x t = record {
   caller_in = t.caller_in;
@@ -250,7 +250,7 @@ update_row acks site x side key m c desk is t k p had =
     (asked_on_clean acks site x.attempt.service side (other_leg side x) key m asked desk is (leg_clean acks side x t) k (updated_clean acks side x t) had))
     (later_row acks site key m c desk is k p had)
 
--- ---- PRACK and UPDATE of a call that is offered, and what has no row
+-- ---- PRACK and UPDATE of a call that is offered, and requests for which there is no transition
 
 pub on_other_clean : (acks : List Acked) (site : Site) (x : Trial) (side : Side) (key : TKey) (m : Said) (c : Call) (desk : Desk) →
     IsCleanHeard m.heard → IsCleanTrial acks x → IsCleanPhase acks c.phase → IsKept acks c → IsCleanDesk acks desk → IsCleanStep acks (on_other site x side key m c desk)

@@ -1,4 +1,4 @@
--- How a call goes on keeps it clean: it comes to one target after another until it is offered to one, or refused.
+-- A call that continues remains clean: it reaches one target after another until it is offered to one, or refused.
 use Rattle.std.proofs.Common.{List, ◌+◌, Bool, not, ℕ, zero, suc, Option, Some, None, refl}
 use Rattle.std.specs.Prelude.{IfSome}
 use Rattle.std.specs.Option.{option_map}
@@ -46,12 +46,12 @@ use Rattle.mmtel_call_laws.proofs.Heads.Hearing.{IsCleanHeard, appended_clean}
 use Rattle.mmtel_call_laws.proofs.Heads.Keeping.{IsCleanHere, IsCleanOpening, IsCleanStep, IsCleanTrial, IsKept, Serves, if_step, offered_to_clean, over_clean, relayed_to_caller_clean, told_caller_clean, told_diversion_clean}
 use Rattle.mmtel_call_laws.proofs.Heads.Sending.{IsCleanAim, attempt_clean, diverted_aim_clean, emit_clean, first_aim_clean, if_desk, offered_clean, token_clean}
 
--- what a step is given
+-- the input of a step
 pub record IsGood (site : Site) (now : Standing) : Type 0 where
   pub home_in : IsClean site.home
   pub sheets_in : AreCleanSheets now
 
--- ---- finals
+-- ---- final responses
 
 pub refused_clean : (acks : List Acked) (site : Site) (at : ℕ) (caller : Leg) (cause : Cause) (c : Call) (desk : Desk) → IsKept acks c → IsCleanDesk acks desk → IsCleanStep acks (refused site at caller cause c desk)
 refused_clean acks site at caller cause c desk k had =
@@ -99,7 +99,7 @@ offer_clean acks site at caller service waiting aim c desk is first serves k had
 
 -- ---- at a target
 
--- whatever a diversion comes to that is due where so many are left
+-- whatever the result of a diversion is that is due where this many are left
 abbrev DivertClean : (acks : List Acked) → ℕ → Site → Standing → Leg → Type 0
 DivertClean acks left site now caller = (service : Option Service) (due : DueDiversion) (c : Call) (desk : Desk) → Serves service → IsCleanDue due → IsKept acks c → IsCleanDesk acks desk → IsCleanStep acks (divert left site now caller service due c desk)
 

@@ -1,4 +1,4 @@
--- What is heard of a clean message is clean, and so is what is shown of it: its URIs, its entries of History-Info, and its lines.
+-- What is read of a clean message is clean, and so is what is copied from it: its URIs, its entries of History-Info, and its header fields.
 use Rattle.std.proofs.Common.{◌≡◌, Bool, true, false, not, ◌&&◌, ◌||◌, ℕ, zero, suc, ◌-◌, List, [], ◌∷◌, ◌++◌, length, Option, Some, None, refl, sym, subst, arith, Result, Ok, Err}
 use Rattle.std.specs.Prelude.{IfSome, codes, decimal, filter, if◌then◌else◌, option_to_list, slice_get}
 use Rattle.std.specs.Option.{option_map_or}
@@ -55,7 +55,7 @@ visible_clean (b ∷ s) e =
     let halves = and_true (in_class UriByte b) (list_all (in_class UriByte) s) e in
     both (is_value_byte b) (list_all is_value_byte s) (visible_byte b halves.0) (visible_clean s halves.1)
 
--- a URI that was read, whatever it was read of
+-- a URI that was read, from whatever text
 pub read_uri_clean : (s : List ℕ) → IfSome (or_no_uri (uri_of s)) IsCleanUri
 read_uri_clean s = by (uri_of s) refl
   where
@@ -141,7 +141,7 @@ entry_text_clean e is =
     (joined (shown_uri e) (codes ">;index=" ++ (e.index ++ e.rest)) (shown_uri_clean e parts.uri)
     (joined (codes ">;index=") (e.index ++ e.rest) refl (joined e.index e.rest parts.index parts.rest)))
 
--- as they are read
+-- as they are parsed
 
 but_index_clean : (ps : List Param) → IsClean (params_text ps) → IsClean (params_text (but_index ps))
 but_index_clean [] e = refl
@@ -181,7 +181,7 @@ option_entries (Some x) e = both (is_clean_entry x) true e refl
 pub entries_clean : (values : List (List ℕ)) → AreClean values → AreCleanEntries (entries_of values)
 entries_clean values e = all_flat (list_all is_value_byte) is_clean_entry (λ v. option_to_list (entry_of v)) (λ v f. option_entries (entry_of v) (entry_of_clean v f)) values e
 
--- after marks, diversions and masks
+-- after marking, diversions and masking
 
 marked_at_clean : (n : ℕ) (h : List Entry) → AreCleanEntries h → AreCleanEntries (marked_at n h)
 marked_at_clean n [] e = refl
@@ -232,7 +232,7 @@ pub appended_clean : (h : List Entry) (from target : List ℕ) (cause : ℕ) (hi
 unfolding appended
 appended_clean h from target cause hide e f g = with_target_clean (started from h) target cause hide (started_clean from h f e) g
 
--- ---- the lines that are shown
+-- ---- the header fields that are copied
 
 pub history_lines_clean : (mask to_trusted : Bool) (h : List Entry) → AreCleanEntries h → AreCleanLines (history_lines mask to_trusted h)
 history_lines_clean mask to_trusted h e =
@@ -291,7 +291,7 @@ from_clean restricted tag ls e f =
     by true = refl
     by false = named_text_clean (read_by (first_value (codes "From") ls)) (read_by_name (first_value (codes "From") ls) (first_clean (codes "From") ls f))
 
--- ---- what is heard
+-- ---- what is read of a message
 
 pub record IsCleanHeard (m : HeardMessage) : Type 0 where
   pub phrase_clean : IsClean (phrase_in m.start)

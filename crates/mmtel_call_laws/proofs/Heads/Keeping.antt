@@ -1,4 +1,4 @@
--- What a call keeps is clean, and what it shows of what it keeps.
+-- What a call keeps is clean, and what is copied from what it keeps.
 use Rattle.std.proofs.Common.{◌==◌, Bool, true, false, ℕ, List, [], ◌∷◌, Option, Some, None, refl}
 use Rattle.std.specs.Option.{option_or}
 use Rattle.std.specs.Prelude.{IfSome, codes, if◌then◌else◌}
@@ -65,11 +65,11 @@ IsCleanLoose acks l = IsCleanInvitation acks l.invitation
 abbrev pub IsCleanTaken : (acks : List Acked) → Taken → Type 0
 IsCleanTaken acks t = IsCleanInvitation acks t.invitation
 
--- what is in flight is answered with the lines of its request
+-- requests in flight get responses with the header fields of the request
 abbrev pub IsCleanFlight : Flight → Type 0
 IsCleanFlight flight = IsCleanHeard flight.asked.request.heard
 
--- of a call, but for where it stands
+-- of a call, except for its phase
 pub record AreKept (acks : List Acked) (o : Opening) (history : List Entry) (loose : List Loose) (taken : List Taken) (flights : List Flight) : Type 0 where
   pub opening_in : IsCleanOpening o
   pub history_in : AreCleanEntries history
@@ -123,7 +123,7 @@ IsCleanPhase acks (Stood x stage) = IsCleanStood acks x stage
 IsCleanPhase acks (Lent loan) = IsCleanHere (released_leg loan.left).dialogue
 IsCleanPhase acks (Over cause) = Unit {0}
 
--- a step leaves a clean call and a clean desk
+-- after a step the call and the output are clean
 pub record IsCleanStep (acks : List Acked) (s : Step) : Type 0 where
   pub kept : IsKept acks s.call
   pub phase : IsCleanPhase acks s.call.phase
@@ -153,7 +153,7 @@ early_clean acks said i e is = record { dialogue_in = is.dialogue_in; branch_in 
     first None f = e
     first (Some remote) f = f
 
--- ---- what is shown
+-- ---- what is copied
 
 list_clean : (d : Diverted) (m : Said) → AreCleanEntries d.history → AreCleanEntries (list_for d m)
 list_clean d m e = by (status_of m.heard.start == 181)
@@ -171,7 +171,7 @@ unfolding offered_to
 offered_to_clean site o d service peer e is =
     shown_clean (facing_offered site o service) (trusts site peer) (list_for d o.invite) o.invite.heard.start o.invite.heard.lines (list_clean d o.invite e) is.lines_in
 
--- ---- answers
+-- ---- responses
 
 pub replied_to_clean : (acks : List Acked) (site : Site) (c : Call) (key : TKey) (m : Said) (code : ℕ) (desk : Desk) → IsKept acks c → IsCleanHeard m.heard → IsCleanDesk acks desk → IsCleanDesk acks (replied_to site c key m code desk)
 replied_to_clean acks site c key m code desk k is had = replied_clean acks site.sip key m c.opening.tag code desk is k.opening_in.tag_in had
@@ -194,7 +194,7 @@ relayed_to_caller_clean acks site c service m desk k is had =
 pub answered_to_clean : (acks : List Acked) (site : Site) (c : Call) (key : TKey) (m : Said) (code : ℕ) (named : List Line) (desk : Desk) → IsKept acks c → IsCleanHeard m.heard → AreCleanLines named → IsCleanDesk acks desk → IsCleanDesk acks (answered_to site c key m code named desk)
 answered_to_clean acks site c key m code named desk k is e had = answered_clean acks site.sip key m c.opening.tag code [] named [] desk is k.opening_in.tag_in refl e had
 
--- the methods that a server tells of, whichever it knows
+-- the methods that a server lists, whichever it supports
 allowed_by : (reliable mwi : Bool) → AreCleanLines ((codes "Allow", method_names reliable mwi) ∷ [])
 allowed_by false false = refl
 allowed_by true false = refl

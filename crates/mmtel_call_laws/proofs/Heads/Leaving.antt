@@ -1,4 +1,4 @@
--- INVITEs that a call does not wait on stay clean, and what is sent for them is clean.
+-- INVITEs for which a call does not wait remain clean, and what is sent for them is clean.
 use Rattle.std.proofs.Common.{◌==◌, ◌||◌, Bool, true, false, not, ℕ, List, [], ◌∷◌, Option, Some, None, length, nat_lt}
 use Rattle.std.specs.Prelude.{IfSome, codes, if◌then◌else◌, option_to_list, position, slice_get}
 use Rattle.std.specs.Str.{bytes_eq}
@@ -33,13 +33,13 @@ use Rattle.mmtel_call_laws.proofs.Heads.Hearing.{IsCleanHeard}
 use Rattle.mmtel_call_laws.proofs.Heads.Keeping.{IsCleanLoose, IsCleanPhase, IsCleanStep, IsCleanTaken, IsKept, early_clean, if_step, onward_clean}
 use Rattle.mmtel_call_laws.proofs.Heads.Sending.{IsCleanRemote, acked_clean, bye_clean, cancel_clean, each_append, each_get, each_option, each_without, emit_clean, final_acked_clean, if_desk, met_clean, remote_clean}
 
--- ---- places in a list
+-- ---- positions in a list
 
 without_clean : {A : Type 0} (P : A → Type 0) (o : Option ℕ) (items : List A) → Each P items → Each P (without o items)
 without_clean P None items e = e
 without_clean P (Some at) items e = each_without P at items e
 
--- ---- one that was left
+-- ---- an abandoned INVITE
 
 pub record IsCleanRest (acks : List Acked) (rest : Rest) : Type 0 where
   pub left_in : IfSome rest.left (IsCleanLoose acks)

@@ -25,7 +25,7 @@ use Rattle.mmtel_trust.specs.Digest.{tag_of}
 use Rattle.mmtel_call_laws.specs.Heads.Clean.{AreClean, AreCleanLines, IsClean, is_clean_line}
 use Rattle.mmtel_call_laws.proofs.Heads.Bytes.{all_append, all_cons, all_filter, all_flat, all_head, all_map, both, joined, line_parts, parted as cut}
 
--- ---- places in a text
+-- ---- positions in a text
 
 pub reverse_all : {A : Type 0} (p : A → Bool) (xs : List A) → list_all p xs ≡ true → list_all p (reverse xs) ≡ true
 reverse_all p [] e = refl
@@ -46,7 +46,7 @@ trimmed_clean k s e = let t = trimmed_takes k s in (cut (trimmed k s) t.back (su
 pub trim_clean : (s : List ℕ) → IsClean s → IsClean (trim s)
 trim_clean s e = trimmed_clean Blank (after_run Blank s) (after_run_clean Blank s e)
 
--- ---- values of a line
+-- ---- values of a header field
 
 put_clean : (b : ℕ) (ls : List (List ℕ)) → is_value_byte b ≡ true → AreClean ls → AreClean (put_byte b ls)
 put_clean b [] e f = both (list_all is_value_byte (b ∷ [])) true (both (is_value_byte b) true e refl) refl

@@ -1,4 +1,4 @@
--- A call that is offered stays clean, and sends what is clean.
+-- A call that is offered remains clean, and sends what is clean.
 use Rattle.std.proofs.Common.{List, ◌==◌, ◌+◌, Bool, true, false, not, ◌&&◌, ◌||◌, ℕ, [], ◌∷◌, length, Option, Some, None, nat_lt, Result, Ok, Err}
 use Rattle.std.specs.Prelude.{IfSome, if◌then◌else◌}
 use Rattle.mmtel_answers.specs.Said.{Said}
@@ -44,7 +44,7 @@ use Rattle.mmtel_call_laws.proofs.Heads.Hearing.{IsCleanHeard, redirect_clean}
 use Rattle.mmtel_call_laws.proofs.Heads.Keeping.{IsCleanHere, IsCleanLoose, IsCleanStep, IsCleanTaken, IsCleanTrial, IsKept, early_clean, if_step, once_clean, onward_clean, over_clean, relayed_to_caller_clean, replied_to_clean, told_caller_clean, unheard_clean}
 use Rattle.mmtel_call_laws.proofs.Heads.Sending.{IsCleanRemote, cancelled_clean, each_append, emit_clean, final_acked_clean, if_desk, met_clean, remote_clean}
 
--- ---- an attempt that is left
+-- ---- an attempt that is abandoned
 
 pub with_loose_kept : (acks : List Acked) (l : Loose) (c : Call) → IsCleanLoose acks l → IsKept acks c → IsKept acks (with_loose l c)
 with_loose_kept acks l c is k =
@@ -141,7 +141,7 @@ answered_clean_row acks site at x key m c desk is t k had = record {
       expiry_clean acks site at m c (awaiting_ack at c given) (awaiting_clean acks at c given (relayed_to_caller_clean acks site c x.attempt.service m desk k is had));
 }
 
--- ---- a final from 300, silence, its time
+-- ---- a final response from 300, a timeout, the deadlines of the attempt
 
 failed_clean : (acks : List Acked) (site : Site) (now : Standing) (x : Trial) (key : TKey) (m : Said) (code : ℕ) (c : Call) (desk : Desk) →
     IsGood site now → IsCleanHeard m.heard → IsCleanTrial acks x → IsKept acks c → IsCleanDesk acks desk → IsCleanStep acks (failed site now x key m code c desk)
@@ -196,7 +196,7 @@ due_row acks site now x (due.Cap number) c desk good t k had =
 due_row acks site now x (due.NoAck number) c desk good t k had = onward_clean acks (offered_call x c) desk k t had
 due_row acks site now x (due.Expired number) c desk good t k had = onward_clean acks (offered_call x c) desk k t had
 
--- ---- the caller gives up
+-- ---- the caller abandons the call
 
 given_up_clean : (acks : List Acked) (site : Site) (at : ℕ) (x : Trial) (c : Call) (desk : Desk) → IsCleanTrial acks x → IsKept acks c → IsCleanDesk acks desk → IsCleanStep acks (given_up site at x c desk)
 given_up_clean acks site at x c desk t k had = given_up_by_clean acks causes.Cancelled site at x c desk t k had

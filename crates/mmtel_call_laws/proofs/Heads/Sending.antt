@@ -1,4 +1,4 @@
--- What the server sends in a step is clean, where it is built of what is clean.
+-- What the server sends in a step is clean, if it is built from what is clean.
 use Rattle.std.proofs.Common.{◌≡◌, inl, ◌==◌, Bool, true, false, ℕ, List, [], ◌∷◌, ◌++◌, map, Option, Some, None, refl}
 use Rattle.std.specs.Prelude.{IfSome, codes, decimal, if◌then◌else◌, option_to_list}
 use Rattle.std.specs.Option.{unwrap_or}
@@ -70,7 +70,7 @@ pub each_option : {A : Type 0} (P : A → Type 0) (o : Option A) → IfSome o P 
 each_option P None e = tt
 each_option P (Some x) e = (e, tt)
 
--- ---- tokens and what goes out
+-- ---- tokens and what is sent
 
 pub token_clean : (acks : List Acked) (desk : Desk) → IsCleanDesk acks desk → IsClean (token desk)
 token_clean acks desk is =
@@ -165,15 +165,15 @@ pub acked_for_clean : (acks : List Acked) (sip : Addr) (d : Dialogue) (passed : 
 acked_for_clean acks sip d passed m desk passes is f had =
     emit_clean acks (emit.Plain d.peer (relayed_ack_text sip d (token desk) passed m)) (drew desk) (relayed_ack_clean acks sip d (token desk) passed m passes is (token_clean acks desk had) f) had
 
--- ---- what repeats an INVITE
+-- ---- messages that copy parts of an INVITE
 
--- what the other side says of itself
+-- the remote side (tag, target and routes) in a message
 pub record IsCleanRemote (r : Remote) : Type 0 where
   pub tag_in : IsClean r.tag
   pub target_in : IsClean r.target
   pub routes_in : AreClean r.routes
 
--- what of it is sent again
+-- the parts of it that are copied
 pub record AreCleanSent (acks : List Acked) (d : Dialogue) (branch : List ℕ) (ack : Option (List ℕ)) (forks : List Dialogue) (early : Option Remote) : Type 0 where
   pub dialogue_in : IsCleanDialogue d
   pub branch_in : IsClean branch
@@ -206,7 +206,7 @@ final_acked_clean acks sip key i m desk is heard had =
     (record { call_id_in = had_parts.call_id_in; local_in = had_parts.local_in; remote_in = field_clean (codes "To") m.lines heard.lines_in; tag_in = refl; target_in = had_parts.target_in; routes_in = had_parts.routes_in })
     refl (given_clean (bare sip i.branch) is.branch_in refl)) had
 
--- ---- what the other side says of itself
+-- ---- the remote side in a message
 
 tag_in_clean : (name : List ℕ) (ls : List Line) → AreCleanLines ls → IsClean (tag_in name ls)
 unfolding tag_in

@@ -1,4 +1,4 @@
--- The text of a clean message, parted at its line ends.
+-- The text of a clean message, split at its line ends.
 use Rattle.std.proofs.Common.{◌≡◌, ◌==◌, Bool, true, false, ℕ, suc, ◌+◌, List, [], ◌∷◌, ◌++◌, length, take, drop, map, Option, Some, None, refl, sym, ap, ◌∙◌, arith, append_assoc, append-nil}
 use Rattle.std.specs.Prelude.{codes, if◌then◌else◌}
 use Rattle.std.specs.Option.{option_map}
@@ -57,7 +57,7 @@ split_alone (b ∷ r) e =
     let parts = and_true (is_value_byte b) (list_all is_value_byte r) e in
     rw (split_alone r parts.1, no_return b parts.0) refl
 
--- ---- the text, by its lines
+-- ---- the text, line by line
 
 abbrev ended : List (List ℕ) → List ℕ → List ℕ
 ended [] rest = rest
@@ -127,7 +127,7 @@ over_end : (s : List ℕ) → crlf s ≡ false → first_break Head (13 ∷ 10 �
 unfolding first_break
 over_end s e = rw e (two_more (first_break Head s))
 
--- a line is no end of a line
+-- a line does not contain the end of a line
 not_end : (name value t : List ℕ) → IsClean name → crlf ((name ++ (codes ": " ++ value)) ++ t) ≡ false
 not_end [] value t e = refl
 not_end (b ∷ name) value t e =

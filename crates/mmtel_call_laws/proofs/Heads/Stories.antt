@@ -1,4 +1,4 @@
--- Every step of a story keeps the call clean, and sends what is clean.
+-- Every step of a trace keeps the call clean, and sends what is clean.
 use Rattle.std.proofs.Common.{◌++◌, inl, inr, Bool, true, false, ℕ, List, [], ◌∷◌, drop, Option, Some, None, refl}
 use Rattle.std.specs.Prelude.{IfSome, codes, if◌then◌else◌, is_ok}
 use Rattle.mmtel_answers.specs.Said.{Said, status_of}
@@ -70,7 +70,7 @@ use Rattle.mmtel_message.specs.Headers.{is_value_byte}
 use Rattle.mmtel_trust.specs.Members.{IsIn}
 use Rattle.std.specs.List.{list_all}
 
--- ---- ACKs that were heard, among others
+-- ---- ACKs that were received, among others
 
 pub front_among : (acks some more : List Acked) → AreAmong (some ++ more) acks → AreAmong some acks
 front_among acks some more among = each_front (λ (acked : Acked). IsIn acked acks) some more among
@@ -154,7 +154,7 @@ row_clean acks site now (signal.Silent branch method) c desk good is among p k h
 row_clean acks site now (signal.Due what) c desk good is among p k had = due_clean acks c.phase site now what c desk good p k had
 row_clean acks site now (signal.Ended key) c desk good is among p k had = key_row acks key c desk k p had
 
--- the ACKs that are heard are the same without what is in flight
+-- the ACKs that are received are the same without the requests in flight
 same_in : (acks : List Acked) (site : Site) (phase : Phase) (c : Call) (side : Side) (ack : Said) → AreAmong (acked_in site phase c side ack) acks → AreAmong (acked_in site phase (dismissed c) side ack) acks
 same_in acks site (Offered x) c side ack among = among
 same_in acks site (Stood x stage) c side ack among = among
@@ -216,7 +216,7 @@ opened_step_clean acks site now a desk good is uri had =
     let o : Opening = opening_of site now (token desk) a in
     begins_clean acks site now (new_call site o) (drew desk) good (new_kept acks site o (opening_clean site now (token desk) a (heard_clean a.invite.heard is) uri (token_clean acks desk had))) had
 
--- ---- a leg is taken out, and the call ends without it
+-- ---- a leg is detached, and the call ends without it
 
 pub record IsCleanSoFar (acks : List Acked) (c : Call) : Type 0 where
   pub kept : IsKept acks c
@@ -235,7 +235,7 @@ lent_clean acks (Stood x stage) side c p k = lent_at_clean acks stage side x c p
 lent_clean acks (Lent loan) side c p k = record { kept = k; phase = p }
 lent_clean acks (Over cause) side c p k = record { kept = k; phase = p }
 
--- the leg that is taken out
+-- the leg that is detached
 taken_side_clean : (side : Side) (x : Pair) → IsCleanPair x → IsCleanLeg (taken_out side x)
 taken_side_clean Caller x is = record { dialog = is.caller_in.0; tag = is.caller_in.1 }
 taken_side_clean Callee x is = record { dialog = is.callee_in.0; tag = is.callee_in.1 }
@@ -277,7 +277,7 @@ pub finished_clean : (acks : List Acked) (site : Site) (at : ℕ) (c : Call) (de
 unfolding finished
 finished_clean acks site at c desk is had = finished_in_clean acks c.phase site at c desk is.phase is.kept had
 
--- ---- stories
+-- ---- traces
 
 pub first_clean : (acks : List Acked) (s : Start) → IsCleanStart acks s → IsCleanStep acks (first_step s)
 first_clean acks s is = opened_step_clean acks s.site s.now s.arrival s.desk (record { home_in = is.home; sheets_in = is.sheets }) is.invite is.uri is.desk

@@ -1,4 +1,4 @@
--- An answered call stays clean, and sends what is clean.
+-- An answered call remains clean, and sends what is clean.
 use Rattle.std.proofs.Common.{◌==◌, inr, Bool, true, false, ℕ, List, [], ◌∷◌, Some, refl, nat_lt, Result, Ok, Err}
 use Rattle.std.specs.Prelude.{codes, if◌then◌else◌}
 use Rattle.std.specs.Str.{bytes_eq}
@@ -89,7 +89,7 @@ with_ack_clean acks branch text e t is = by (bytes_eq t.invitation.branch branch
     by true = record { dialogue_in = is.dialogue_in; branch_in = is.branch_in; ack_in = e; forks_in = is.forks_in; early_in = is.early_in }
     by false = is
 
--- the ACK goes on with what the other side is shown of it
+-- the ACK is relayed with the header fields that are copied to the other side
 passes_across : (acks : List Acked) (site : Site) (c : Call) (x : Pair) (side : Side) (m : Said) (branch : List ℕ) → IsIn (heard_across site c x side m) acks →
     IsGivenTo acks (leg_of (other_of side) x).dialogue (relaying site.sip branch (shown_across site c x side m) m.heard)
 unfolding shown_to
@@ -137,7 +137,7 @@ bye_across_clean acks site at x side m c desk heard is k had =
     over_stood_clean acks at x c (asked_for site.sip (codes "BYE") d (shown_across site c x side m) m.heard desk) k
     (asked_for_clean acks site.sip (codes "BYE") d (shown_across site c x side m) m.heard desk (leg_clean (other_of side) x is) refl (shown_across_clean acks site c x side m k heard) had)
 
--- ---- an INVITE goes across
+-- ---- an INVITE is relayed
 
 asked_across_clean : (acks : List Acked) (site : Site) (x : Pair) (side : Side) (key : TKey) (m : Said) (c : Call) (desk : Desk) → IsCleanHeard m.heard → IsCleanPair x → IsKept acks c → IsCleanDesk acks desk → IsCleanStep acks (asked_across site x side key m c desk)
 asked_across_clean acks site x side key m c desk heard is k had =
@@ -155,7 +155,7 @@ asked_across_clean acks site x side key m c desk heard is k had =
 invited_clean : (acks : List Acked) (site : Site) (x : Pair) (side : Side) (key : TKey) (m : Said) (c : Call) (desk : Desk) → IsCleanHeard m.heard → IsCleanPair x → IsKept acks c → IsCleanDesk acks desk → IsCleanStep acks (invited site x side key m c desk)
 invited_clean acks site x side key m c desk heard is k had = asked_across_clean acks site x side key m c (replied_to site c key m 100 desk) heard is k (replied_to_clean acks site c key m 100 desk k heard had)
 
--- ---- and its answers come back
+-- ---- and the responses to it are relayed back
 
 relayed_back_clean : (acks : List Acked) (site : Site) (x : Pair) (side : Side) (q : Reinvite) (m : Said) (c : Call) (desk : Desk) → IsCleanHeard m.heard → IsCleanReinvite acks q → IsKept acks c → IsCleanDesk acks desk → IsCleanDesk acks (relayed_back site x side q m c desk)
 relayed_back_clean acks site x side q m c desk heard e k had =

@@ -1,4 +1,4 @@
--- What a step adds to what goes out, and which 181s to the caller are in it.
+-- What a step adds to what is sent, and which 181s to the caller are in it.
 use Rattle.std.proofs.Common.{◌≡◌, ℕ, ◌==◌, Bool, true, false, List, [], ◌∷◌, ◌++◌, refl, ap, sym, ◌∙◌, append_assoc}
 use Rattle.std.proofs.lemmas.List.{append-nil}
 use Rattle.std.specs.List.{filter}
@@ -128,7 +128,7 @@ none-passed false = refl
 pub quiet : (passed : Bool) (key : TKey) (before after : Desk) → IsSilent key before after → IsQuiet passed key before after
 quiet passed key before after p = record { notices = []; adds = p; none = none-passed passed }
 
--- one that is passed on is not its own
+-- one that is relayed is not its own
 pub one-passed : (b is_notice : Bool) (m : Message StartLine) → but_passed is_notice (seen_if b is_notice m) ≡ []
 one-passed true true m = refl
 one-passed true false m = refl
@@ -155,7 +155,7 @@ silent-bye key sip d desk = adds-then key desk (drew desk) (bye sip d desk) [] [
 pub silent-final-acked : (key asked : TKey) (sip : Addr) (i : Invitation) (m : HeardMessage) (desk : Desk) → IsSilent key desk (final_acked sip asked i m desk)
 silent-final-acked key asked sip i m desk = adds-emit key desk _ [] refl
 
--- ---- answers to requests
+-- ---- responses to requests
 
 pub silent-unheard : (key : TKey) (site : Site) (c : Call) (asked : TKey) (m : Said) (fault : DialogueFault) (desk : Desk) → IsSilent key desk (unheard site c asked m fault desk)
 silent-unheard key site c asked m (OldCSeq last) desk = silent-reply key asked _ _ _ desk refl
@@ -167,7 +167,7 @@ silent-unlisted key site c asked m desk =
     adds-if key desk (is_method (codes "OPTIONS") m.heard.start) (answered_to site c asked m 200 (allowed (further_methods site)) desk) (if is_method (codes "REFER") m.heard.start then replied_to site c asked m 403 desk else replied_to site c asked m 481 desk) [] (silent-reply key asked _ _ _ desk refl)
     (adds-if key desk (is_method (codes "REFER") m.heard.start) (replied_to site c asked m 403 desk) (replied_to site c asked m 481 desk) [] (silent-reply key asked _ _ _ desk refl) (silent-reply key asked _ _ _ desk refl))
 
--- ---- an INVITE that the call does not wait on
+-- ---- an INVITE for which the call does not wait
 
 success-silent : (key : TKey) (sip : Addr) (l : Loose) (remote : Remote) (d : Option Dialogue) (desk : Desk) → IsSilent key desk (on_success_in sip l remote d desk).desk
 success-silent key sip l remote None desk =
@@ -207,9 +207,9 @@ taken-silent key site asked m at (Some t) c desk =
     (step-if key desk (is_fork t m) _ _ (rest-silent key site.sip asked m.heard (as_loose t) desk)
     (adds-if key desk (is_talking c.phase) (acked_again t t.invitation.ack desk) desk [] (again-silent key t t.invitation.ack desk) (silent key desk)))
 
--- ---- what is in flight
+-- ---- requests in flight
 
--- what is armed for the session of a 2xx tells nobody anything
+-- the deadline for the session of a 2xx notifies nobody
 expiry-notices : (key : TKey) (timer : Bool) (time : Option ℕ) (at : ℕ) (c : Call) → notices_in key (if timer then expiry_in time at c else []) ≡ []
 expiry-notices key true None at c = refl
 expiry-notices key true (Some time) at c = refl
@@ -222,7 +222,7 @@ agreed-silent : (key : TKey) (kind : FlightKind) (site : Site) (at : ℕ) (side 
 agreed-silent key Prack site at side request response c desk = silent key desk
 agreed-silent key Update site at side request response c desk = expiry-silent key site.timer (expiry_after response.heard.session) at c desk
 
--- by whether it is a final
+-- by whether it is a final response
 flight-by : (key : TKey) (site : Site) (at : ℕ) (flight : Flight) (m : Said) (provisional : Bool) (place : ℕ) (c : Call) (desk : Desk) → (provisional ≡ false → IsNoNotice (status_of m.heard.start)) →
     IsSilent key desk (if provisional then onward c desk else final_of_flight site at flight m (status_of m.heard.start) (without_flight place c) desk).desk
 flight-by key site at flight m true place c desk e = silent key desk
@@ -256,7 +256,7 @@ gone-at-silent key site branch (Some place) c desk = silent key desk
 pub gone-silent : (key : TKey) (site : Site) (branch : List ℕ) (c : Call) (desk : Desk) → IsSilent key desk (silent_other site branch c desk).desk
 gone-silent key site branch c desk = gone-at-silent key site branch (position (is_of branch) c.loose) c desk
 
--- it is dismissed
+-- they are dismissed
 
 pub settled-silent : (key : TKey) (site : Site) (own : Option ℕ) (c : Call) (desk : Desk) → IsSilent key desk (settled site own c desk)
 settled-silent key site own c desk = adds-if key desk site.reliable (emitted (emit.Settled c.opening.key own) desk) desk [] (adds-emit key desk _ [] refl) (silent key desk)
@@ -326,7 +326,7 @@ pub on-other-silent : (key : TKey) (site : Site) (x : Trial) (side : Side) (aske
 on-other-silent key site x side asked m c desk =
     step-if key desk (is_prack m) _ _ (prack-of-silent key side site x asked m c desk) (step-if key desk (is_update m) _ _ (update-silent key site x side asked m c desk) (silent-unlisted key site c asked m desk))
 
--- ---- a response to a request that the call does not wait on
+-- ---- a response to a request for which the call does not wait
 
 taken_at-silent : (key : TKey) (site : Site) (at : ℕ) (asked : TKey) (m : Said) (branch : List ℕ) (o : Option ℕ) (c : Call) (desk : Desk) → IsSilent key desk (answered_taken_at site at asked m branch o c desk).desk
 taken_at-silent key site at asked m branch None c desk = flying-silent key site at m (position (is_in_flight branch) c.flights) c desk

@@ -1,4 +1,4 @@
--- A call that comes to a target, or that is diverted, tells its caller of each diversion that the moves of the precedence of services make.
+-- A call that reaches a target, or that is diverted, notifies its caller of each diversion that the moves of the precedence of services make.
 use Rattle.std.proofs.Common.{append_assoc, ◌≡◌, ℕ, zero, suc, ◌+◌, ◌-◌, ◌==◌, ◌≤◌, Bool, true, false, List, [], ◌∷◌, ◌++◌, refl, ap, sym, subst, ◌∙◌, arith}
 use Rattle.std.proofs.lemmas.List.{append-nil}
 use Rattle.std.specs.Prelude.{Option, Some, None, if◌then◌else◌}
@@ -50,14 +50,14 @@ use Rattle.mmtel_diversion.specs.Bound.{is_within}
 use Rattle.mmtel_sheet_values.specs.declared.values.Sheet.{Sheet}
 use Rattle.mmtel_rules.specs.Circumstances.{Circumstances}
 
--- ---- what is told on the way
+-- ---- the notifications of these moves
 
 -- nothing moves until another attempt ends
 pub data IsAtRest (kept : Kept) : Type 0 where
   Waits : (account : AccountState) → kept.phase ≡ moves.Ringing account → kept.endings ≡ [] → IsAtRest kept
   Finished : (result : Result) → kept.phase ≡ moves.Over result → kept.endings ≡ [] → IsAtRest kept
 
--- by so many moves the call comes to rest, and what was added on the desk tells of the targets that it reached since these, with this History-Info before them
+-- after this many moves the call rests, and what was added to the output has the notifications for the targets that it reached since these, with this History-Info before them
 pub record Tells (site : Site) (call : precedence.Call) (o : Opening) (before : List precedence.Target) (history : List Entry) (desk : Desk) (s : Step) (kept : Kept) (n : ℕ) : Type 0 where
   pub new : List precedence.Target
   pub rests : IsAtRest (moves.moves n call kept)
@@ -68,7 +68,7 @@ pub record Tells (site : Site) (call : precedence.Call) (o : Opening) (before : 
 abbrev pub ComesToTell : Site → precedence.Call → Opening → List precedence.Target → List Entry → Desk → Step → Kept → Type 0
 ComesToTell site call o before history desk s kept = (n : ℕ) × Tells site call o before history desk s kept n
 
--- whether it is offered to it, and what is told after that
+-- whether it is offered to it, and the notifications after that
 abbrev pub TellsFrom : Site → precedence.Call → Opening → Uri → Option DueDiversion → List precedence.Target → List Entry → Desk → Step → Kept → Type 0
 TellsFrom site call o uri by before history desk s kept = (offer : Offer) × ComesToTell site call o (before ++ target_as uri by offer ∷ []) history desk s kept
 
@@ -112,12 +112,12 @@ sent-silent site at service waiting aim c desk =
 
 -- ---- at a target
 
--- so many diversions are left after those that were made, and so many came and were made
+-- this many diversions are left after those that were made, and this many came with the call and were made
 pub record IsCounted (site : Site) (o : Opening) (done : ℕ) (diversions : Diverted) : Type 0 where
   pub left : diversions.left + done ≡ total site o
   pub count : diversions.count ≡ received_in o + done
 
--- what a diversion tells that is due where so many are left
+-- the notifications of a diversion that is due where this many are left
 abbrev pub DivertTells : ℕ → Site → Standing → Standing → (ℕ → Standing) → Leg → Type 0
 DivertTells left site now first later caller =
     (service : Option Service) (reach : Reach) (due : DueDiversion) (c : Call) (desk : Desk) (kept : Kept) →
@@ -126,7 +126,7 @@ DivertTells left site now first later caller =
     ComesToTell site (known_as site first c.opening later) c.opening kept.targets c.diversions.history desk (divert left site now caller service due c desk)
     (moves.divert (known_as site first c.opening later) kept (account_at reach) now.at due)
 
--- by the turn there
+-- by what is done there
 turn-tells : (left : ℕ) (site : Site) (now first : Standing) (later : ℕ → Standing) (caller : Leg) → DivertTells left site now first later caller →
     (reach : Reach) (by : Option DueDiversion) (target : Target) (turn : Turn) (c : Call) (desk : Desk) (kept : Kept) →
     IsKnown first c.opening → turns.sheet_of reach ≡ its_sheet (service_at site now c.opening (cause_of by) target) → IsCounted site c.opening kept.done c.diversions → kept.endings ≡ [] → c.diversions.left ≡ left →
@@ -180,12 +180,12 @@ target-tells law left site now first later caller goes by target c desk kept kno
 
 -- ---- a diversion
 
--- what refuses it, if anything does, has no 181
+-- where a cause refuses it, if one does, there is no 181
 abbrev NoNotice : Option Cause → Type 0
 NoNotice None = Unit {0}
 NoNotice (Some cause) = IsNoNotice (status_of cause)
 
--- what stands before a diversion refuses it, or it goes on
+-- what is checked before a diversion refuses it, or the diversion proceeds
 unless-tells : (site : Site) (now first : Standing) (later : ℕ → Standing) (caller : Leg) (refusal : Option Cause) (onward : Call → Desk → Step) (uri : Uri) (due : DueDiversion) (c : Call) (desk : Desk) (kept : Kept) →
     kept.endings ≡ [] → NoNotice refusal → StandsThen site now c.opening later kept (made_unless refusal onward site now.at caller c desk) →
     (refusal ≡ None → StandsThen site now c.opening later kept (onward c desk) → ComesToTell site (known_as site first c.opening later) c.opening kept.targets c.diversions.history desk (onward c desk) (gone_on None kept uri due)) →
@@ -194,7 +194,7 @@ unless-tells site now first later caller (Some why) onward uri due c desk kept e
     refused-tells site (known_as site first c.opening later) now.at caller why c desk kept (Final why) empty own
 unless-tells site now first later caller None onward uri due c desk kept empty own stands comes = comes refl stands
 
--- what refuses a diversion has no 181
+-- where a cause refuses a diversion there is no 181
 bound-silent : (within : Bool) (cause : ℕ) → NoNotice (if within then None else Some (too_many cause))
 bound-silent true cause = tt
 bound-silent false cause = too-many-notice (cause == 486)
@@ -207,7 +207,7 @@ refusal-silent c (Some sheet) received done bound due = go (bars_outgoing c shee
     go true = refl
     go false = bound-silent (is_within received done (bound_of bound due.bound)) due.cause
 
--- the caller is told of it where the forward says so
+-- the caller is notified of it if the forward requires that
 notice-adds : (site : Site) (due : DueDiversion) (d : Call) (desk : Desk) (b : Bool) → Adds d.opening.key desk (if b then told_diversion site d desk else desk)
     (if b then notice site d.opening (Rattle.mmtel_call_decisions.specs.Showing.told_list d.diversions) ∷ [] else [])
 notice-adds site due d desk true =

@@ -1,4 +1,4 @@
--- What a call that is offered tells its caller on each signal, but of diversions: nothing of its own.
+-- The notifications that a call which is offered sends to its caller on each signal, other than of diversions: none of its own.
 use Rattle.std.proofs.Common.{[], ◌≡◌, ℕ, ◌==◌, Bool, true, false, List, refl, ap, sym, subst, ◌∙◌}
 use Rattle.std.specs.Prelude.{Option, Some, None, if◌then◌else◌, nat_lt, not, ◌&&◌, is_ok, Result, Ok, Err}
 use Rattle.mmtel_answers.specs.Said.{Said, status_of}
@@ -45,7 +45,7 @@ use Rattle.mmtel_call_laws.proofs.Notices.Adding.{IsQuiet, IsSilent, expiry-sile
 use Rattle.mmtel_call_laws.proofs.Notices.Owning.{IsFinal, high-notice, its-final, time-final}
 use Rattle.mmtel_session.specs.Intervals.{expiry_after}
 
--- its attempt goes on, was answered or was given up
+-- its attempt continues, was answered or was abandoned
 abbrev pub EndsAlone : Option End → Type 0
 EndsAlone None = Unit {0}
 EndsAlone (Some Answer) = Unit {0}
@@ -78,7 +78,7 @@ hears-if : (passed : Bool) (site : Site) (now : Standing) (x : Trial) (c : Call)
 hears-if passed site now x c before true end end2 s s2 f g = f
 hears-if passed site now x c before false end end2 s s2 f g = g
 
--- ---- the call is given up
+-- ---- the call is abandoned
 
 gives-up-by : (by_caller : Bool) (passed : Bool) (site : Site) (now : Standing) (x y : Trial) (c : Call) (before desk : Desk) → IsSilent c.opening.key before desk →
     Hears passed site now x (offered x c) before (Some (given_how by_caller)) (given_up_by (given_cause by_caller) site now.at y (offered y c) desk)
@@ -103,7 +103,7 @@ gives-up passed site now x y c before desk q = gives-up-by true passed site now 
 
 -- ---- requests
 
--- the diversions are as they were
+-- the diversions are unchanged
 acknowledging-diversions : (site : Site) (x : Trial) (key : TKey) (m : Said) (rack : Rack) (answer : Option ℕ) (c : Call) (desk : Desk) → (acknowledging site x key m rack answer c desk).call.diversions ≡ c.diversions
 acknowledging-diversions site x key m rack None c desk = refl
 acknowledging-diversions site x key m rack (Some answer) c desk = refl
@@ -129,7 +129,7 @@ other-diversions site x side key m c desk =
     diversions-if c (is_prack m) _ _ (prack-diversions side site x key m c desk)
     (diversions-if c (is_update m) _ _ (diversions-if c (takes_updates x) _ _ (unless-diversions (updating c.flights) site x side key m c desk) refl) refl)
 
--- what a side asks, but for BYE
+-- requests of a side, except BYE
 others-heard : (site : Site) (now : Standing) (x y : Trial) (side : Side) (key : TKey) (m : Said) (c : Call) (desk : Desk) → Hears false site now x (offered x c) desk None (on_other site y side key m (offered y c) desk)
 others-heard site now x y side key m c desk =
     stays false site now x (offered x c) desk None (on_other site y side key m (offered y c) desk) tt (other-diversions site y side key m (offered y c) desk) (on-other-silent c.opening.key site y side key m (offered y c) desk)
@@ -154,7 +154,7 @@ request-hears : (site : Site) (now : Standing) (x : Trial) (side : Side) (key : 
 request-hears site now x Caller key m c desk = caller-heard site now x key m c desk (says x.caller m in_flight.Theirs)
 request-hears site now x Callee key m c desk = callee-heard site now x key m c desk (says x.callee.leg m in_flight.Own)
 
--- ---- deadlines and silence
+-- ---- deadlines and timeouts
 
 waits : (passed : Bool) (site : Site) (now : Standing) (x : Trial) (c : Call) (desk : Desk) → Hears passed site now x (offered x c) desk None (onward (offered x c) desk)
 waits passed site now x c desk = stays passed site now x (offered x c) desk None (onward (offered x c) desk) tt refl (silent c.opening.key desk)
@@ -191,7 +191,7 @@ silence-hears site now x (Some branch) c desk = gone-quiet site now x c desk (is
 
 -- ---- responses
 
--- one that is passed on to the caller
+-- one that is relayed to the caller
 relayed-quiet : (site : Site) (x : Trial) (m : Said) (c : Call) (desk : Desk) → IsQuiet (status_of m.heard.start == 181) c.opening.key desk (relayed_to_caller site (offered x c) x.attempt.service m desk)
 relayed-quiet site x m c desk = record {
   notices = _;
@@ -215,7 +215,7 @@ plainly site now x key m code c desk =
       none = quiet-then (status_of m.heard.start == 181) c.opening.key desk given _ (relayed-quiet site x m c desk) (armed-silent (its_sheet x.attempt.service) code now.at x (offered x c) given);
     })
 
--- a reliable answer that is passed on
+-- a reliable response that is relayed
 reliably-quiet : (site : Site) (x : Trial) (own : ℕ) (m : Said) (c : Call) (desk : Desk) → IsQuiet (status_of m.heard.start == 181) c.opening.key desk (relayed_reliably site (offered x c) x.attempt.service own m desk)
 reliably-quiet site x own m c desk = record {
   notices = _;
@@ -304,7 +304,7 @@ row-hears site now x (signal.Silent branch method) c desk = silence-hears site n
 row-hears site now x (signal.Due what) c desk = due-hears site now x what c desk
 row-hears site now x (signal.Ended key) c desk = stays false site now x (offered x c) desk None _ tt refl (silent c.opening.key desk)
 
--- what is in flight was dismissed before
+-- the requests in flight were dismissed before
 dismissed-hears : (passed : Bool) (site : Site) (now : Standing) (x : Trial) (c : Call) (desk before : Desk) (end : Option End) (s : Step) → IsSilent c.opening.key desk before → Hears passed site now x (offered x (dismissed c)) before end s →
     Hears passed site now x (offered x c) desk end s
 dismissed-hears passed site now x c desk before end s q (Stays a) = Stays (record {

@@ -1,4 +1,4 @@
--- A call that is not offered any more has no 181 go out, whether it stands, a leg of it is away, or it is over; and none where it ends without that leg.
+-- A call that is not offered any more sends no 181, whether it is established, a leg of it is detached, or it is over; and none where it ends without that leg.
 use Rattle.std.proofs.Common.{◌≡◌, ℕ, true, false, List, [], length, drop, Option, Some, None, refl, ap, subst, sym, ◌∙◌}
 use Rattle.std.proofs.lemmas.List.{drop_at}
 use Rattle.std.specs.Prelude.{if◌then◌else◌}
@@ -32,7 +32,7 @@ none-added : (key : TKey) (before after : Desk) → IsSilent key before after �
 none-added key before after s =
     ap (λ (out : List Emit). notices_in key (drop (length before.out) out)) s.out ∙ ap (notices_in key) (drop_at before.out s.new (length before.out) refl) ∙ s.seen
 
--- ---- while a leg is away
+-- ---- while a leg is detached
 
 lent-answered : (key : TKey) (branch : Option (List ℕ)) (site : Site) (now : Standing) (loan : Loan) (asked : TKey) (m : Said) (c : Call) (desk : Desk) → IsSilent key desk (answer_to branch site now asked m (lent loan c) desk).desk
 lent-answered key None site now loan asked m c desk = silent key desk
@@ -70,7 +70,7 @@ step-silent (Over cause) key site now heard c desk h = ended-silent key site now
 pub tells_nothing_later : TellsNothingLater
 tells_nothing_later site now heard c desk key h = none-added key desk (step site now heard c desk).desk (step-silent c.phase key site now heard c desk h)
 
--- ---- the end without a leg
+-- ---- the end without a detached leg
 
 ends-silent : (phase : Phase) (key : TKey) (site : Site) (at : ℕ) (c : Call) (desk : Desk) → IsSilent key desk (finished_in phase site at (record c { phase = phase }) desk).desk
 ends-silent (Offered x) key site at c desk = silent key desk

@@ -1,4 +1,4 @@
--- A call that is refused has no 181 as its final.
+-- A call that is refused does not get a 181 as its final response.
 use Rattle.std.proofs.Common.{◌≡◌, ℕ, ◌==◌, Bool, true, false, [], ◌∷◌, refl, arith}
 use Rattle.std.proofs.lemmas.Bool.Decides.{nat_tests}
 use Rattle.std.specs.Prelude.{nat_lt, not, ◌&&◌, Option, Some, None, if◌then◌else◌}
@@ -34,7 +34,7 @@ offered-turn true peer waiting = refl
 offered-turn false None waiting = refl
 offered-turn false (Some peer) waiting = tt
 
--- by what each service says
+-- by the decision of each service
 said-turn : (anonymous barred unregistered busy : Bool) (always when_busy : Option DueDiversion) (live : ℕ) (bound : Option ℕ) (unknown : Bool) (peer : Option Peer) →
     IsTurn (turn_by (decision_by (first_said (
     refuses_if anonymous causes.AnonymousRejected ∷ refuses_if barred causes.IncomingBarred ∷ diverts_by always ∷ refuses_if unregistered causes.NotRegistered
@@ -57,7 +57,7 @@ IsAfter EndAnswered = Unit {0}
 IsAfter (EndDivert due) = Unit {0}
 IsAfter (EndRefuse cause) = IsNoNotice (status_of cause)
 
--- it has no 181 as its final
+-- its final response is no 181
 abbrev pub IsFinal : End → Type 0
 IsFinal Answer = Unit {0}
 IsFinal Cancel = Unit {0}
@@ -128,6 +128,6 @@ pub too-many-notice : (busy : Bool) → IsNoNotice (status_of (causes.TooManyDiv
 too-many-notice true = refl
 too-many-notice false = refl
 
--- a final is no 181
+-- a final response is no 181
 pub final-notice : (code : ℕ) → nat_lt code 200 ≡ false → IsNoNotice code
 final-notice code e = grind (arith, nat_tests)

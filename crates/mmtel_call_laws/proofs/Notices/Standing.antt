@@ -1,4 +1,4 @@
--- A call that is not offered, or not any more, tells its caller of no diversion.
+-- A call that is not offered, or not any more, notifies its caller of no diversion.
 use Rattle.std.proofs.Common.{[], ◌≡◌, ℕ, ◌==◌, Bool, true, false, List, refl, subst, sym}
 use Rattle.std.specs.Prelude.{codes, Option, Some, None, if◌then◌else◌, nat_lt, Result, Ok, Err}
 use Rattle.mmtel_answers.specs.Said.{Said, status_of}
@@ -43,7 +43,7 @@ use Rattle.mmtel_call_laws.proofs.Notices.Adding.{IsSilent, expiry-silent, adds-
 use Rattle.mmtel_call_laws.proofs.Notices.Owning.{IsNoNotice, final-notice}
 use Rattle.mmtel_session.specs.Intervals.{expiry_after}
 
--- ---- what is sent across
+-- ---- what is relayed
 
 acked-for-silent : (key : TKey) (sip : Addr) (d : Dialogue) (passed : List Line) (m : HeardMessage) (desk : Desk) → IsSilent key desk (acked_for sip d passed m desk)
 acked-for-silent key sip d passed m desk = adds-then key desk (drew desk) _ [] [] (silent-drew key desk) (adds-emit key (drew desk) _ [] refl)
@@ -109,7 +109,7 @@ said-silent key (Ok heard) stage site at x side asked m c desk =
     let y = with_leg side (having_heard (leg_of side x) m) x in heard-silent key stage site at y side asked m (at_stage y stage c) desk
 said-silent key (Err fault) stage site at x side asked m c desk = silent-unheard key site c asked m fault desk
 
--- ---- ACK, CANCEL, deadlines, silence
+-- ---- ACK, CANCEL, deadlines, timeouts
 
 ack-silent : (key : TKey) (stage : Stage) (site : Site) (at : ℕ) (x : Pair) (side : Side) (m : Said) (c : Call) (desk : Desk) → IsSilent key desk (on_ack_at stage site at x side m c desk).desk
 ack-silent key (Answered waiting success) site at x side m c desk =
@@ -203,7 +203,7 @@ stood-row key site now x stage (signal.Silent branch method) c desk = silence-si
 stood-row key site now x stage (signal.Due what) c desk = step-if key desk (is_due_at stage c.successes what) _ _ (rung-silent key stage site now.at x (at_stage x stage c) desk) (silent key desk)
 stood-row key site now x stage (signal.Ended asked) c desk = silent key desk
 
--- what is in flight is dismissed before, where it leaves
+-- the requests in flight are dismissed before, if the signal ends the attempt or the call
 stood-either : (key : TKey) (site : Site) (now : Standing) (x : Pair) (stage : Stage) (heard : Signal) (c : Call) (desk : Desk) (b : Bool) →
     let d = at_stage x stage c in IsSilent key desk (if b then row site now heard (dismissed d) (dismissing site d desk) else row site now heard d desk).desk
 stood-either key site now x stage heard c desk true =

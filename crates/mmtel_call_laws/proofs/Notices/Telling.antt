@@ -1,4 +1,4 @@
--- Every story: the caller is told of the diversions that Outcome says were made over its endings.
+-- Every trace: the caller is notified of the diversions that were made according to Outcome over its endings.
 use Rattle.std.proofs.Common.{◌≡◌, ℕ, suc, ◌+◌, ◌-◌, ◌≤◌, ◌<◌, Bool, true, false, List, [], ◌∷◌, ◌++◌, refl, ap, sym, subst, ◌∙◌, append_assoc, arith}
 use Rattle.std.proofs.lemmas.Bool.Decides.{nat_tests}
 use Rattle.std.proofs.lemmas.List.{append-nil}
@@ -57,7 +57,7 @@ use Rattle.mmtel_call_laws.proofs.Notices.Hearing.{EndsAlone, Goes, Hears, Stays
 use Rattle.mmtel_call_laws.proofs.Notices.Owning.{IsAfter, IsNoNotice, IsRefusal, its-after, its-refusal}
 use Rattle.mmtel_call_laws.proofs.Notices.Standing.{ended-silent, stood-silent}
 
--- ---- a call at rest
+-- ---- a call that rests
 
 still : (n : ℕ) (call : precedence.Call) (kept : Kept) → IsAtRest kept → moves.moves n call kept ≡ kept
 still n call kept (Waits account e f) =
@@ -93,7 +93,7 @@ history-more o history (x ∷ xs) ys = history-more o (history_at o history x.by
 
 -- ---- after an attempt
 
--- the move on its end is the turn after it
+-- the move at its end is what is done after it
 end-move : (law : EndingsAreMoves) (call : precedence.Call) (kept : Kept) (reach : Reach) (at : ℕ) (how : End) (F : Kept → Type 0) → ((k : Kept) → F (move_in k.phase call k) → F k) →
     kept.phase ≡ moves.Ringing (account_at reach) → kept.endings ≡ [] →
     F (kept_after_turn call (account_at reach) at (ringing kept reach) (turn_on (targets.of_caller call kept.done at) (turns.sheet_of reach) how)) → F (with_later kept (ended_at at how ∷ []))
@@ -148,7 +148,7 @@ went-on turn_law end_law site now first later kept d x reach how m desk final kn
 
 -- ---- a step of a call that rings
 
--- what is told in a step, but for what is passed on, is due of the targets that it came to
+-- the notifications in a step, except for what is relayed, are those due for the targets that it reached
 pub record StepTells (passed : Bool) (site : Site) (call : precedence.Call) (o : Opening) (before : List precedence.Target) (history : List Entry) (desk : Desk) (s : Step) (kept : Kept) (n : ℕ) : Type 0 where
   pub new : List precedence.Target
   pub rests : IsAtRest (moves.moves n call kept)
@@ -162,7 +162,7 @@ InStep passed site call o before history desk s kept = (n : ℕ) × StepTells pa
 seen-added : {notices : List (Message StartLine)} (o : Opening) (before after : Desk) → Adds o.key before after notices → notices_in o.key (added before.out after.out) ≡ notices
 seen-added o before after a = ap (notices_in o.key) (added-is before.out a.new after.out a.out) ∙ a.seen
 
--- what nothing goes before
+-- what has nothing before it
 step-told : (passed : Bool) (site : Site) (call : precedence.Call) (o : Opening) (before : List precedence.Target) (history : List Entry) (desk between : Desk) (s : Step) (kept : Kept) → passed ≡ false → IsSilent o.key desk between →
     ComesToTell site call o before history between s kept → InStep passed site call o before history desk s kept
 step-told passed site call o before history desk between s kept own none (n, t) = (
@@ -178,7 +178,7 @@ step-told passed site call o before history desk between s kept own none (n, t) 
   },
 )
 
--- where the attempt goes on, was answered or was given up, the call comes to no other target
+-- where the attempt continues, was answered or was abandoned, the call reaches no other target
 abbrev RestsAt : precedence.Call → List precedence.Target → Kept → Type 0
 RestsAt call before kept = (n : ℕ) × IsAtRest (moves.moves n call kept) × ((moves.moves n call kept).targets ≡ before)
 
@@ -202,7 +202,7 @@ rests-alone law call kept reach at (Some NoReply) e rings empty = absurd e
 rests-alone law call kept reach at (Some (Deflection target rang)) e rings empty = absurd e
 rests-alone law call kept reach at (Some (Other code)) e rings empty = absurd e
 
--- what is known of a call that rings, which was opened so, at this step
+-- what is known at this step of a call that rings, with this opening
 pub record AtStep (site : Site) (now first : Standing) (later : ℕ → Standing) (kept : Kept) (c : Call) (x : Trial) (reach : Reach) (s : Step) (o : Opening) : Type 0 where
   pub known : IsKnown first o
   pub counted : IsCounted site o kept.done c.diversions
@@ -259,12 +259,12 @@ begins-tells law (Some cause) site now o later desk known own stands =
     let c = new_call site o in
     refused-tells site (known_as site now o later) now.at (caller_of now.at c) cause c desk (empty_kept (moves.Over precedence.Pending)) (Final cause) refl own
 
--- ---- every story
+-- ---- every trace
 
 abbrev received : Start → List Entry
 received s = received_list s.arrival.invite
 
--- over these endings the call stands so, and its caller was told this
+-- over these endings this is the phase of the call, and its caller got these notifications
 abbrev ToldBy : Start → (ℕ → Standing) → List Ended → Call → List (Message StartLine) → Type 0
 ToldBy s later ends c notices =
     (notices ≡ notices_due s.site (opening_in s) (received s) (outcome (call_in s later) ends).targets)
@@ -285,12 +285,12 @@ told-more s later ends ends2 c d notices more old new e f told shown entries =
       entries ∙ ap (λ h. history_over o h new) before ∙ sym (history-more o (received s) old new) ∙ ap (history_over o (received s)) (sym f),
     )
 
--- what is told of the steps so far and of one more
+-- the notifications in the steps so far and in one more
 abbrev Next : Start → Heard → List Heard → (ℕ → Standing) → Call → List (Message StartLine) → Type 0
 Next s x earlier later c notices =
     ToldBy s later (endings_after s earlier ++ ending_by x c) (next_step s x c).call (notices ++ own_notices s x (added x.desk.out (next_step s x c).desk.out))
 
--- in a step at which it was not offered nothing is told
+-- in a step at which it was not offered there are none
 next-still : (s : Start) (x : Heard) (earlier : List Heard) (later : ℕ → Standing) (c : Call) (notices : List (Message StartLine)) → IsSilent (opening_in s).key x.desk (next_step s x c).desk → ending_by x c ≡ [] → (next_step s x c).call.diversions ≡ c.diversions →
     ToldBy s later (endings_after s earlier) c notices → Next s x earlier later c notices
 next-still s x earlier later c notices added_none none same told =

@@ -1,4 +1,4 @@
--- Each row of the step table replies in the server transactions of the call's own requests, and keeps those alone; and what goes out stands behind what lay there.
+-- Each transition of the step table replies in the server transactions of the call's own requests, and keeps those alone; and what is sent is appended to what was in the output before.
 use Rattle.std.proofs.Common.{◌≡◌, ◌∙◌, ◌==◌, ◌&&◌, Bool, true, false, not, ℕ, zero, suc, List, [], ◌∷◌, ◌++◌, Option, Some, None, nat_lt, Result, Ok, Err, codes, ap, append_assoc}
 use Rattle.std.specs.Prelude.{IfSome, if◌then◌else◌, position, slice_get}
 use Rattle.std.specs.List.{filter}
@@ -94,12 +94,12 @@ use Rattle.mmtel_session.specs.Intervals.{expiry_after}
 use Rattle.mmtel_call.specs.Expiring.{expired, expired_asking}
 
 module _ (own : ℕ → Bool) (site : Site) (before : List Emit) where
-  -- ---- what goes out
+  -- ---- what is sent
 
   abbrev Own : TKey → Type 0
   Own key = own key.0 ≡ true
 
-  -- what came behind what lay there, and it replies in these transactions alone
+  -- what was appended replies in these transactions alone
   pub record Replies (out : List Emit) : Type 0 where
     pub more : List Emit
     pub is : out ≡ before ++ more
@@ -108,7 +108,7 @@ module _ (own : ℕ → Bool) (site : Site) (before : List Emit) where
   abbrev pub Replied : Desk → Type 0
   Replied desk = Replies desk.out
 
-  -- a step leaves a call of these transactions, and its replies are in them
+  -- after a step the call has requests of these transactions, and its replies are in them
   pub record Good (s : Step) : Type 0 where
     pub call_in : CallIsOf own s.call
     pub desk_in : Replied s.desk
@@ -151,7 +151,7 @@ module _ (own : ℕ → Bool) (site : Site) (before : List Emit) where
   replied_in : (c : Call) (key : TKey) (m : Said) (code : ℕ) (desk : Desk) → Own key → Replied desk → Replied (replied_to site c key m code desk)
   replied_in c key m code desk is had = emit_in _ desk is had
 
-  -- the INVITE that opened the call is of these, and what is in flight
+  -- the INVITE that opened the call is of these, and so are the requests in flight
   abbrev Opens : Call → Type 0
   Opens c = Own c.opening.key × FlightsAreOf own c.flights
 
@@ -199,7 +199,7 @@ module _ (own : ℕ → Bool) (site : Site) (before : List Emit) where
   if_good true one two e f = e
   if_good false one two e f = f
 
-  -- what is armed for the session of a 2xx replies nothing
+  -- the deadline for the session of a 2xx replies nothing
   expiries_in : (timer : Bool) (time : Option ℕ) (at : ℕ) (c : Call) → Each (IsRepliedIn own) (if timer then expiry_in time at c else [])
   expiries_in true None at c = tt
   expiries_in true (Some time) at c = (tt, tt)
@@ -208,7 +208,7 @@ module _ (own : ℕ → Bool) (site : Site) (before : List Emit) where
   expiry_awaited : (at : ℕ) (m : Said) (c : Call) (desk : Desk) → Replied desk → Replied (awaiting_expiry site at m c desk)
   expiry_awaited at m c desk had = more_in desk.out (expiries site.timer at m c) (expiries_in site.timer (expiry_after m.heard.session) at c) had
 
-  -- ---- what is in flight
+  -- ---- requests in flight
 
   settled_good : (answer : Option ℕ) (c : Call) (desk : Desk) → Replied desk → Replied (settled site answer c desk)
   settled_good answer c desk had = if_desk site.reliable (emitted (emit.Settled c.opening.key answer) desk) desk (emit_in _ desk tt had) had
@@ -232,7 +232,7 @@ module _ (own : ℕ → Bool) (site : Site) (before : List Emit) where
   dismissing_in : (c : Call) (desk : Desk) → Opens c → Replied desk → Replied (dismissing site c desk)
   dismissing_in c desk k had = settled_in_good c.phase c (dismissed_all site c desk) (dismissed_all_in c desk k had)
 
-  -- its answer comes back
+  -- the final response is relayed back
 
   agreed_row : (kind : FlightKind) (at : ℕ) (side : Side) (request response : Said) (c : Call) (desk : Desk) → At c.phase → Opens c → Replied desk → Good (flying.agreed kind site at side request response c desk)
   agreed_row Prack at side request response c desk p k had = onward_good c desk p k had
@@ -267,7 +267,7 @@ module _ (own : ℕ → Bool) (site : Site) (before : List Emit) where
   silent_in_flight_row None c desk p k had = onward_good c desk p k had
   silent_in_flight_row (Some place) c desk p k had = silent_flight_row place (slice_get c.flights place) c desk (each_get (FlightIsOf own) c.flights place k.1) p k had
 
-  -- one more is asked
+  -- one more is sent
 
   with_flight_in : (flight : Flight) (c : Call) → FlightIsOf own flight → Opens c → FlightsAreOf own (c.flights ++ flight ∷ [])
   with_flight_in flight c is k = each_append (FlightIsOf own) c.flights (flight ∷ []) k.1 (is, tt)
@@ -318,7 +318,7 @@ module _ (own : ℕ → Bool) (site : Site) (before : List Emit) where
       (if_good (is_update m) (on_update site x side key m c desk) (onward c (unlisted site c key m desk)) (update_row x side key m c desk a p k had)
       (onward_good c (unlisted site c key m desk) p k (unlisted_in c key m desk a had)))
 
-  -- ---- the way on
+  -- ---- how the call continues
 
   refused_good : (at : ℕ) (caller : Leg) (cause : Cause) (c : Call) (desk : Desk) → Opens c → Replied desk → Good (refused site at caller cause c desk)
   refused_good at caller cause c desk k had = over_good at cause caller.meter None c (told_caller site c (of_causes.status_of cause) desk) k (told_in c (of_causes.status_of cause) desk k had)
@@ -520,7 +520,7 @@ module _ (own : ℕ → Bool) (site : Site) (before : List Emit) where
       (over_stood_good at x c (acked_and_left site x (other_of side) desk) k (acked_left_in x (other_of side) desk had))
       (staged_good x (Parting waiting success) c desk tt k had)
 
-  -- an INVITE goes across
+  -- an INVITE is relayed
 
   asked_across_good : (x : Pair) (side : Side) (key : TKey) (m : Said) (c : Call) (desk : Desk) → Own key → Opens c → Replied desk → Good (asked_across site x side key m c desk)
   asked_across_good x side key m c desk a k had = good (asked_across site x side key m c desk) a k (emit_in _ (drew desk) tt had)
@@ -528,7 +528,7 @@ module _ (own : ℕ → Bool) (site : Site) (before : List Emit) where
   invited_good : (x : Pair) (side : Side) (key : TKey) (m : Said) (c : Call) (desk : Desk) → Own key → Opens c → Replied desk → Good (invited site x side key m c desk)
   invited_good x side key m c desk a k had = asked_across_good x side key m c (replied_to site c key m 100 desk) a k (replied_in c key m 100 desk a had)
 
-  -- and its answers come back
+  -- and the responses to it are relayed back
 
   relayed_back_in : (x : Pair) (side : Side) (q : Reinvite) (m : Said) (c : Call) (desk : Desk) → Own q.key → Replied desk → Replied (relayed_back site x side q m c desk)
   relayed_back_in x side q m c desk is had = emit_in _ desk is had
@@ -678,7 +678,7 @@ module _ (own : ℕ → Bool) (site : Site) (before : List Emit) where
   due_at_row stage at x what c desk e k had =
       if_good (is_due_at stage c.successes what) (rung_out stage site at x (stood x stage c) desk) (onward (stood x stage c) desk) (rung_row stage at x c desk e k had) (staged_good x stage c desk e k had)
 
-  -- ---- INVITEs that the call does not wait on
+  -- ---- INVITEs for which the call does not wait
 
   if_rest : (b : Bool) (one two : Rest) → Replied one.desk → Replied two.desk → Replied (if b then one else two).desk
   if_rest true one two e f = e
@@ -829,7 +829,7 @@ module _ (own : ℕ → Bool) (site : Site) (before : List Emit) where
       let c : Call = new_call site (opening_of site now (token desk) a) in
       unless_refused_good (refusal_of site now.at c.opening) now (caller_of now.at c) c (told_caller site c 100 (drew desk)) (k, tt) (told_in c 100 (drew desk) (k, tt) had)
 
-  -- ---- without a leg
+  -- ---- without a detached leg
 
   finished_in_good : (phase : Phase) (at : ℕ) (c : Call) (desk : Desk) → At phase → Opens c → Replied desk → Good (finished_in phase site at (at_phase phase c) desk)
   finished_in_good (Offered x) at c desk p k had = onward_good (at_phase (Offered x) c) desk p k had

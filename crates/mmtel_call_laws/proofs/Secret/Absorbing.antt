@@ -1,4 +1,4 @@
--- A request that is kept to be answered is public in one way, whatever was hidden of it before.
+-- A request that is kept only to be responded to has one public part, whatever was hidden of it before.
 use Rattle.std.proofs.Common.{◌≡◌, ℕ, Bool, true, false, ◌&&◌, List, [], ◌∷◌, Option, Some, None, refl, ap, ◌∙◌, cond}
 use Rattle.std.proofs.lemmas.List.{append-nil}
 use Rattle.std.specs.List.{flat_map}
@@ -67,7 +67,7 @@ kind_absorbs start p Personal v = gone_absorbs p.personal v
 kind_absorbs start p Trusted v = refl
 kind_absorbs start p Other v = refl
 
--- ---- lines
+-- ---- header fields
 
 name_absorbs : (p : Places) (n : List ℕ) (o : Option (List ℕ)) → flat_map (masked_line p) (with_name n o) ≡ with_name n (then_by (masked_value p (kind_of n)) o)
 unfolding masked_line

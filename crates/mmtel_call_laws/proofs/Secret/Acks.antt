@@ -1,4 +1,4 @@
--- The ACK of a 2xx sees public parts alone.
+-- The transition on the ACK of a 2xx uses public parts alone.
 use Rattle.std.proofs.Common.{◌≡◌, inl, inr, ℕ, Bool, true, false, List, [], ◌∷◌, refl, ap, sym, ◌∙◌, map, cond, Some}
 use Rattle.std.specs.Str.{bytes_eq}
 use Rattle.mmtel_answers.specs.Said.{Said}

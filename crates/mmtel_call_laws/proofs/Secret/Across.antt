@@ -1,4 +1,4 @@
--- Rows of an answered call see public parts alone: its requests and deadlines, and an INVITE that a side asks of the other one.
+-- Transitions of an answered call use public parts alone: on requests and deadlines, and on an INVITE that a side sends to the other one.
 use Rattle.std.proofs.Common.{◌≡◌, ℕ, Bool, true, false, ◌==◌, not, List, [], ◌∷◌, ◌++◌, refl, ap, sym, ◌∙◌, map, cond, codes, append-nil, Option, Some, None}
 use Rattle.std.proofs.lemmas.List.{map-append}
 use Rattle.std.specs.Prelude.{◌+◌, Result, Ok, Err, nat_lt, if◌then◌else◌}
@@ -58,13 +58,13 @@ module _ (heads : Heads) (site : Site) (keys : TKey → Bool) where
   abbrev known : Peer → Bool
   known = λ peer. trusts site peer
 
-  -- ---- an INVITE goes across
+  -- ---- an INVITE is relayed
 
-  -- the stage of a call that asks, where the request is public alike
+  -- the stage of a reinviting call, where the requests have the same public part
   asks_public : (who : Identities2) (x : Pair) (side : Side) (p q : Reinvite) (c : Call) → p ≡ public_reinvite known q → at_stage (public_pair known x) (Asking side p) (public_call known who c) ≡ public_call known who (at_stage x (Asking side q) c)
   asks_public who x side p q c e = ap (λ (z : Reinvite). at_stage (public_pair known x) (Asking side z) (public_call known who c)) e
 
-  -- of a request that is public in one way, and whose INVITE has one branch
+  -- of requests with the same public part, whose INVITEs have the same branch
   across_call : (who : Identities2) (x : Pair) (side : Side) (m n : Said) (i : Invitation) (branch : List ℕ) (key : TKey) (c : Call) → branch ≡ i.branch → public_request n ≡ public_request m →
       public_part known (at_stage (public_pair known x) (Asking side (record { key = key; request = n; invitation = record (public_invitation known i) { branch = branch }; cancel_due = false })) (public_call known who c))
       ≡ public_part known (at_stage x (Asking side (record { key = key; request = m; invitation = i; cancel_due = false })) c)
@@ -186,7 +186,7 @@ module _ (heads : Heads) (site : Site) (keys : TKey → Bool) where
       (step-if T (is_due_at stage c.successes what) (rung_out (public_stage known stage) site at (public_pair known x) (public_call known who c) one) (onward (public_call known who c) one) (rung_out stage site at x c other) (onward c other)
       (rung-alike stage who at x c one other kept a) (on-alike heads site keys who c one other a))
 
-  -- ---- CANCEL and silence of an INVITE that a side asked
+  -- ---- CANCEL and timeout of an INVITE that a side sent
 
   cancels-alike : (who : Identities2) (x : Pair) (side : Side) (q : Reinvite) (c : Call) (one other : Desk) → AlikeDesks T one other →
       AlikeSteps T (cancelled_across site (public_pair known x) side (public_reinvite known q) (public_call known who c) one) (cancelled_across site x side q c other)
@@ -253,7 +253,7 @@ module _ (heads : Heads) (site : Site) (keys : TKey → Bool) where
   pub awaits-alike : (who : Identities2) (at : ℕ) (c : Call) (one other : Desk) → AlikeDesks T one other → AlikeDesks T (awaiting_ack at (public_call known who c) one) (awaiting_ack at c other)
   awaits-alike who at c one other a = emitted-alike T (emit.Arm c.opening.number (due.NoAck (next_success c)) (at + ack_time)) (emit.Arm c.opening.number (due.NoAck (next_success c)) (at + ack_time)) one other refl a
 
-  -- what is armed for the session of a 2xx, which says the same of it in both
+  -- the deadline for the session of a 2xx, which has the same interval in both
   expiries-alike : (timer : Bool) (time : Option ℕ) (who : Identities2) (at : ℕ) (c : Call) (one other : Desk) → AlikeDesks T one other →
       AlikeDesks T (record one { out = one.out ++ (if timer then expiry_in time at (public_call known who c) else []) }) (record other { out = other.out ++ (if timer then expiry_in time at c else []) })
   expiries-alike true None who at c one other a = simp append-nil a

@@ -1,4 +1,4 @@
--- The opening of a call sees public parts alone.
+-- The opening of a call uses public parts alone.
 use Rattle.std.proofs.Common.{◌≡◌, ℕ, ◌-◌, Bool, true, false, ◌&&◌, List, [], ◌∷◌, refl, ap, sym, ◌∙◌, map, cond, codes, subst, Option, Some, None}
 use Rattle.std.specs.Prelude.{Result, Ok, Err, is_ok}
 use Rattle.mmtel_answers.specs.Said.{Said}
@@ -81,7 +81,7 @@ entries_by : (w : Bool) (h : List Entry) → hidden_entries (cond w AllEntries M
 entries_by true h = refl
 entries_by false h = refl
 
--- of what came from a trusted peer or not, in a request or not
+-- from a trusted peer or not, in a request or not
 entries_if : (b q w : Bool) (h : List Entry) → masked_list w (cond b (hidden_entries (cond (b && q) (cond w AllEntries MarkedEntries) NoEntries) h) h) ≡ masked_list w h
 entries_if false q w h = refl
 entries_if true false w h = refl

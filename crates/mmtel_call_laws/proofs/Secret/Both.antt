@@ -1,4 +1,4 @@
--- Under two configurations that are equal but for the URIs of accounts alike calls go on alike.
+-- Under two configurations that are equal but for the URIs of accounts indistinguishable calls continue indistinguishably.
 use Rattle.std.proofs.Common.{◌≡◌, ℕ, Bool, true, false, ◌&&◌, List, [], ◌∷◌, Option, Some, None, refl, ap, ◌∙◌, subst}
 use Rattle.mmtel_answers.specs.Said.{Said}
 use Rattle.mmtel_desk.specs.Invites.{invite_answered}
@@ -29,13 +29,13 @@ use Rattle.mmtel_call_laws.proofs.Secret.Keeping.{calls_stay_alike, steps_keep_a
 use Rattle.mmtel_call_laws.proofs.Secret.LookingUp.{openings_see_look_ups_alone, steps_see_look_ups_alone}
 use Rattle.mmtel_call_laws.proofs.Secret.Sent.{Heads}
 
--- ---- where a call is redirected to is never private
+-- ---- the URI to which a call is redirected is never private
 
 redirect_left : (b : Bool) (u : Option (List ℕ)) → hidden_uri (b && false) u ≡ u
 redirect_left true u = refl
 redirect_left false u = refl
 
--- so of the response that redirects nothing is hidden there
+-- so nothing of it is hidden in the response that redirects
 redirects_as : (one other : Site) (role : Role) (m : Said) → (private_places role m.heard).redirect ≡ false → RedirectsAlike one other (without_private role m) → RedirectsAlike one other m
 redirects_as one other role m shown looks uri is =
     looks uri (
@@ -80,7 +80,7 @@ openings_in_both heads law records site far keys now a b one other equal lead lo
     subst (λ (s : Step). AlikeSteps (trust_of site keys) (opened site now a one) s × AlikeCalls records (trusts site) (opened site now a one).call s.call) (openings_see_look_ups_alone records site far now b other equal lead stand looks)
     (openings_keep_alike heads law records site keys now a b one other first then stand alike same d, openings_give_alike heads law records site keys now a b one other first then stand alike same d)
 
--- ---- stories
+-- ---- traces
 
 module _ (heads : Heads) (law : VerdictsSeeAnswersAlone) (records : List Sheet) (site far : Site) (keys : TKey → Bool) (c d : Call) (equal : EqualButForAccounts site far) (lead : RecordsLeadAlike records site far) (alike : AlikeCalls records (trusts site) c d) where
   calls : (story : List Both) → AllHearAlikeInBoth records site far keys c d story → AlikeCalls records (trusts site) (one_after site c story) (other_after far d story)

@@ -1,4 +1,4 @@
--- What is decided of a call does not rest on who the caller is, beyond its answers.
+-- The decisions on a call do not depend on the caller's identity, beyond the results of the rules on it.
 use Rattle.std.proofs.Common.{◌≡◌, ℕ, Bool, true, false, refl, ap, sym, ◌∙◌, List, Option, Some, None}
 use Rattle.std.specs.Option.{option_map}
 use Rattle.mmtel_diversion.specs.Diversion.{Chosen, diversion_of}
@@ -22,7 +22,7 @@ use Rattle.mmtel_call_decisions.specs.declared.openings.Opening.{Opening}
 use Rattle.mmtel_call_laws.specs.Secret.Premises.{DecideAlike, IsAmong}
 
 module _ (law : VerdictsSeeAnswersAlone) (records : List Sheet) (one other : Identities2) (alike : DecideAlike records one other) (o : Opening) (at : ℕ) (diverted : Bool) where
-  -- with the other one's identity, or none
+  -- with the identity of the other caller, or none
   abbrev half : Circumstances
   half = record (circumstances one o at diverted false) { has_identity = has_identity other }
 
@@ -37,7 +37,7 @@ module _ (law : VerdictsSeeAnswersAlone) (records : List Sheet) (one other : Ide
   pub turn_same : (reach : Reach) → IsAmong records (account_at reach).sheet → turn_at (circumstances one o at diverted false) reach ≡ turn_at (circumstances other o at diverted false) reach
   turn_same reach is = ap (λ (d : Decision). turn_by d (own_bound (account_at reach).sheet) reach.is_unknown reach.peer) (verdict_same (account_at reach) ending.Arrived is)
 
-  -- what follows of a decision after an attempt, under a record with this bound
+  -- what follows from a decision after an attempt, under a record with this bound
   abbrev after_of : (bound : Option ℕ) → Decision → AfterEnd
   after_of bound (Offers waiting) = EndAnswered
   after_of bound (Forwards None cause) = EndAnswered

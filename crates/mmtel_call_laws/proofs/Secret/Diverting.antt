@@ -1,4 +1,4 @@
--- How a call goes on sees public parts alone: at a target, by diversions, and after an attempt.
+-- How a call continues uses public parts alone: at a target, by diversions, and after an attempt.
 use Rattle.std.proofs.Common.{◌≡◌, ℕ, zero, suc, Bool, true, false, not, List, [], ◌∷◌, refl, ap, sym, ◌∙◌, subst, Option, Some, None}
 use Rattle.std.specs.Option.{option_map}
 use Rattle.mmtel_answers.specs.Said.{Said, status_of as status_in}
@@ -56,7 +56,7 @@ use Rattle.mmtel_call_laws.proofs.Secret.Rows.{over-alike, step-if, told-alike}
 use Rattle.mmtel_call_laws.proofs.Secret.Shown.{true_false}
 use Rattle.mmtel_call_laws.proofs.Secret.Sent.{Heads, answered-alike, if-alike, same_desk}
 
--- ---- steps are alike in turn
+-- ---- indistinguishable steps one after another
 
 pub steps-back : (t : Trust) (p q : Step) → AlikeSteps t p q → AlikeSteps t q p
 steps-back t p q a = record { call = sym a.call; desk = record { tokens = sym a.desk.tokens; rows = sym a.desk.rows; out = sym a.desk.out } }
@@ -64,7 +64,7 @@ steps-back t p q a = record { call = sym a.call; desk = record { tokens = sym a.
 pub steps-then : (t : Trust) (p q r : Step) → AlikeSteps t p q → AlikeSteps t q r → AlikeSteps t p r
 steps-then t p q r a b = record { call = a.call ∙ b.call; desk = record { tokens = a.desk.tokens ∙ b.desk.tokens; rows = a.desk.rows ∙ b.desk.rows; out = a.desk.out ∙ b.desk.out } }
 
--- ---- everybody answers as they do
+-- ---- the same is decided on a caller and itself
 
 same_answers : (asks : Who → Bool) (parts : List Who) → AnswerAlike asks asks parts
 same_answers asks [] = tt
@@ -87,7 +87,7 @@ module _ (heads : Heads) (law : VerdictsSeeAnswersAlone) (records : List Sheet) 
 
   -- ---- at a target
 
-  -- what a diversion comes to
+  -- the result of a diversion
   abbrev DivertsAlike : (f g : Option Service → DueDiversion → Call → Desk → Step) → Type 0
   DivertsAlike f g = (who : Identities2) (service : Option Service) (due : DueDiversion) (c : Call) (one other : Desk) → IsAsked T c.opening.key c.opening.invite → DecideAlike records who c.opening.identities → AlikeDesks T one other →
       AlikeSteps T (f service due (public_call known who c) one) (g service due c other)
@@ -134,7 +134,7 @@ module _ (heads : Heads) (law : VerdictsSeeAnswersAlone) (records : List Sheet) 
     abbrev all : Bool
     all = masks_all c.opening
 
-    -- of the public part, and of the call
+    -- for the public part, and for the call
     abbrev masked_made : Call
     masked_made = diverted target now.at left service due (public_call known who c)
 
@@ -192,7 +192,7 @@ module _ (heads : Heads) (law : VerdictsSeeAnswersAlone) (records : List Sheet) 
       steps-then T (at_next left due pl x d) (at_next left due pl (public_call known who y) d) (at_next left due caller y e)
       (steps-back T (at_next left due pl (public_call known who y) d) (at_next left due pl x d) moved) second
 
-  -- what stands before a diversion refuses it in both, or in neither
+  -- what is checked before a diversion refuses it in both, or in neither
   unless-alike : (refusal : Option Cause) (f g : Call → Desk → Step) (who : Identities2) (caller : Leg) (c : Call) (one other : Desk) → IsAsked T c.opening.key c.opening.invite → AlikeDesks T one other →
       AlikeSteps T (f (public_call known who c) one) (g c other) →
       AlikeSteps T (made_unless refusal f site now.at (public_leg known caller) (public_call known who c) one) (made_unless refusal g site now.at caller c other)

@@ -1,4 +1,4 @@
--- Rows of an offered call see public parts alone: all that the target answers, its silence, and the deadlines of an attempt.
+-- Transitions of an offered call use public parts alone: on all responses of the target, on its timeout, and on the deadlines of an attempt.
 use Rattle.std.proofs.Common.{◌≡◌, ℕ, Bool, true, false, ◌==◌, ◌&&◌, refl, ap, sym, cond, subst, Option, Some, None, List}
 use Rattle.std.specs.Prelude.{nat_lt}
 use Rattle.mmtel_scan.specs.Chain.{◌>>=◌}
@@ -40,7 +40,7 @@ use Rattle.mmtel_call_laws.proofs.Secret.Ringing.{answers_to_attempt, proceeds-a
 use Rattle.mmtel_call_laws.proofs.Secret.Rows.{cancelled-alike, left_public, on-alike, step-if}
 use Rattle.mmtel_call_laws.proofs.Secret.Sent.{Heads}
 
--- ---- where a response redirects to is no secret of the target
+-- ---- the URI to which a response redirects is not private to the target
 
 uri_kept : (b c : Bool) (u : Option (List ℕ)) → c ≡ false → hidden_uri (b && c) u ≡ u
 uri_kept true true u e = absurd cc
@@ -86,7 +86,7 @@ module _ (heads : Heads) (law : VerdictsSeeAnswersAlone) (records : List Sheet) 
       (answers_to_attempt heads site keys who now.at x key role m c one other can.opening is.fits is.leg a)
       (fails-alike who x key role m code c one other can its is a)))
 
-  -- ---- silence and deadlines, which bring no message
+  -- ---- timeouts and deadlines, which have no message
 
   ends-alike : (who : Identities2) (x : Trial) (how : End) (c : Call) (one other : Desk) → CanGoOn records T now who c → ServiceIsAsked records x.attempt.service → AlikeDesks T one other →
       AlikeSteps T (goes_on site now (public_trial known x) how None (public_call known who c) one) (goes_on site now x how None c other)

@@ -1,4 +1,4 @@
--- PRACK and UPDATE go across by public parts alone.
+-- PRACK and UPDATE are relayed by public parts alone.
 use Rattle.std.proofs.Common.{◌≡◌, ℕ, Bool, false, List, [], ◌∷◌, ◌++◌, refl, ap, sym, ◌∙◌, map, codes, subst, Option, Some, None}
 use Rattle.std.proofs.lemmas.List.{map-append}
 use Rattle.std.specs.List.{find}
@@ -83,7 +83,7 @@ module _ (heads : Heads) (site : Site) (keys : TKey → Bool) where
       ∙ (ap (λ (x : Flight). map (public_flight known) fs ++ x ∷ []) e
       ∙ sym (map-append (public_flight known) fs (other ∷ []))))
 
-  -- a call in which it flies
+  -- a call in which it is in flight
   flown : (who : Identities2) (c : Call) (one other : Flight) → public_flight known one ≡ public_flight known other →
       public_part known (with_flight one (public_call known who c)) ≡ public_part known (with_flight other c)
   flown who c one other e =
@@ -144,7 +144,7 @@ module _ (heads : Heads) (site : Site) (keys : TKey → Bool) where
 
   -- ---- UPDATE
 
-  -- it goes to the other side
+  -- it is relayed to the other side
   flies-alike : (who : Identities2) (service : Option Service) (side : Side) (leg : Leg) (key : TKey) (role : Role) (m : Said) (c : Call) (one other : Desk) → Fits c.opening service side m role → AlikeDesks T one other →
       AlikeSteps T (asked_on site service side (public_leg known leg) key (without_private role m) (public_call known who c) one) (asked_on site service side leg key m c other)
   flies-alike who service side leg key role m c one other fits a =

@@ -1,4 +1,4 @@
--- Two alike calls go on alike: each goes on as its public part does.
+-- Two indistinguishable calls continue indistinguishably: each continues as its public part does.
 use Rattle.std.proofs.Common.{◌≡◌, Bool, ap, sym, subst}
 use Rattle.mmtel_precedence.specs.Laws.{VerdictsSeeAnswersAlone}
 use Rattle.mmtel_rules.specs.declared.values.Identities2.{Identities2}

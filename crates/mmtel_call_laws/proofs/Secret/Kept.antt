@@ -1,4 +1,4 @@
--- What a call keeps from step to step: whatever holds of requests that it hears and of records in force holds of those that it keeps.
+-- The invariants of a call from step to step: whatever holds of requests that it receives and of records in force holds of those that it keeps.
 use Rattle.std.proofs.Common.{◌≡◌, ◌==◌, ℕ, zero, suc, Bool, true, false, not, List, [], ◌∷◌, ap, sym, subst, codes, cond, Option, Some, None}
 use Rattle.std.specs.Prelude.{Result, Ok, Err, nat_lt, position, slice_get}
 use Rattle.mmtel_answers.specs.Said.{Said, status_of}
@@ -87,14 +87,14 @@ StageKeeps request (Parting side success) = Unit {0}
 StageKeeps request Talking = Unit {0}
 StageKeeps request (Asking side q) = request q.key q.request
 
--- it holds of the request that waits for its answer, and of the account that is served where the call is offered
+-- it holds of the request that awaits its response, and of the account that is served where the call is offered
 abbrev PhaseKeeps : (request : TKey → Said → Type 0) → (service : Option Service → Type 0) → Phase → Type 0
 PhaseKeeps request service (Offered x) = service x.attempt.service
 PhaseKeeps request service (Stood x stage) = StageKeeps request stage
 PhaseKeeps request service (Lent loan) = Unit {0}
 PhaseKeeps request service (Over cause) = Unit {0}
 
--- of a request that is heard
+-- of a request that is received
 abbrev Brings : (request : TKey → Said → Type 0) → Signal → Type 0
 Brings request (signal.Request side key m) = request key m
 Brings request (signal.Ack side ack) = Unit {0}
@@ -104,7 +104,7 @@ Brings request (signal.Silent branch method) = Unit {0}
 Brings request (signal.Due what) = Unit {0}
 Brings request (signal.Ended key) = Unit {0}
 
--- and of each account with its record as it stands, and of nobody
+-- and of each account with its current record, and of no account
 abbrev Stands : (service : Option Service → Type 0) → Standing → Type 0
 Stands service now = (served : Option Account) → service (option_map (service_of now) served)
 
@@ -122,7 +122,7 @@ module _ (request : TKey → Said → Type 0) (service : Option Service → Type
   abbrev Keeps : Step → Type 0
   Keeps s = Has s.call
 
-  -- one more flies
+  -- one more is in flight
   more : (flight : Flight) (c : Call) → request flight.asked.key flight.asked.request → Flies c → Flies (with_flight flight c)
   more flight c r flies = each_append (λ (x : Flight). request x.asked.key x.asked.request) c.flights (flight ∷ []) flies (r, tt)
 
@@ -130,7 +130,7 @@ module _ (request : TKey → Said → Type 0) (service : Option Service → Type
   keep-if true p q e f = e
   keep-if false p q e f = f
 
-  -- ---- how a call goes on
+  -- ---- how a call continues
 
   module _ (site : Site) (now : Standing) (stands : Stands service now) where
     abbrev Diverts : (f : Option Service → DueDiversion → Call → Desk → Step) → Type 0
@@ -327,7 +327,7 @@ module _ (request : TKey → Said → Type 0) (service : Option Service → Type
     rung-keeps Talking x c desk h = (tt, tt)
     rung-keeps (Asking asking q) x c desk h = (tt, tt)
 
-    -- ---- INVITEs that it does not wait on
+    -- ---- INVITEs for which it does not wait
 
     loose-keeps : (at : ℕ) (o : Option Loose) (key : TKey) (m : Said) (c : Call) (desk : Desk) → Has c → Keeps (answered_loose site key m at o c desk)
     loose-keeps at None key m c desk h = h
@@ -459,7 +459,7 @@ module _ (request : TKey → Said → Type 0) (service : Option Service → Type
         let c : Call = new_call site (opening_of site now (token desk) a) in
         unrefused-keeps (refusal_of site now.at c.opening) (caller_of now.at c) c (told_caller site c 100 (drew desk)) tt
 
-  -- ---- a leg is taken out, or put back
+  -- ---- a leg is detached, or put back
 
   lent-keeps : (p : Phase) (side : Side) (c : Call) → Has c → Has (lent_in p side c)
   lent-keeps (Offered x) side c h = h
@@ -486,7 +486,7 @@ module _ (request : TKey → Said → Type 0) (service : Option Service → Type
   unfolding finished
   finished-keeps site at c desk h = finish-keeps c.phase site at c desk h
 
--- ---- requests that are asked by their own peers, and records that are among these
+-- ---- requests that were sent by their own peers, and records that are among these
 
 module _ (records : List Sheet) (t : Trust) where
   abbrev Asked : TKey → Said → Type 0
@@ -532,7 +532,7 @@ module _ (records : List Sheet) (t : Trust) where
   served_stands now stand None = λ sheet e. absurd cc
   served_stands now stand (Some account) = λ sheet e. subst (λ (s : Sheet). IsAmong records s) (ap (λ (o : Option Sheet). unwrap_or o empty_sheet) e) (stand.each account)
 
-  -- a call whose phase so keeps, and which opened so
+  -- a call whose phase keeps this invariant, and which opened so
   kept_by : (c d : Call) → d.opening ≡ c.opening → IsAsked t c.opening.key c.opening.invite → Has Asked Served d → IsKept records t d
   kept_by c d same asked h = record { opening = subst (λ (o : Opening). IsAsked t o.key o.invite) (sym same) asked; kept = (asked_of d.phase h.0, h.1); served = served_of d.phase h.0 }
 

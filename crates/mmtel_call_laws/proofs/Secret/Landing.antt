@@ -1,4 +1,4 @@
--- What is in flight is answered by public parts alone: by the final that comes back, by silence, and where an attempt is left or the call ends.
+-- A request in flight gets its final response by public parts alone: by the one that is relayed back, by a timeout, and where an attempt ends without a 2xx or the call ends.
 use Rattle.std.proofs.Common.{◌≡◌, ℕ, zero, suc, Bool, not, List, [], ◌∷◌, refl, ap, sym, ◌∙◌, map, subst, Option, Some, None}
 use Rattle.std.specs.List.{filter}
 use Rattle.std.specs.Option.{option_map}
@@ -40,7 +40,7 @@ use Rattle.mmtel_call_laws.proofs.Secret.Rows.{on-alike, on-alike-by, own-reply,
 use Rattle.mmtel_call_laws.proofs.Secret.Sent.{Heads, relayed-alike}
 use Rattle.mmtel_call_laws.proofs.Secret.Shown.{shown-foreign, shown-number, shown-same}
 
--- ---- what is asked of each
+-- ---- the premises on each
 
 module _ (t : Trust) where
   pub asked_at : (fs : List Flight) (place : ℕ) (flight : Flight) → flights_are_asked t fs → slice_get fs place ≡ Some flight → IsAsked t flight.asked.key flight.asked.request
@@ -58,7 +58,7 @@ module _ (heads : Heads) (site : Site) (keys : TKey → Bool) where
   abbrev known : Peer → Bool
   known = λ peer. trusts site peer
 
-  -- ---- it has its final
+  -- ---- it has its final response
 
   service_same : (p : Phase) → service_in (public_phase known p) ≡ service_in p
   service_same (Offered x) = refl
@@ -146,7 +146,7 @@ module _ (heads : Heads) (site : Site) (keys : TKey → Bool) where
       subst (λ (o : Option Flight). AlikeSteps T (silent_flight site place o (public_call known who c) one) (silent_flight site place (slice_get c.flights place) c other)) (sym (got (public_flight known) c.flights place))
       (quiet-alike (slice_get c.flights place) who place c one other (λ flight e. asked_at T c.flights place flight asked e) a)
 
-  -- ---- its attempt is left, or the call ends
+  -- ---- its attempt ends without a 2xx, or the call ends
 
   each-alike : (fs : List Flight) (who : Identities2) (c : Call) (one other : Desk) → flights_are_asked T fs → AlikeDesks T one other →
       AlikeDesks T (dismissed_each site (public_call known who c) (map (public_flight known) fs) one) (dismissed_each site c fs other)

@@ -1,4 +1,4 @@
--- To where a decision diverts a call: a rule of the record says so, or the response that redirects.
+-- The target to which a decision diverts a call is that of a rule of the record, or of the response that redirects.
 use Rattle.std.proofs.Common.{◌≡◌, ℕ, Bool, true, false, not, List, [], ◌∷◌, refl, ap, cond, Option, Some, None}
 use Rattle.std.specs.Prelude.{slice_get, option_and_then}
 use Rattle.std.specs.Option.{option_map}
@@ -26,7 +26,7 @@ use Rattle.mmtel_waiting.specs.Waiting.{is_busy}
 use Rattle.mmtel_call_laws.specs.Secret.Directories.{Forwards}
 
 module _ (sheet : Sheet) where
-  -- ---- what the record's rules divert to
+  -- ---- the targets of the record's rules
 
   -- a diversion, if one is due, is one of the record
   abbrev pub DueLeads : Option DueDiversion → Type 0
@@ -98,7 +98,7 @@ module _ (sheet : Sheet) where
   decision-leads (Refuses cause) live a = tt
   decision-leads (Diverts due) live a = a
 
-  -- a turn that diverts leads to where a rule of the record does
+  -- where the decision is to divert, the target is that of a rule of the record
   abbrev pub TurnLeads : Turn → Type 0
   TurnLeads (TurnOffer peer waiting) = Unit {0}
   TurnLeads (TurnDivert due) = Forwards sheet due.forward

@@ -1,4 +1,4 @@
--- Rows of requests that the call does not wait on see public parts alone.
+-- Transitions on requests for which the call does not wait use public parts alone.
 use Rattle.std.proofs.Common.{◌≡◌, ℕ, ◌==◌, ◌||◌, Bool, true, false, not, List, [], ◌∷◌, ◌++◌, refl, ap, sym, ◌∙◌, map, cond, codes, length, subst, Option, Some, None}
 use Rattle.std.proofs.lemmas.List.{map-append}
 use Rattle.std.specs.Option.{option_map}
@@ -50,7 +50,7 @@ use Rattle.mmtel_call_laws.proofs.Secret.Rows.{on-alike, on-alike-by, step-if}
 use Rattle.mmtel_call_laws.proofs.Secret.Sent.{Heads, acked-alike, asked-alike, cancel-alike, emitted-alike, same_desk}
 use Rattle.mmtel_call_laws.proofs.Secret.Shown.{met_public, tag_by}
 
--- ---- a list of which one item is taken out
+-- ---- a list from which one item is removed
 
 without_map : {A : Type 0} (f : A → A) (o : Option ℕ) (xs : List A) → without o (map f xs) ≡ map f (without o xs)
 without_map f None xs = refl
@@ -59,7 +59,7 @@ without_map f (Some at) xs = rest_of f at xs
 pub without_found : {A : Type 0} (f : A → A) (p : A → Bool) → ((x : A) → p (f x) ≡ p x) → (xs : List A) → without (position p (map f xs)) (map f xs) ≡ map f (without (position p xs) xs)
 without_found f p same xs = ap (λ o. without o (map f xs)) (found f p same xs) ∙ without_map f (position p xs) xs
 
--- and perhaps another one stands last
+-- and perhaps another one is placed last
 pub left_over : {A : Type 0} (f : A → A) → ((x : A) → f (f x) ≡ f x) → (at : ℕ) (xs : List A) (o p : Option A) → option_map f o ≡ option_map f p →
     map f (without_at at (map f xs) ++ option_to_list o) ≡ map f (without_at at xs ++ option_to_list p)
 left_over f again at xs o p e =
@@ -69,7 +69,7 @@ left_over f again at xs o p e =
     ∙ (ap (λ l. map f (without_at at xs) ++ l) (listed f o ∙ (ap (λ q. option_to_list q) e ∙ sym (listed f p)))
     ∙ sym (map-append f (without_at at xs) (option_to_list p)))))
 
--- ---- desks in turn
+-- ---- outputs one after another
 
 pub desks-back : (t : Trust) (x y : Desk) → AlikeDesks t x y → AlikeDesks t y x
 desks-back t x y a = record { tokens = sym a.tokens; rows = sym a.rows; out = sym a.out }
@@ -77,7 +77,7 @@ desks-back t x y a = record { tokens = sym a.tokens; rows = sym a.rows; out = sy
 pub desks-then : (t : Trust) (x y z : Desk) → AlikeDesks t x y → AlikeDesks t y z → AlikeDesks t x z
 desks-then t x y z a b = record { tokens = a.tokens ∙ b.tokens; rows = a.rows ∙ b.rows; out = a.out ∙ b.out }
 
--- what is left of an INVITE, and the desk
+-- what remains of an INVITE, and the output
 pub record RestsAlike (t : Trust) (one other : Rest) : Type 0 where
   pub left : option_map (public_loose t.peer) one.left ≡ option_map (public_loose t.peer) other.left
   pub desk : AlikeDesks t one.desk other.desk
@@ -112,7 +112,7 @@ module _ (heads : Heads) (site : Site) (keys : TKey → Bool) where
   tag_same : (role : Role) (m : Said) → (remote_of Callee (without_private role m).heard.lines).tag ≡ (remote_of Callee m.heard.lines).tag
   tag_same role m = tag_by m.heard.trusted (places_in m.heard.start (private_places role m.heard)) m.heard.lines
 
-  -- the early dialog, or what the INVITE began
+  -- the early dialog, or the one that the INVITE began
   begun_if : (b : Bool) (asked : ℕ) (said : Remote) (d : Dialogue) (role : Role) (m : Said) → (known d.peer ≡ false → IsWhole role m) →
       public_dialog known (met (cond b (met (record (called (public_dialog known d)) { own = asked }) (public_said (known d.peer) said)) (called (public_dialog known d))) (remote_of Callee (without_private role m).heard.lines))
       ≡ public_dialog known (met (cond b (met (record (called d) { own = asked }) said) (called d)) (remote_of Callee m.heard.lines))
@@ -175,7 +175,7 @@ module _ (heads : Heads) (site : Site) (keys : TKey → Bool) where
       (sym (ap (λ (tag : List ℕ). ended_before (public_loose known l) tag) (tag_same role m) ∙ ended_same l s.tag))
       (success-by (ended_before l s.tag) l role m one other told a)
 
-  -- ---- any response to one that was left
+  -- ---- any response to an abandoned INVITE
 
   late-alike : (l : Loose) (one other : Desk) → AlikeDesks T one other → RestsAlike T (late_cancelled site.sip (public_loose known l) one) (late_cancelled site.sip l other)
   late-alike l one other a =
@@ -198,7 +198,7 @@ module _ (heads : Heads) (site : Site) (keys : TKey → Bool) where
       (rests-back (late_cancelled site.sip (public_loose known l) one) (late_cancelled site.sip l one) (late-alike l one one (same_desk T one)))
       (subst (λ (z : Loose). RestsAlike T (late_cancelled site.sip z one) (late_cancelled site.sip m other)) (sym same) (late-alike m one other a))
 
-  -- what a late provisional response says
+  -- the remote side in a late provisional response
   early_same : (code : ℕ) (trusted : Bool) (role : Role) (m : Said) → (trusted ≡ false → IsWhole role m) →
       option_map (public_said trusted) (early_said code (remote_of Callee (without_private role m).heard.lines)) ≡ option_map (public_said trusted) (early_said code (remote_of Callee m.heard.lines))
   early_same code trusted role m told =
@@ -242,7 +242,7 @@ module _ (heads : Heads) (site : Site) (keys : TKey → Bool) where
         desk = rests.desk;
       }
 
-  -- ---- one that had a 2xx
+  -- ---- an INVITE that had a 2xx
 
   taken_left : (t : Taken) (o p : Option Loose) → option_map (public_loose known) o ≡ option_map (public_loose known) p →
       option_map (public_taken known) (taken_again (public_taken known t) o) ≡ option_map (public_taken known) (taken_again t p)
@@ -306,7 +306,7 @@ module _ (heads : Heads) (site : Site) (keys : TKey → Bool) where
 
   -- ---- by the branch
 
-  -- what is in flight with this branch is answered by the other side of the one that asked
+  -- the request in flight with this branch gets its response from the side other than the one that sent it
   abbrev FitsInFlight : (branch : List ℕ) → Role → Said → Call → Type 0
   FitsInFlight branch role m c =
       (place : ℕ) (flight : Flight) → position (is_in_flight branch) c.flights ≡ Some place → slice_get c.flights place ≡ Some flight → Fits c.opening (service_in c.phase) (other_of flight.side) m role
@@ -344,7 +344,7 @@ module _ (heads : Heads) (site : Site) (keys : TKey → Bool) where
       (sym (found (public_loose known) (is_of branch) (λ l. refl) c.loose))
       (at-alike (position (is_of branch) c.loose) who at key role m branch c one other asked hears.loose hears.taken hears.flights a)
 
-  -- ---- silence
+  -- ---- timeouts
 
   silent_public : (branch : List ℕ) (who : Identities2) (c : Call) → without_silent branch (public_call known who c) ≡ public_call known who (without_silent branch c)
   silent_public branch who c = ap (λ (ls : List Loose). record (public_call known who c) { loose = ls }) (without_found (public_loose known) (is_of branch) (λ l. refl) c.loose)

@@ -1,4 +1,4 @@
--- Alike calls stay alike when a leg is taken out of them, put back, or when they end without it.
+-- Indistinguishable calls remain so when a leg is detached from them, put back, or when they end without it.
 use Rattle.std.proofs.Common.{◌≡◌, ℕ, Bool, List, [], refl, ap, sym, ◌∙◌, subst, codes, Option}
 use Rattle.std.specs.Option.{option_map}
 use Rattle.mmtel_charging.specs.Meters.{Noted}
@@ -37,7 +37,7 @@ use Rattle.mmtel_call_laws.proofs.Secret.Once.{call_once}
 use Rattle.mmtel_call_laws.proofs.Secret.Rows.{on-alike, over-alike}
 use Rattle.mmtel_call_laws.proofs.Secret.Sent.{Heads, asked-alike, same_desk}
 
--- ---- what is known of calls as they opened stays
+-- ---- what is known of calls as they opened does not change
 
 pub lent_stays : (p : Phase) (side : Side) (c : Call) → (lent_in p side c).opening ≡ c.opening
 lent_stays (Offered x) side c = refl
@@ -91,7 +91,7 @@ module _ (known : Peer → Bool) where
   left_leg (released.Caller leg) = refl
   left_leg (released.Callee leg) = refl
 
-  -- a pair of which the leg that was left is this one
+  -- the two legs of a call of which the remaining one is this
   abbrev with_left : Released → Leg → Loan → Call → Call
   with_left (released.Caller leg) left loan c = at_stage (record { caller = with_meter loan.meter leg; callee = left; service = loan.service }) Talking c
   with_left (released.Callee leg) left loan c = at_stage (record { caller = left; callee = with_meter loan.meter leg; service = loan.service }) Talking c
@@ -161,7 +161,7 @@ module _ (heads : Heads) (site : Site) (keys : TKey → Bool) where
   unfolding finished
   finishes-alike who at c one other asked a = ends-alike c.phase who at c one other asked a
 
-  -- the call that is left does not rest on what went out
+  -- the remaining call does not depend on what was sent
   end_same : (p : Phase) (who : Identities2) (at : ℕ) (c : Call) (one other : Desk) →
       public_part known2 (finished_in (public_phase known2 p) site at (public_call known2 who c) one).call ≡ public_part known2 (finished_in p site at c other).call
   end_same (Offered x) who at c one other = call_once known2 nobody who c

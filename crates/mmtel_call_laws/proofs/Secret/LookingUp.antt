@@ -1,4 +1,4 @@
--- Of the URIs of accounts a step of a call sees the answers to its look-ups alone: under two configurations that are equal but for these it comes to the same, where the answers are the same.
+-- Of the URIs of accounts a step of a call uses the results of its look-ups alone: under two configurations that are equal but for these it has the same result, if the results of the look-ups are the same.
 use Rattle.std.proofs.Common.{◌≡◌, ℕ, zero, suc, ◌==◌, Bool, true, false, not, List, [], ◌∷◌, refl, ap, ◌∙◌, cond, subst, Option, Some, None}
 use Rattle.std.specs.Prelude.{◌&&◌, Result, Ok, Err, nat_lt, position, slice_get}
 use Rattle.std.specs.List.{filter}
@@ -86,12 +86,12 @@ if-same : (b : Bool) (p q v w : Step) → p ≡ v → q ≡ w → cond b p q ≡
 if-same true p q v w e f = e
 if-same false p q v w e f = f
 
--- the first is asked where it counts
+-- the equality of the first is only required where it is chosen
 if-where : (b : Bool) (p q v w : Step) → (b ≡ true → p ≡ v) → q ≡ w → cond b p q ≡ cond b v w
 if-where true p q v w e f = e refl
 if-where false p q v w e f = f
 
--- ---- what is in flight is dismissed
+-- ---- requests in flight are dismissed
 
 module _ (site : Site) (accounts : List AccountIdentity) where
   abbrev far1 : Site
@@ -115,7 +115,7 @@ module _ (site : Site) (accounts : List AccountIdentity) where
   pub dismissing-same : (c : Call) (desk : Desk) → dismissing site c desk ≡ dismissing far1 c desk
   dismissing-same c desk = settled-same c.phase c (dismissed_all site c desk) ∙ ap (λ (d : Desk). settled_in c.phase far1 c d) (all-same c desk)
 
--- ---- rows that look no account up
+-- ---- transitions that look no account up
 
 module _ (site : Site) (accounts : List AccountIdentity) (now : Standing) where
   -- the same configuration with these accounts
@@ -276,7 +276,7 @@ module _ (site : Site) (accounts : List AccountIdentity) (now : Standing) where
   rung-same Talking x c desk = refl
   rung-same (Asking asking q) x c desk = refl
 
-  -- INVITEs that it does not wait on
+  -- INVITEs for which it does not wait
   loose-same : (at : ℕ) (o : Option Loose) (key : TKey) (m : Said) (c : Call) (desk : Desk) → answered_loose site key m at o c desk ≡ answered_loose far key m at o c desk
   loose-same at None key m c desk = refl
   loose-same at (Some l) key m c desk = refl
@@ -354,7 +354,7 @@ module _ (site : Site) (accounts : List AccountIdentity) (now : Standing) where
   in-cancel (Lent loan) key m invite c desk = refl
   in-cancel (Over cause) key m invite c desk = refl
 
--- ---- how a call goes on
+-- ---- how a call continues
 
 module _ (records : List Sheet) (site : Site) (accounts : List AccountIdentity) (now : Standing) (stand : AreAsked records now) (lead : RecordsLeadAlike records site (record site { accounts = accounts })) where
   abbrev far2 : Site
@@ -374,7 +374,7 @@ module _ (records : List Sheet) (site : Site) (accounts : List AccountIdentity) 
   turn-looks sheet is (TurnDivert due) a = lead sheet is due.forward a
   turn-looks sheet is (TurnRefuse cause) a = tt
 
-  -- what a diversion comes to
+  -- the result of a diversion
   abbrev DivertsSame : (f g : Option Service → DueDiversion → Call → Desk → Step) → Type 0
   DivertsSame f g = (service : Option Service) (due : DueDiversion) (c : Call) (desk : Desk) → Same (target_of site due) → f service due c desk ≡ g service due c desk
 
@@ -385,7 +385,7 @@ module _ (records : List Sheet) (site : Site) (accounts : List AccountIdentity) 
   turn-same f g same (TurnDivert due) e caller service cause target c desk = same service due (passed_by now.at service c) desk e
   turn-same f g same (TurnRefuse why) e caller service cause target c desk = refl
 
-  -- how the target stands, where this account is served there, and this one has its URI
+  -- the state of the target, where this account is served there, and this one has its URI
   abbrev reach_by : (served found : Option Account) → Option Peer → (cause : Option ℕ) → Target → Opening → Reach
   reach_by served found peer cause target o = record {
     at = now.at;
@@ -421,7 +421,7 @@ module _ (records : List Sheet) (site : Site) (accounts : List AccountIdentity) 
       by-same f g same (diverted_served c.opening.served (account_of site.accounts target.uri)) (account_of site.accounts target.uri) caller (Some cause) target c desk
       ∙ ap (λ (found : Option Account). step_by g far2 (diverted_served c.opening.served found) found caller (Some cause) target c desk) e
 
-  -- what stands before a diversion refuses it in both, or in neither
+  -- what is checked before a diversion refuses it in both, or in neither
   unless-same : (refusal : Option Cause) (f g : Call → Desk → Step) (caller : Leg) (c : Call) (desk : Desk) → f c desk ≡ g c desk →
       made_unless refusal f site now.at caller c desk ≡ made_unless refusal g far2 now.at caller c desk
   unless-same None f g caller c desk e = e
@@ -444,7 +444,7 @@ module _ (records : List Sheet) (site : Site) (accounts : List AccountIdentity) 
   AfterSame (EndDivert due) = Same (target_of site due)
   AfterSame (EndRefuse cause) = Unit {0}
 
-  -- where it was redirected to is looked up alike
+  -- the target to which it was redirected has the same look-up result
   abbrev HowSame : End → Type 0
   HowSame Answer = Unit {0}
   HowSame Cancel = Unit {0}
@@ -654,7 +654,7 @@ pub openings_see_look_ups_alone : OpeningsSeeLookUpsAlone
 openings_see_look_ups_alone records one other now a desk equal lead stand e =
     subst (λ (s : Site). opened one now a desk ≡ opened s now a desk) (whole one other equal) (opened-same records one other.accounts now stand lead a desk e)
 
--- ---- the end of a call of which a leg is away
+-- ---- the end of a call of which a leg is detached
 
 finish_in : (site : Site) (accounts : List AccountIdentity) (at : ℕ) (p : Phase) (c : Call) (desk : Desk) → finished_in p site at c desk ≡ finished_in p (record site { accounts = accounts }) at c desk
 finish_in site accounts at (Offered x) c desk = refl

@@ -1,4 +1,4 @@
--- The number of a reliable answer is that of a line which is passed on or named: what a response has of its request is no such line, nor is what the header table passes.
+-- The number of a reliable response is that of a header field which is copied or added: what a response copies of its request is no such header field, nor is what the header table copies.
 use Rattle.std.proofs.Common.{◌≡◌, ℕ, Bool, true, false, List, [], ◌∷◌, ◌++◌, refl, ap, sym, ◌∙◌, cond, codes, decimal, length, map, inl, inr, Option, Some, None}
 use Rattle.std.specs.Str.{str_eq_ignore_ascii_case, str_to_ascii_lowercase}
 use Rattle.std.proofs.lemmas.Bool.{cases_Bool}
@@ -23,7 +23,7 @@ numbers_in ls = named (codes "RSeq") ls
 
 -- ---- of a request
 
--- lines of another name
+-- header fields of another name
 apart : (name : List ℕ) (ls : List Line) → str_eq_ignore_ascii_case name (codes "RSeq") ≡ false → numbers_in (named name ls) ≡ []
 apart name [] other = refl
 apart name (l ∷ ls) other =
@@ -52,7 +52,7 @@ tagged_none tag (l ∷ ls) e =
       | inr n ↦ rw n (tagged_none tag ls (rw n at e))
     ]
 
--- what is as received
+-- header fields that are copied as received
 heard_none : (source : Option Addr) (tag : List ℕ) (ls : List Line) → numbers_in (heard_lines source tag ls) ≡ []
 unfolding heard_lines via_lines party_lines call_lines
 heard_none source tag ls =
@@ -91,7 +91,7 @@ own_same xs ys named body e = cut (codes "RSeq") xs (named ++ body) ∙ (ap (λ 
 behind : (front back rest tail : List Line) → numbers_in front ≡ [] → numbers_in back ≡ [] → numbers_in rest ≡ numbers_in tail → numbers_in (front ++ rest) ≡ numbers_in (back ++ tail)
 behind front back rest tail e f g = cut (codes "RSeq") front rest ∙ (ap (λ (l : List Line). l ++ numbers_in rest) e ∙ (g ∙ (ap (λ (l : List Line). l ++ numbers_in tail) (sym f) ∙ sym (cut (codes "RSeq") back tail))))
 
--- in front of which the same lines stand
+-- after the same header fields
 after : (front rest tail : List Line) → numbers_in rest ≡ numbers_in tail → numbers_in (front ++ rest) ≡ numbers_in (front ++ tail)
 after front rest tail e = cut (codes "RSeq") front rest ∙ (ap (λ (l : List Line). numbers_in front ++ l) e ∙ sym (cut (codes "RSeq") front tail))
 
@@ -113,13 +113,13 @@ start_same : (start : Start) (ls ms : List Line) (r : Reply) (xs ys : List Line)
 unfolding response
 start_same start ls ms r xs ys = refl
 
--- responses that pass on the same of it
+-- responses that copy the same of it
 pub number_same : (start : Start) (ls ms : List Line) (r : Reply) (xs ys : List Line) → numbers_in xs ≡ numbers_in ys →
     reliable_number (response start ls (passing xs r)) ≡ reliable_number (response start ms (passing ys r))
 number_same start ls ms r xs ys e =
     number_by (response start ls (passing xs r)) (response start ms (passing ys r)) (start_same start ls ms r xs ys) (lines_same start ls ms r xs ys e)
 
--- ---- of what is passed on
+-- ---- of what is copied
 
 entries_none : (h : List Entry) → numbers_in (map history_line h) ≡ []
 entries_none [] = refl
@@ -133,12 +133,12 @@ row_if : (c all b : Bool) (h : List Entry) → numbers_in (cond c (history_lines
 row_if true all b h = history_none all b h
 row_if false all b h = refl
 
--- the header table passes none
+-- the header table copies none
 pub shown_none : (f : Facing) (b : Bool) (h : List Entry) (start : Start) (ls : List Line) → numbers_in (shown_lines f b h start ls) ≡ []
 unfolding kind_of
 shown_none f b h start ls = passed_named (codes "RSeq") refl f b (history_row f b h start) ls ∙ row_if (has_history_row start) f.mask_all b h
 
--- ---- lines of the server's own, which are none of those that it writes in each message
+-- ---- header fields of the server's own, which are none of those that it writes in each message
 
 among_like : (names : List (List ℕ)) (a b : List ℕ) → str_to_ascii_lowercase a ≡ str_to_ascii_lowercase b → is_among names a ≡ is_among names b
 among_like [] a b e = refl
@@ -154,7 +154,7 @@ line_foreign n v none name own =
       | inr m ↦ rw m refl
     ]
 
--- in front of the same lines two that have none have one number
+-- after the same header fields two responses without a number of their own have the same number
 pub behind_none : (xs ys ls : List Line) → numbers_in xs ≡ [] → numbers_in ys ≡ [] → numbers_in (xs ++ ls) ≡ numbers_in (ys ++ ls)
 behind_none xs ys ls e f = behind xs ys ls ls e f refl
 

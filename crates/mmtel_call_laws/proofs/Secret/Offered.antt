@@ -1,4 +1,4 @@
--- Rows of an offered call see public parts alone: what a side asks, CANCEL, and how its caller gives up.
+-- Transitions of an offered call use public parts alone: on requests of a side, on CANCEL, and where its caller abandons it.
 use Rattle.std.proofs.Common.{◌≡◌, ℕ, Bool, true, false, ◌==◌, ◌||◌, refl, cond}
 use Rattle.std.specs.Prelude.{Result, Ok, Err}
 use Rattle.mmtel_answers.specs.Said.{Said}
@@ -46,7 +46,7 @@ module _ (heads : Heads) (site : Site) (keys : TKey → Bool) where
   abbrev known : Peer → Bool
   known = λ peer. trusts site peer
 
-  -- ---- its caller gives up, or acknowledges no reliable answer
+  -- ---- its caller abandons it, or does not acknowledge a reliable response
 
   pub gives-up : (cause : Cause) (who : Identities2) (at : ℕ) (x : Trial) (c : Call) (one other : Desk) → IsAsked T c.opening.key c.opening.invite → AlikeDesks T one other →
       AlikeSteps T (given_up_by cause site at (public_trial known x) (public_call known who c) one) (given_up_by cause site at x c other)

@@ -1,4 +1,4 @@
--- How a call is offered to a target sees public parts alone.
+-- How a call is offered to a target uses public parts alone.
 use Rattle.std.proofs.Common.{◌≡◌, ℕ, Bool, true, false, List, [], ◌∷◌, ◌++◌, refl, ap, sym, ◌∙◌, codes, subst}
 use Rattle.std.specs.Prelude.{◌+◌, Option}
 use Rattle.mmtel_answers.specs.Attempts.{alert_lines, called, calling, invite_of}
@@ -46,7 +46,7 @@ use Rattle.mmtel_call_laws.proofs.Secret.Once.{call_once, leg_again}
 use Rattle.mmtel_call_laws.proofs.Secret.Sent.{Heads, as_with, one_more, text_if}
 use Rattle.mmtel_call_laws.proofs.Secret.Shown.{entries_placed, offered-foreign, offered-same}
 
--- ---- the line of a call that waits is none of the server's own
+-- ---- the header field of a waiting call is none of the server's own
 
 alert_foreign : (waiting : Bool) → AreForeign (alert_lines waiting)
 alert_foreign true name own = line_foreign (codes "Alert-Info") (codes "<urn:alert:service:call-waiting>") refl name own
@@ -80,7 +80,7 @@ module _ (heads : Heads) (site : Site) (keys : TKey → Bool) where
   pub step-brings : (F G : Desk → Step) → ((out : List Emit) (y : Desk) → seen_all T out ≡ seen_all T y.out → AlikeSteps T (F (with_out out y)) (G y)) → (x y : Desk) → AlikeDesks T x y → AlikeSteps T (F x) (G y)
   step-brings F G alike x y a = subst (λ (d : Desk). AlikeSteps T (F d) (G y)) (sym (as_with T x y a)) (alike x.out y a.out)
 
-  -- a request that relays other lines
+  -- a request with other header fields that are copied
   tell-seen : (d : Dialogue) (n : ℕ) (method : List ℕ) (g : Given) (ls ks : List Line) → AreForeign ls → AreForeign ks → (known d.peer ≡ false → ls ≡ ks) →
       seen T (emit.Ask d.peer (numbered d n method (bringing ls g))) ≡ seen T (emit.Ask d.peer (numbered d n method (bringing ks g)))
   tell-seen d n method g ls ks f h same =

@@ -61,7 +61,7 @@ places_again true p ls = lines_again p ls
 with_places : HeardMessage → List Entry → Option (List ℕ) → List Line → HeardMessage
 with_places m h u ls = record m { history = h; redirect = u; lines = ls }
 
--- whatever the places are, where they are the same the second time
+-- whatever the places are, if they are the same the second time
 pub hidden_again : (b : Bool) (p : Places) (m : HeardMessage) → hidden_by b p (hidden_by b p m) ≡ hidden_by b p m
 unfolding with_places
 hidden_again b p m =
@@ -94,13 +94,13 @@ maybe_again : (b : Bool) (o : Option (List ℕ)) → blank_maybe b (blank_maybe 
 maybe_again b None = refl
 maybe_again b (Some v) = ap (λ (x : List ℕ). Some x) (text_again b v)
 
--- ---- what is said in an early dialog
+-- ---- the remote side of an early dialog
 
 pub early_again : (b : Bool) (o : Option Remote) → option_map (public_said b) (option_map (public_said b) o) ≡ option_map (public_said b) o
 early_again b None = refl
 early_again b (Some r) = ap (λ (v : List ℕ). Some (record r { target = v })) (text_again b r.target)
 
--- of two the first one stays
+-- of two the first one is kept
 early_first : (b : Bool) (o p q : Option Remote) → option_map (public_said b) p ≡ option_map (public_said b) q →
     option_map (public_said b) (option_or (option_map (public_said b) o) p) ≡ option_map (public_said b) (option_or o q)
 early_first b None p q e = e
@@ -133,7 +133,7 @@ module _ (t : Peer → Bool) where
       ∙ (ap (λ (ds : List Dialogue). record (public_invitation t i) { forks = ds; early = twice }) (map_again (public_dialog t) dialog_again i.forks)
       ∙ ap (λ (o : Option Remote). record (public_invitation t i) { early = o }) (early_again b i.early)))
 
-  -- once it said something by this client transaction, and this of itself
+  -- an INVITE after a response in this client transaction, with this early dialog
   pub invitation_told : (key : TKey) (i : Invitation) (p q : Option Remote) → option_map (public_said (t i.dialogue.peer)) p ≡ option_map (public_said (t i.dialogue.peer)) q →
       public_invitation t (with_early p (has_said key (public_invitation t i))) ≡ public_invitation t (with_early q (has_said key i))
   invitation_told key i p q e =

@@ -1,4 +1,4 @@
--- Places in a list whose items are made public each.
+-- Positions in a list each of whose items is replaced by its public part.
 use Rattle.std.proofs.Common.{◌≡◌, ℕ, zero, suc, ◌+◌, Bool, not, List, [], ◌∷◌, ◌++◌, refl, ap, sym, ◌∙◌, map, cond, length, take, drop, inl, inr, Option, Some, None}
 use Rattle.std.proofs.lemmas.Bool.{cases_Bool}
 use Rattle.std.proofs.lemmas.List.{drop-map, map-append, take-map}
@@ -15,7 +15,7 @@ pub long : {A : Type 0} (f : A → A) (xs : List A) → length (map f xs) ≡ le
 long f [] = refl
 long f (x ∷ xs) = ap suc (long f xs)
 
--- where one is found, if so many are tried of so many
+-- where one is found, after this many of this many were examined
 abbrev found_at : (tried long : ℕ) → Option ℕ
 found_at tried long = cond (nat_lt tried long) (Some tried) None
 

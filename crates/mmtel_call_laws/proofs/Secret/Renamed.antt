@@ -1,4 +1,4 @@
--- Look-ups pass over accounts that a URI does not name.
+-- Look-ups ignore accounts that a URI does not name.
 use Rattle.std.proofs.Common.{◌≡◌, Bool, true, false, ◌&&◌, not, List, [], ◌∷◌, refl, sym, ap, ◌∙◌, Some, cond}
 use Rattle.std.specs.Prelude.{◌||◌, find}
 use Rattle.std.specs.List.{list_any}
@@ -10,7 +10,7 @@ use Rattle.mmtel_types.specs.declared.numbers.Account.{Account}
 use Rattle.mmtel_call_laws.specs.Secret.Renamed.{LookUpsAgree, LookUpsPassOver, NoneAreNamed, but, is_theirs, names_none}
 
 module _ (renamed : List Account) (u : Uri) where
-  -- an identity that is one of theirs is not of the URI, so it may be left out
+  -- an identity of one of these accounts does not have the URI, so it may be omitted
   passed : (theirs same : Bool) (e : AccountIdentity) (es rest : List AccountIdentity) (more : Bool) → is_of u e ≡ same → not ((theirs && same) || more) ≡ true →
       (not more ≡ true → find (is_of u) es ≡ find (is_of u) rest) → cond same (Some e) (find (is_of u) es) ≡ find (is_of u) (cond (not theirs) (e ∷ rest) rest)
   passed true true e es rest more is none others = absurd (let o : false ≡ true = none in cc)

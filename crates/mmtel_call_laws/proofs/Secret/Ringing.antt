@@ -1,4 +1,4 @@
--- Rows of an offered call see public parts alone: what the target says before it refuses.
+-- Transitions of an offered call use public parts alone: on what the target sends before it refuses.
 use Rattle.std.proofs.Common.{◌≡◌, ℕ, Bool, true, false, ◌==◌, ◌&&◌, ◌||◌, not, List, [], ◌∷◌, ◌++◌, refl, ap, sym, ◌∙◌, codes, cond, decimal, length, Option, Some, None}
 use Rattle.std.specs.Option.{option_map}
 use Rattle.std.specs.Prelude.{◌+◌, nat_lt}
@@ -49,7 +49,7 @@ use Rattle.mmtel_call_laws.proofs.Secret.Rows.{on-alike, step-if}
 use Rattle.mmtel_call_laws.proofs.Secret.Sent.{Heads, emitted-alike, relayed-alike}
 use Rattle.mmtel_call_laws.proofs.Secret.Shown.{met-same, said-same, shown-foreign, shown-none, shown-number, shown-same}
 
--- the lines of a reliable answer are none that the server writes in each message
+-- the header fields of a reliable response are none that the server writes in each message
 own_foreign : (own : ℕ) → AreForeign (reliable_lines own)
 own_foreign own = both_foreign ((codes "Require", codes "100rel") ∷ []) ((codes "RSeq", decimal own) ∷ []) (line_foreign (codes "Require") _ refl) (line_foreign (codes "RSeq") _ refl)
 
@@ -60,7 +60,7 @@ module _ (heads : Heads) (site : Site) (keys : TKey → Bool) where
   abbrev known : Peer → Bool
   known = λ peer. trusts site peer
 
-  -- ---- a response of the target goes to the caller
+  -- ---- a response of the target is relayed to the caller
 
   pub to_caller-alike : (who : Identities2) (service : Option Service) (role : Role) (m : Said) (c : Call) (one other : Desk) → IsAsked T c.opening.key c.opening.invite → Fits c.opening service Callee m role → AlikeDesks T one other →
       AlikeDesks T (relayed_to_caller site (public_call known who c) service (without_private role m) one) (relayed_to_caller site c service m other)
@@ -125,7 +125,7 @@ module _ (heads : Heads) (site : Site) (keys : TKey → Bool) where
       ∙ (ap (λ (v : TriedView). record (public_part known c) { phase = Offered (record { caller = public_leg known caller; callee = v; attempt = public_attempt known rung }) }) e
       ∙ ap (λ (y : Attempt). record (public_part known c) { phase = Offered (record { caller = public_leg known caller; callee = public_tried known tried; attempt = y }) }) f))
 
-  -- the attempt, with what it says of the target
+  -- the attempt, with the remote side in that response
   pub said_if : (b trusted : Bool) (role : Role) (m : Said) → (trusted ≡ false → IsWhole role m) →
       option_map (public_said trusted) (cond b None (Some (remote_of Callee (without_private role m).heard.lines))) ≡ option_map (public_said trusted) (cond b None (Some (remote_of Callee m.heard.lines)))
   said_if true trusted role m told = refl
@@ -151,7 +151,7 @@ module _ (heads : Heads) (site : Site) (keys : TKey → Bool) where
         (to_caller-alike who x.attempt.service role m c one other asked fits a);
   }
 
-  -- a reliable answer, if it gets this number
+  -- a reliable response, if it gets this number
   numbered-alike : (number : Option ℕ) (rseq : ℕ) (who : Identities2) (at : ℕ) (x : Trial) (key : TKey) (role : Role) (m : Said) (code : ℕ) (c : Call) (one other : Desk) → IsAsked T c.opening.key c.opening.invite →
       Fits c.opening x.attempt.service Callee m role → (known x.callee.leg.dialogue.peer ≡ false → IsWhole role m) → (known x.attempt.invitation.dialogue.peer ≡ false → IsWhole role m) → AlikeDesks T one other →
       AlikeSteps T (relayed_if number rseq site at (public_trial known x) key (without_private role m) code (public_call known who c) one) (relayed_if number rseq site at x key m code c other)

@@ -1,4 +1,4 @@
--- What the rows of the step table have in common, and how a side of an answered call leaves, see public parts alone.
+-- What the transitions of the step table have in common, and how a side of an answered call leaves, use public parts alone.
 use Rattle.std.proofs.Common.{◌≡◌, ℕ, Bool, true, false, List, [], ◌∷◌, ◌++◌, refl, ap, sym, ◌∙◌, map, cond, codes, subst}
 use Rattle.std.proofs.lemmas.List.{map-append}
 use Rattle.std.specs.Prelude.{Option}
@@ -105,7 +105,7 @@ module _ (heads : Heads) (site : Site) (keys : TKey → Bool) where
   pub on-alike : (who : Identities2) (c : Call) (x y : Desk) → AlikeDesks T x y → AlikeSteps T (onward (public_call known who c) x) (onward c y)
   on-alike who c x y a = record { call = call_once known nobody who c; desk = a }
 
-  -- where the public part of the call is so
+  -- where this is the public part of the call
   pub on-alike-by : (who : Identities2) (d c : Call) (x y : Desk) → d ≡ public_call known who c → AlikeDesks T x y → AlikeSteps T (onward d x) (onward c y)
   on-alike-by who d c x y e a = record { call = ap (λ (z : Call). public_part known z) e ∙ call_once known nobody who c; desk = a }
 
@@ -118,7 +118,7 @@ module _ (heads : Heads) (site : Site) (keys : TKey → Bool) where
   pub over-alike-by : (who : Identities2) (at : ℕ) (cause : Cause) (first last : Option Noted) (d c : Call) (x y : Desk) → d ≡ public_call known who c → AlikeDesks T x y → AlikeSteps T (over at cause first last d x) (over at cause first last c y)
   over-alike-by who at cause first last d c x y e a = subst (λ (z : Call). AlikeSteps T (over at cause first last z x) (over at cause first last c y)) (sym e) (over-alike who at cause first last c x y a)
 
-  -- ---- INVITEs that are cancelled, or left
+  -- ---- INVITEs that are cancelled, or abandoned
 
   cancelled_if : (b : Bool) (i : Invitation) → cond b (record (public_invitation known i) { cancelled = true }) (public_invitation known i) ≡ public_invitation known (cond b (record i { cancelled = true }) i)
   cancelled_if true i = refl
@@ -149,7 +149,7 @@ module _ (heads : Heads) (site : Site) (keys : TKey → Bool) where
   pub both-alike : (x : Pair) (one other : Desk) → AlikeDesks T one other → AlikeDesks T (bye_to_both site (public_pair known x) one) (bye_to_both site x other)
   both-alike x one other a = bye-alike x Callee (bye_to site (public_pair known x) Caller one) (bye_to site x Caller other) (bye-alike x Caller one other a)
 
-  -- a request of a side goes across
+  -- a request of a side is relayed
   pub across-alike : (who : Identities2) (method : List ℕ) (c : Call) (x : Pair) (side : Side) (role : Role) (m : Said) (one other : Desk) → Fits c.opening x.service side m role → AlikeDesks T one other →
       AlikeDesks T (asked_for site.sip method (leg_of (other_of side) (public_pair known x)).dialogue (shown_across site (public_call known who c) (public_pair known x) side (without_private role m)) (without_private role m).heard one)
       (asked_for site.sip method (leg_of (other_of side) x).dialogue (shown_across site c x side m) m.heard other)

@@ -1,4 +1,4 @@
--- What goes out is seen alike, message by message: responses to a message without its private places, requests of a public dialog, and ACKs.
+-- What is sent has the same observable part, message by message: responses to a message without its private places, requests of a public dialog, and ACKs.
 use Rattle.std.proofs.Common.{◌≡◌, ℕ, Bool, true, false, List, [], ◌∷◌, ◌++◌, refl, ap, sym, ◌∙◌, cond, codes, subst}
 use Rattle.std.proofs.lemmas.Grind.{flat_map-append}
 use Rattle.std.proofs.lemmas.List.{map-append}
@@ -44,12 +44,12 @@ use Rattle.mmtel_call_laws.specs.Secret.Roles.{hidden_by}
 use Rattle.mmtel_call_laws.specs.Secret.Seen.{Acked, AlikeDesks, Seen, Sent, Trust, seen, seen_all, with_out}
 use Rattle.mmtel_call_laws.proofs.Secret.Numbers.{number_same, numbers_in}
 
--- on what heads rest
+-- what heads depend on
 pub record Heads : Type 0 where
   pub fields : HeadsRestOnFields
   pub five : HeadsRestOnFiveNames
 
--- ---- one desk and the other
+-- ---- one output and the other
 
 pub same_desk : (t : Trust) (x : Desk) → AlikeDesks t x x
 same_desk t x = record { tokens = refl; rows = refl; out = refl }
@@ -57,7 +57,7 @@ same_desk t x = record { tokens = refl; rows = refl; out = refl }
 pub as_with : (t : Trust) (x y : Desk) → AlikeDesks t x y → x ≡ with_out x.out y
 as_with t x y a = rw (sym a.tokens, sym a.rows) refl
 
--- a word that is seen alike on desks which differ in what went out is so on any alike desks
+-- an operation with the same observable output for outputs that differ in what was sent has it for any indistinguishable outputs
 pub brings : (t : Trust) (f g : Desk → Desk) → ((out : List Emit) (y : Desk) → seen_all t out ≡ seen_all t y.out → AlikeDesks t (f (with_out out y)) (g y)) → (x y : Desk) → AlikeDesks t x y → AlikeDesks t (f x) (g y)
 brings t f g alike x y a = subst (λ (d : Desk). AlikeDesks t (f d) (g y)) (sym (as_with t x y a)) (alike x.out y a.out)
 
@@ -106,7 +106,7 @@ module _ (heads : Heads) where
       head_of (response h.start (hidden_by b p h).lines (passing ls r)) ≡ head_of (response h.start h.lines (passing ks r))
   response_head b p h r ls ks asked f g = responses.relayed (lines_keep heads.fields) heads.five p p (message_of (hidden_by b p h)) (message_of h) r ls ks asked (masked_twice b p h) f g
 
-  -- a response to a request without its private places, with lines that are the same towards an untrusted peer
+  -- a response to a request without its private places, with header fields that are the same towards an untrusted peer
   pub reply-seen : (t : Trust) (key : TKey) (b : Bool) (p : Places) (h : HeardMessage) (r : Reply) (ls ks : List Line) → is_request h.start ≡ true → b ≡ t.key key → AreForeign ls → AreForeign ks →
       numbers_in ls ≡ numbers_in ks → (t.key key ≡ false → ls ≡ ks) →
       seen t (emit.Reply key (response h.start (hidden_by b p h).lines (passing ls r))) ≡ seen t (emit.Reply key (response h.start h.lines (passing ks r)))
@@ -164,7 +164,7 @@ module _ (heads : Heads) (t : Trust) where
       (among naming_to (routing_lines d.routes g.sip g.hops g.branch) (dialog_lines (public_dialog_by b d) n method) (dialog_lines d n method) (content_lines method g.sip g.shown g.body) (dialog_masked b d n method))
       ∙ lines_keep heads.fields naming_to (Request method d.target) ms g.body g.body))
 
-  -- with lines that are the same towards an untrusted peer
+  -- with header fields that are the same towards an untrusted peer
   pub ask-seen : (d : Dialogue) (n : ℕ) (method : List ℕ) (g : Given) (ls ks : List Line) → AreForeign ls → AreForeign ks → (t.peer d.peer ≡ false → ls ≡ ks) →
       seen t (emit.Ask d.peer (numbered (public_dialog_by (t.peer d.peer) d) n method (bringing ls g))) ≡ seen t (emit.Ask d.peer (numbered d n method (bringing ks g)))
   ask-seen d n method g ls ks f h same =
@@ -176,7 +176,7 @@ module _ (heads : Heads) (t : Trust) where
       )
       refl
 
-  -- one that shows no line of another message
+  -- one that copies no header field of another message
   pub ask-own-seen : (d : Dialogue) (n : ℕ) (method : List ℕ) (g : Given) →
       seen t (emit.Ask d.peer (numbered (public_dialog_by (t.peer d.peer) d) n method g)) ≡ seen t (emit.Ask d.peer (numbered d n method g))
   ask-own-seen d n method g =
@@ -186,14 +186,14 @@ module _ (heads : Heads) (t : Trust) where
       )
       refl
 
-  -- ---- what stands on a desk
+  -- ---- what is in an output
 
   pub asked-alike : (sip : Addr) (method : List ℕ) (d : Dialogue) (named : List Line) (body : List ℕ) (x y : Desk) → AlikeDesks t x y → AlikeDesks t (asked_with sip method (public_dialog_by (t.peer d.peer) d) named body x) (asked_with sip method d named body y)
   asked-alike sip method d named body x y a =
       brings t (λ (z : Desk). asked_with sip method (public_dialog_by (t.peer d.peer) d) named body z) (λ (z : Desk). asked_with sip method d named body z)
       (λ out z s. record { tokens = refl; rows = refl; out = one_more t (emit.Ask d.peer (request_of (public_dialog_by (t.peer d.peer) d) method (giving sip (token z) named body))) (emit.Ask d.peer (request_of d method (giving sip (token z) named body))) out z.out (ask-own-seen d (next_number d.own) method (giving sip (token z) named body)) s }) x y a
 
-  -- the message that is relayed is read alike, with other lines of it
+  -- the message that is relayed has the same observable part, with other header fields
   pub asked_for-alike : (sip : Addr) (method : List ℕ) (d : Dialogue) (ls ks : List Line) (h : HeardMessage) (x y : Desk) → AreForeign ls → AreForeign ks → (t.peer d.peer ≡ false → ls ≡ ks) → AlikeDesks t x y →
       AlikeDesks t (asked_for sip method (public_dialog_by (t.peer d.peer) d) ls h x) (asked_for sip method d ks h y)
   asked_for-alike sip method d ls ks h x y f g same a =
@@ -241,7 +241,7 @@ module _ (heads : Heads) (t : Trust) where
             (ap (λ (v : List ℕ). Sent d.peer v) (relayed_bytes sip d ls ks h (token z) same)) s;
       }) x y a
 
-  -- ---- responses on a desk: to a message of which this is hidden
+  -- ---- responses in an output: to a message of which this is hidden
 
   abbrev without : Bool → Places → Said → Said
   without b p m = record m { heard = hidden_by b p m.heard }
@@ -257,7 +257,7 @@ module _ (heads : Heads) (t : Trust) where
       AlikeDesks t (replied sip key (without b p m) tag code x) (replied sip key m tag code y)
   replied-alike sip key b p m tag code x y asked is a = answered-alike sip key b p m tag code [] [] [] [] x y asked is (λ name own. refl) (λ name own. refl) refl (λ e. refl) a
 
-  -- the response is read alike, with other lines of it
+  -- the response has the same observable part, with other header fields
   pub relayed-alike : (sip : Addr) (key : TKey) (b : Bool) (p : Places) (m : Said) (tag : List ℕ) (ls ks : List Line) (r : Said) (x y : Desk) → is_request m.heard.start ≡ true → b ≡ t.key key → AreForeign ls →
       AreForeign ks → numbers_in ls ≡ numbers_in ks → (t.key key ≡ false → ls ≡ ks) → AlikeDesks t x y →
       AlikeDesks t (relayed sip key (without b p m) tag ls r x) (relayed sip key m tag ks r y)
@@ -265,7 +265,7 @@ module _ (heads : Heads) (t : Trust) where
       emitted-alike t (emit.Reply key (relayed_answer (contact_text sip) (without b p m) tag ls r)) (emit.Reply key (relayed_answer (contact_text sip) m tag ks r)) x y
       (reply-seen heads t key b p m.heard (relayed_reply (contact_text sip) m.source tag ls r.heard) ls ks asked is f g number same) a
 
-  -- the ACK of a final from 300, by its client transaction
+  -- the ACK of a final response from 300, by its client transaction
   pub final_acked-alike : (sip : Addr) (key : TKey) (i : Invitation) (h k : HeardMessage) (d : Dialogue) (x y : Desk) → (t.key key ≡ false → (d ≡ i.dialogue) × (field (codes "To") h.lines ≡ field (codes "To") k.lines)) → AlikeDesks t x y →
       AlikeDesks t (emitted (emit.Ack key (final_ack_of d i.number sip i.branch (field (codes "To") h.lines))) x) (final_acked sip key i k y)
   final_acked-alike sip key i h k d x y same a =

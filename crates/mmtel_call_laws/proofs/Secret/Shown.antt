@@ -1,4 +1,4 @@
--- What the other side is shown of a message without its private places: the same, where its peer is not trusted; and what a dialog takes of it.
+-- What is copied to the other side from a message without its private places: the same, if its peer is not trusted; and what a dialog takes from it.
 use Rattle.std.proofs.Common.{◌≡◌, ℕ, Bool, true, false, ◌==◌, List, [], refl, ap, sym, ◌∙◌, cond, codes}
 use Rattle.mmtel_answers.specs.Said.{Said, status_of}
 use Rattle.mmtel_history.proofs.ListLaws.{masked_once}
@@ -43,7 +43,7 @@ use Rattle.mmtel_call_laws.proofs.Secret.Once.{remote_again}
 pub true_false : true ≡ false → ⊥
 true_false e = cc
 
--- ---- lines
+-- ---- header fields
 
 pub entries_placed : (start : Start) (es : Entries) → places_in start (only es) ≡ only es
 entries_placed start es = rw (same_if (is_request start) false, same_if (redirects start) false) refl
@@ -68,7 +68,7 @@ list_if : (all b : Bool) (d : Diverted) → masked_list all (cond b (told_list (
 list_if all true d = told_masked all d.hides_diverting d.hides_target d.history
 list_if all false d = masked_once all d.history
 
--- ---- what is shown
+-- ---- what is copied
 
 facing_same : (who : Identities2) (o : Opening) (service : Option Service) (side : Side) (role : Role) (m : Said) → facing (public_opening who o) service side (without_private role m) ≡ facing o service side m
 facing_same who o service Caller role m = refl
@@ -94,17 +94,17 @@ pub shown-foreign : (site : Site) (o : Opening) (d : Diverted) (service : Option
 unfolding shown_to
 shown-foreign site o d service side peer m name own = own_shown (facing_at site o service side m) (trusts site peer) name (list_for d m) m.heard.start m.heard.lines own
 
--- no number of a reliable answer
+-- no number of a reliable response
 pub shown-none : (site : Site) (o : Opening) (d : Diverted) (service : Option Service) (side : Side) (peer : Peer) (m : Said) → numbers_in (shown_to site o d service side peer m) ≡ []
 unfolding shown_to
 shown-none site o d service side peer m = shown_none (facing_at site o service side m) (trusts site peer) (list_for d m) m.heard.start m.heard.lines
 
--- so the same of what one is shown with and without private places
+-- so what is copied is the same with and without private places
 pub shown-number : (site : Site) (o p : Opening) (d e : Diverted) (service : Option Service) (side : Side) (peer : Peer) (m n : Said) →
     numbers_in (shown_to site o d service side peer m) ≡ numbers_in (shown_to site p e service side peer n)
 shown-number site o p d e service side peer m n = shown-none site o d service side peer m ∙ sym (shown-none site p e service side peer n)
 
--- ---- what the target of an attempt is shown of the INVITE that opened the call
+-- ---- what is copied to the target of an attempt from the INVITE that opened the call
 
 pub offered-same : (site : Site) (who : Identities2) (o : Opening) (d : Diverted) (service : Option Service) (peer : Peer) → Fits o service Caller o.invite (opening_role o.restricted) → trusts site peer ≡ false →
     offered_to site (public_opening who o) (public_diverted (masks_all o) d) service peer ≡ offered_to site o d service peer
@@ -136,7 +136,7 @@ target_by false r s v e = ap (λ (u : List ℕ). said_or u v) (e refl)
 met_by : (b : Bool) (d : Dialogue) (r s : Remote) → r.tag ≡ s.tag → r.routes ≡ s.routes → (b ≡ false → r.target ≡ s.target) → public_dialog_by b (met (public_dialog_by b d) r) ≡ public_dialog_by b (met d s)
 met_by b d r s tag routes target = rw (tag, routes, target_by b r.target s.target d.target target, remote_again b d.side d.remote) refl
 
--- what a response says of its sender, of which nothing is hidden where the dialog's peer is not trusted
+-- the remote side in a response, of which nothing is hidden if the dialog's peer is not trusted
 pub met-same : (b trusted : Bool) (d : Dialogue) (p : Places) (h : HeardMessage) → (b ≡ false → hidden_by trusted p h ≡ h) →
     public_dialog_by b (met (public_dialog_by b d) (remote_of Callee (hidden_by trusted p h).lines)) ≡ public_dialog_by b (met d (remote_of Callee h.lines))
 met-same b trusted d p h same =

@@ -1,4 +1,4 @@
--- What is known of a call as it opens stays, whatever it hears.
+-- What is known of a call as it opens does not change, whatever it receives.
 use Rattle.std.proofs.Common.{◌≡◌, ℕ, zero, suc, Bool, true, false, not, List, refl, cond, Option, Some, None}
 use Rattle.std.specs.Prelude.{Result, Ok, Err, nat_lt, position, slice_get}
 use Rattle.mmtel_answers.specs.Said.{Said, status_of}
@@ -60,7 +60,7 @@ use Rattle.mmtel_call.specs.declared.signals.Signal.{Signal}
 use Rattle.mmtel_call.specs.declared.signals.Signal.TheVariants as signal
 use Rattle.mmtel_call_laws.specs.Secret.Alike.{OpeningsStay}
 
--- the step leaves this opening
+-- the step leaves this opening unchanged
 abbrev pub Keeps : Opening → Step → Type 0
 Keeps o s = s.call.opening ≡ o
 
@@ -69,7 +69,7 @@ keep-if o true p q e f = e
 keep-if o false p q e f = f
 
 module _ (site : Site) (now : Standing) where
-  -- ---- how a call goes on
+  -- ---- how a call continues
 
   abbrev Diverts : (f : Option Service → DueDiversion → Call → Desk → Step) → Type 0
   Diverts f = (service : Option Service) (due : DueDiversion) (c : Call) (desk : Desk) → Keeps c.opening (f service due c desk)
@@ -247,7 +247,7 @@ module _ (site : Site) (now : Standing) where
   rung-stays Talking x c desk = refl
   rung-stays (Asking asking q) x c desk = refl
 
-  -- ---- INVITEs that it does not wait on
+  -- ---- INVITEs for which it does not wait
 
   loose-stays : (at : ℕ) (o : Option Loose) (key : TKey) (m : Said) (c : Call) (desk : Desk) → Keeps c.opening (answered_loose site key m at o c desk)
   loose-stays at None key m c desk = refl
@@ -354,7 +354,7 @@ module _ (site : Site) (now : Standing) where
   unrefused-stays None caller c desk = target-stays (divert c.diversions.left site now caller) (divert-stays c.diversions.left caller) caller None (first_of c.opening) c desk
   unrefused-stays (Some cause) caller c desk = refl
 
-  -- a call that opens has what was read of its INVITE
+  -- a call that opens has what was read from its INVITE
   pub opened-keeps : (a : Arrival) (desk : Desk) → Keeps (opening_of site now (token desk) a) (opened site now a desk)
   unfolding opened
   opened-keeps a desk =

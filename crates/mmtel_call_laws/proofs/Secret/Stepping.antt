@@ -1,4 +1,4 @@
--- The step table as a whole sees public parts alone.
+-- The step table as a whole uses public parts alone.
 use Rattle.std.proofs.Common.{◌≡◌, ℕ, ◌&&◌, Bool, List, refl, ap, sym, ◌∙◌, map, cond, subst, Option, Some, None}
 use Rattle.std.specs.Prelude.{position}
 use Rattle.mmtel_answers.specs.Said.{Said, status_of}
@@ -147,7 +147,7 @@ module _ (heads : Heads) (law : VerdictsSeeAnswersAlone) (records : List Sheet) 
       (silence-alike c.phase who c one other can kept.0 served a)
       (silence_of_others heads site keys who branch c one other kept.1 a))
 
-  -- ---- the row of a signal
+  -- ---- the transition for a signal
 
   row-alike : (x : Signal) (who : Identities2) (role : Role) (c : Call) (one other : Desk) → CanGoOn records T now who c → requests_are_asked T c → ServedIn c.phase records → Hears x T role c → AlikeDesks T one other →
       AlikeSteps T (row site now (public_signal role x) (public_call known who c) one) (row site now x c other)
@@ -162,7 +162,7 @@ module _ (heads : Heads) (law : VerdictsSeeAnswersAlone) (records : List Sheet) 
   row-alike (signal.Due what) who role c one other can kept served hears a = due-alike c.phase who what c one other can kept.0 served a
   row-alike (signal.Ended key) who role c one other can kept served hears a = on-alike-by heads site keys who (without_key key (public_call known who c)) (without_key key c) one other (key_public key who c) a
 
-  -- ---- a step that leaves the attempt, or ends the call
+  -- ---- a step that ends the attempt without a 2xx, or the call
 
   leaves_request : (p : Phase) (side : Side) (role : Role) (m : Said) → leaves_on_request (public_phase known p) side (without_private role m) ≡ leaves_on_request p side m
   leaves_request (Offered x) Caller role m = refl
@@ -249,7 +249,7 @@ module _ (heads : Heads) (law : VerdictsSeeAnswersAlone) (records : List Sheet) 
   leaves_same (signal.Due what) role who c = leaves_due c.phase what who c
   leaves_same (signal.Ended key) role who c = refl
 
-  -- what is asked of a signal is asked of it where nothing is in flight
+  -- the premises on a signal hold where nothing is in flight
 
   fits_still : (p : Phase) (c : Call) (side : Side) (m : Said) (role : Role) → FitsIn p c side m role → FitsIn p (dismissed c) side m role
   fits_still (Offered x) c side m role fits = fits

@@ -1,4 +1,4 @@
--- Alike calls stay alike through their stories.
+-- Indistinguishable calls remain so through their traces.
 use Rattle.std.proofs.Common.{Bool, List, [], ◌∷◌}
 use Rattle.mmtel_precedence.specs.Laws.{VerdictsSeeAnswersAlone}
 use Rattle.mmtel_sheet_values.specs.declared.values.Sheet.{Sheet}

@@ -1,4 +1,4 @@
--- The public part of a call tells what a table of calls asks of it.
+-- The public part of a call determines the results of the queries of a table of calls on it.
 use Rattle.std.proofs.Common.{◌≡◌, ℕ, ◌||◌, Bool, List, refl, ap, ◌∙◌, Option}
 use Rattle.std.specs.Prelude.{is_some, position}
 use Rattle.mmtel_desk.specs.Loose.{is_of}

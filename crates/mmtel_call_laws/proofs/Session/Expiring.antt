@@ -1,4 +1,4 @@
--- A call that talks or asks is over by the deadline of its session, and by no other word of one.
+-- A stable or reinviting call is over by the deadline of its session, and by no other deadline of a session.
 use Rattle.std.proofs.Common.{◌≡◌, ◌<◌, ◌==◌, ◌||◌, ℕ, Bool, true, false, List, [], ◌∷◌, ◌++◌, length, drop, Option, Some, None, refl, ap, sym, subst, ◌∙◌, append_assoc, arith}
 use Rattle.std.proofs.lemmas.Bool.{eq-eqb, eqb-true}
 use Rattle.std.proofs.lemmas.List.{drop_at}
@@ -59,7 +59,7 @@ ended_so (Some at) = refl
 added_new : (before new out : List Emit) → out ≡ before ++ new → added before out ≡ new
 added_new before new out is = ap (drop (length before)) is ∙ drop_at before new (length before) refl
 
--- three that went out one after the other
+-- three that were sent one after the other
 three_out : (before : List Emit) (a b c : Emit) → ((before ++ a ∷ []) ++ b ∷ []) ++ c ∷ [] ≡ before ++ (a ∷ b ∷ c ∷ [])
 three_out before a b c = ap (λ l. l ++ c ∷ []) (append_assoc before (a ∷ []) (b ∷ [])) ∙ append_assoc before (a ∷ b ∷ []) (c ∷ [])
 
@@ -70,7 +70,7 @@ IsOther key flight = (flight.asked.key.0 == key.0) ≡ false
 other_sign : (key asked : TKey) (m : Message StartLine) → (asked.0 == key.0) ≡ false → sign_of key (emit.Reply asked m) ≡ []
 other_sign key asked m e = ap (λ b. if b then final_sign (status_of m.start) else []) e
 
--- what is dismissed before names no side that is left, and shows nothing of other requests
+-- what is dismissed before contains no BYE to a side, and nothing that is observed for the server transaction of another request
 dismissed_none : (site : Site) (c : Call) (flights : List Flight) → (new : List Emit) × ((desk : Desk) → (dismissed_each site c flights desk).out ≡ desk.out ++ new) × (byes_of new ≡ []) × ((key : TKey) → FlyOthers key flights → signs_of key new ≡ [])
 dismissed_none site c [] = ([], λ desk. sym (append-nil desk.out), refl, λ key fly. refl)
 dismissed_none site c (flight ∷ flights) =
@@ -108,18 +108,18 @@ all_dismissed site c desk =
           ∙ signs_two key (each_filter (IsOther key) is_updating c.flights fly);
     }
 
--- of a call that stands no reliable answer waits
+-- in an established call no reliable response waits
 stood_dismissed : (site : Site) (x : Pair) (stage : Stage) (c : Call) (desk : Desk) → c.phase ≡ Stood x stage → Dismissed site c desk (dismissing site c desk)
 stood_dismissed site x stage c desk is = subst (λ phase. Dismissed site c desk (settled_in phase site c (dismissed_all site c desk))) (sym is) (all_dismissed site c desk)
 
--- an INVITE of a side that has no answer is refused
+-- an INVITE of a side that has no final response is refused
 abbrev IsRefused : Stage → List Emit → Type 0
 IsRefused (Answered waiting success) new = Unit {0}
 IsRefused (Parting waiting success) new = Unit {0}
 IsRefused Talking new = Unit {0}
 IsRefused (Asking asking q) new = signs_of q.key new ≡ Refused 487 ∷ []
 
--- what a call that talks or asks does then
+-- what a stable or reinviting call does then
 record Leaves (x : Pair) (stage : Stage) (before : Desk) (s : Step) : Type 0 where
   over : s.call.phase ≡ Over causes.Ended
   new : List Emit
@@ -146,7 +146,7 @@ by_stage site at x (Parting waiting success) c desk refreshable = absurd (let e 
 by_stage site at x Talking c desk refreshable = talks_expired site at x c desk
 by_stage site at x (Asking asking q) c desk refreshable = asks_expired site at x asking q c desk
 
--- what a call that stands does on a deadline
+-- what an established call does on a deadline
 hit : (site : Site) (at : ℕ) (x : Pair) (stage : Stage) (c : Call) (desk : Desk) → is_refreshable_at stage ≡ true → Leaves x stage desk (on_due_at stage site at x (due.Expired c.successes) c desk)
 hit site at x (Answered waiting success) c desk refreshable = absurd (let e : false ≡ true = refreshable in cc)
 hit site at x (Parting waiting success) c desk refreshable = absurd (let e : false ≡ true = refreshable in cc)
@@ -161,7 +161,7 @@ due_hit : (site : Site) (now : Standing) (phase : Phase) (x : Pair) (stage : Sta
 due_hit site now phase x stage c desk is refreshable =
     subst (λ p. Leaves x stage desk (due_in p site now (due.Expired c.successes) c desk)) (sym is) (hit site now.at x stage c desk refreshable)
 
--- so it leaves, and all that is in flight has its answer before
+-- so it ends, and all requests in flight get their final responses before
 its_deadline : (stage : Stage) (count : ℕ) → is_refreshable_at stage ≡ true → is_due_at stage count (due.Expired count) ≡ true
 its_deadline (Answered waiting success) count refreshable = absurd (let e : false ≡ true = refreshable in cc)
 its_deadline (Parting waiting success) count refreshable = absurd (let e : false ≡ true = refreshable in cc)
@@ -200,9 +200,9 @@ expires site now x stage c desk is refreshable =
     subst (λ b. HasExpired x stage c.flights desk (if b then row site now heard (dismissed c) before else row site now heard c desk)) (sym (leaving c x stage is refreshable))
     (left_so site x stage c desk before (row site now heard (dismissed c) before) (stood_dismissed site x stage c desk is) (row_expires site now x stage (dismissed c) before is refreshable))
 
--- ---- and no other word
+-- ---- and no other deadline
 
--- a deadline with another number is none
+-- a deadline with another number is not that of the session
 not_expiry : (successes : ℕ) (what : DueWord) → (what ≡ due.Expired successes → ⊥) → is_expiry successes what ≡ false
 not_expiry successes (due.NoReply number) other = refl
 not_expiry successes (due.NoPrack number) other = refl
@@ -228,7 +228,7 @@ missed site now (Stood x stage) what c desk refreshable other = missed_at site n
 missed site now (Lent loan) what c desk refreshable other = absurd (let e : false ≡ true = refreshable in cc)
 missed site now (Over cause) what c desk refreshable other = absurd (let e : false ≡ true = refreshable in cc)
 
--- and it does not leave
+-- and the call does not end
 stays_at : (stage : Stage) (what : DueWord) (count : ℕ) → is_refreshable_at stage ≡ true → is_expiry count what ≡ false → is_due_at stage count what ≡ false
 stays_at (Answered waiting success) what count refreshable other = absurd (let e : false ≡ true = refreshable in cc)
 stays_at (Parting waiting success) what count refreshable other = absurd (let e : false ≡ true = refreshable in cc)
@@ -283,7 +283,7 @@ elsewhere site now number c desk closed =
 pub sessions_expire : SessionsExpire
 sessions_expire = record { expires = expires; no_other = no_other; elsewhere = elsewhere }
 
--- ---- by what is seen
+-- ---- by what is observed
 
 -- the deadline that is due has the number of the last 2xx
 among_due : (timer : Bool) (number count : ℕ) (last : Option Agreed) → is_among number (expiry_due timer count last) ≡ true → number ≡ count

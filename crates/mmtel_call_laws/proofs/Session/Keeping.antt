@@ -1,4 +1,4 @@
--- Every step keeps the session as it is seen, and so does every story.
+-- Every step preserves the session as it is observed, and so does every trace.
 use Rattle.std.proofs.Common.{◌≡◌, ◌<◌, ◌≤◌, ◌-◌, ◌^◌, ℕ, Bool, true, false, List, [], ◌∷◌, ◌++◌, length, drop, Option, Some, None, refl, ap, sym, subst, ◌∙◌, append-nil, arith}
 use Rattle.std.proofs.lemmas.List.{drop_at}
 use Rattle.std.specs.List.{list_any}
@@ -76,7 +76,7 @@ added_new : (before new out : List Emit) → out ≡ before ++ new → added bef
 added_new before new out is = ap (drop (length before)) is ∙ drop_at before new (length before) refl
 
 module _ (timer : Bool) (c : Call) (w : Session) (seen : IsSessionSeen timer c w) where
-  -- no deadline of a session goes out, and the number stays
+  -- no deadline of a session is armed, and the number does not change
   pub kept : (at : ℕ) (d : Call) → d.successes ≡ c.successes → IsSessionSeen timer d (agreed_by at w None [])
   kept at d same = record {
     number = same ∙ seen.number;
@@ -86,7 +86,7 @@ module _ (timer : Bool) (c : Call) (w : Session) (seen : IsSessionSeen timer c w
     lower = seen.lower;
   }
 
-  -- a 2xx begins it anew
+  -- a 2xx starts it anew
   begun : (at : ℕ) (m : Said) (d : Call) (armed : List Deadline) → d.successes ≡ next_number c.successes →
       armed ≡ (if timer then expiry_at (next_number c.successes) at (expiry_after m.heard.session) else []) → IsSessionSeen timer d (agreed_by at w (Some m) armed)
   begun at m d armed number is =
@@ -100,11 +100,11 @@ module _ (timer : Bool) (c : Call) (w : Session) (seen : IsSessionSeen timer c w
         lower = λ less. each_more (AtMost w.count) (IsBelow (next_number w.count)) (λ deadline e. next_above (number_in deadline) w.count less e) (w.earlier ++ w.armed) had;
       }
 
--- what is passed on where this went out and this was heard
+-- what is relayed where this was sent and this was received
 abbrev passed_in : Option Said → List Emit → Option Said
 passed_in heard out = if list_any is_accepted out then heard else None
 
--- the session after a step in which this was heard and these went out
+-- the session after a step in which this was received and these were sent
 abbrev next_seen : (at : ℕ) → CallNo → Option Said → List Emit → Session → Session
 next_seen at own heard out w = agreed_by at w (passed_in heard out) (expiries_of own out)
 
@@ -133,7 +133,7 @@ module _ (site : Site) (c : Call) (w : Session) (seen : IsSessionSeen site.timer
       stays_seen at heard true before s g (λ new unsaid. ap (λ o. passed_in o new) is ∙ if_same (list_any is_accepted new) None)
   goes_seen at heard before s (SaysNone g) = stays_seen at heard false before s g (λ new unsaid. ap (λ b. if b then heard else None) (unsaid refl))
 
--- ---- the laws
+-- ---- the theorems
 
 step_seen : (site : Site) (now : Standing) (heard : Signal) (c : Call) (desk : Desk) (w : Session) → IsSessionSeen site.timer c w →
     IsSessionSeen site.timer (step site now heard c desk).call (session_by now.at c.opening.number c heard (added desk.out (step site now heard c desk).desk.out) w)

@@ -1,4 +1,4 @@
--- What each row of the step table does with the session: it passes a 2xx on, with the deadline that is due of it, or it arms none and the number of the call stays.
+-- The effect of each transition of the step table on the session: it relays a 2xx, with the deadline that is due for it, or it arms none and the number of the call does not change.
 use Rattle.std.proofs.Common.{◌≡◌, ◌==◌, ◌&&◌, ◌||◌, ◌+◌, ◌++◌, ◌∙◌, Bool, true, false, not, ℕ, zero, suc, List, [], ◌∷◌, Option, Some, None, nat_lt, Result, Ok, Err, codes, refl, ap, subst, sym, append_assoc, append-nil, arith}
 use Rattle.std.proofs.lemmas.Bool.{eq-eqb}
 use Rattle.std.proofs.lemmas.Bool.Decides.{nat_tests}
@@ -110,7 +110,7 @@ high_status code high = grind (arith, nat_tests, high)
 success_status : (code : ℕ) → nat_lt code 200 ≡ false → nat_lt code 300 ≡ true → is_success code ≡ true
 success_status code low high = grind (arith, nat_tests, low, high)
 
--- ---- lists of what goes out
+-- ---- lists of what is sent
 
 expiries_append : (own : CallNo) (xs ys : List Emit) → expiries_of own (xs ++ ys) ≡ expiries_of own xs ++ expiries_of own ys
 expiries_append own [] ys = refl
@@ -128,9 +128,9 @@ pub if_same : {A : Type 0} (b : Bool) (x : A) → (if b then x else x) ≡ x
 if_same true x = refl
 if_same false x = refl
 
--- of the call of this number, of which so many 2xx were passed on, where this went out before
+-- of the call of this number, of which this many 2xx were relayed, where this was sent before
 module _ (site : Site) (own : CallNo) (count : ℕ) (before : List Emit) where
-  -- ---- what goes out
+  -- ---- what is sent
 
   -- so far no deadline of a session, and no 2xx but where it `accepts`
   pub record Adds (accepts : Bool) (desk : Desk) : Type 0 where
@@ -148,7 +148,7 @@ module _ (site : Site) (own : CallNo) (count : ℕ) (before : List Emit) where
   pub nothing_yet : (accepts : Bool) (desk : Desk) → desk.out ≡ before → Adds accepts desk
   nothing_yet accepts desk is = record { new = []; out = is ∙ sym (append-nil before); none = refl; said = λ unsaid. refl }
 
-  -- where none was said, fewer may be
+  -- where none was sent, fewer may be permitted
   quiet_of : (desk : Desk) → Silent desk → Quiet desk
   quiet_of desk had = record { new = had.new; out = had.out; none = had.none; said = λ unsaid. had.said refl }
 
@@ -239,7 +239,7 @@ module _ (site : Site) (own : CallNo) (count : ℕ) (before : List Emit) where
   abbrev pub Opens : Call → Type 0
   Opens c = (c.successes ≡ count) × (c.opening.number ≡ own)
 
-  -- a step arms no deadline of a session, and the number of the call stays; it says no 2xx but where it `accepts`
+  -- a step arms no deadline of a session, and the number of the call does not change; it sends no 2xx except where it `accepts`
   pub record Stays (accepts : Bool) (s : Step) : Type 0 where
     pub call_in : Opens s.call
     pub desk_in : Adds accepts s.desk
@@ -260,7 +260,7 @@ module _ (site : Site) (own : CallNo) (count : ℕ) (before : List Emit) where
   if_good true one two e f = e
   if_good false one two e f = f
 
-  -- ---- the way on
+  -- ---- how the call continues
 
   refused_good : (at : ℕ) (caller : Leg) (cause : Cause) (c : Call) (desk : Desk) → Opens c → Quiet desk → Good (refused site at caller cause c desk)
   refused_good at caller cause c desk k had = over_good at cause caller.meter None c (told_caller site c (of_causes.status_of cause) desk) k (told_in c (of_causes.status_of cause) desk had)
@@ -352,13 +352,13 @@ module _ (site : Site) (own : CallNo) (count : ℕ) (before : List Emit) where
   proceeding_good : (at : ℕ) (x : Trial) (key : TKey) (m : Said) (code : ℕ) (c : Call) (desk : Desk) → Opens c → Quiet desk → Good (ringing.proceeding site at x key m code c desk)
   proceeding_good at x key m code c desk k had = proceeding_by_good (reliable_number site c.opening m) at x key m code c desk k had
 
-  -- ---- a 2xx is passed on
+  -- ---- a 2xx is relayed
 
   -- what is due of it, at this moment
   abbrev pub due_of : (at : ℕ) → Said → List Deadline
   due_of at m = if site.timer then expiry_at (next_number count) at (expiry_after m.heard.session) else []
 
-  -- a step passes this 2xx on
+  -- a step relays this 2xx
   pub record Agrees (at : ℕ) (m : Said) (s : Step) : Type 0 where
     pub number : s.call.successes ≡ next_number count
     pub opening : s.call.opening.number ≡ own
@@ -379,7 +379,7 @@ module _ (site : Site) (own : CallNo) (count : ℕ) (before : List Emit) where
       ∙ ap (λ n. record { what = due.Expired (next_number n); at = at + time } ∷ []) k.0
   expiry_seen false time at c k = refl
 
-  -- what was said before, the 2xx, and what is armed
+  -- what was sent before, the 2xx, and what is armed
   passes_on : (at : ℕ) (m : Said) (e : Emit) (c d : Call) (desk : Desk) → expiry_of own e ≡ [] → is_accepted e ≡ true → Opens c → d.successes ≡ next_number count → d.opening.number ≡ own → Quiet desk →
       Agrees at m (record { call = d; desk = awaiting_expiry site at m c (ringing.awaiting_ack at c (emitted e desk)) })
   passes_on at m e c d desk quiet said k number opening had =
@@ -417,7 +417,7 @@ module _ (site : Site) (own : CallNo) (count : ℕ) (before : List Emit) where
 
   -- ---- responses
 
-  -- where this 2xx is heard, if one is: it is passed on, or the step says none
+  -- where this 2xx is received, if one is: it is relayed, or the step sends none
   pub data Goes (at : ℕ) (heard : Option Said) (s : Step) : Type 0 where
     Passes : (m : Said) → heard ≡ Some m → Agrees at m s → Goes at heard s
     HearsNone : heard ≡ None → Good s → Goes at heard s
@@ -583,7 +583,7 @@ module _ (site : Site) (own : CallNo) (count : ℕ) (before : List Emit) where
       (over_stood_good at x c (acked_and_left site x (other_of side) desk) k (acked_left_in x (other_of side) desk had))
       (staged_good x (Parting waiting success) c desk k had)
 
-  -- an INVITE goes across
+  -- an INVITE is relayed
 
   asked_across_good : (x : Pair) (side : Side) (key : TKey) (m : Said) (c : Call) (desk : Desk) → Opens c → Quiet desk → Good (asked_across site x side key m c desk)
   asked_across_good x side key m c desk k had = good (asked_across site x side key m c desk) k (emit_in _ (drew desk) refl (drew_in true desk had))
@@ -591,7 +591,7 @@ module _ (site : Site) (own : CallNo) (count : ℕ) (before : List Emit) where
   invited_good : (x : Pair) (side : Side) (key : TKey) (m : Said) (c : Call) (desk : Desk) → Opens c → Quiet desk → Good (invited site x side key m c desk)
   invited_good x side key m c desk k had = asked_across_good x side key m c (replied_to site c key m 100 desk) k (replied_in c key m 100 desk had)
 
-  -- and its answers come back
+  -- and the responses to it are relayed back
 
   relayed_back_in : (x : Pair) (side : Side) (q : Reinvite) (m : Said) (c : Call) (desk : Desk) → Quiet desk → Quiet (relayed_back site x side q m c desk)
   relayed_back_in x side q m c desk had = emit_in _ desk refl had
@@ -740,7 +740,7 @@ module _ (site : Site) (own : CallNo) (count : ℕ) (before : List Emit) where
   due_at_row stage at x what c desk k had =
       if_good (is_due_at stage c.successes what) (rung_out stage site at x (stood x stage c) desk) (onward (stood x stage c) desk) (rung_row stage at x c desk k had) (staged_good x stage c desk k had)
 
-  -- ---- INVITEs that the call does not wait on
+  -- ---- INVITEs for which the call does not wait
 
   silent : (s : Step) → Opens s.call → Silent s.desk → Stays false s
   silent s k had = record { call_in = k; desk_in = had }
@@ -797,9 +797,9 @@ module _ (site : Site) (own : CallNo) (count : ℕ) (before : List Emit) where
       (onward_silent c (if is_talking c.phase then acked_again t t.invitation.ack desk else desk) k
       (if_adds false (is_talking c.phase) (acked_again t t.invitation.ack desk) desk (acked_again_in t t.invitation.ack desk had) had)))
 
-  -- ---- what is in flight
+  -- ---- requests in flight
 
-  -- the 2xx of an UPDATE is passed on, and what is armed of it
+  -- the 2xx of an UPDATE is relayed, and the deadline that is armed for it
   updates_on : (at : ℕ) (m : Said) (e : Emit) (c d : Call) (desk : Desk) → expiry_of own e ≡ [] → is_accepted e ≡ true → Opens c → d.successes ≡ next_number count → d.opening.number ≡ own → Quiet desk →
       Agrees at m (record { call = d; desk = awaiting_expiry site at m c (emitted e desk) })
   updates_on at m e c d desk quiet said k number opening had =
@@ -823,7 +823,7 @@ module _ (site : Site) (own : CallNo) (count : ℕ) (before : List Emit) where
   update_agrees at flight m c desk is k had =
       updates_on at m _ c (in_flight.updated_by flight.side flight.asked.request c) desk refl is k (ap next_number k.0) k.1 had
 
-  -- of a PRACK no 2xx counts
+  -- a 2xx to a PRACK does not count
   abbrev heard_in : FlightKind → Said → Option Said
   heard_in kind m = if not (not (in_flight.is_update_of kind)) && is_success (status_of m.heard.start) then Some m else None
 
@@ -858,7 +858,7 @@ module _ (site : Site) (own : CallNo) (count : ℕ) (before : List Emit) where
   flying_goes at m None c desk k unsaid = SaysNone (nothing_said c desk k unsaid)
   flying_goes at m (Some place) c desk k unsaid = flight_goes at m place (slice_get c.flights place) c desk k unsaid
 
-  -- the response to a request that the call does not wait on, of this branch
+  -- the response to a request for which the call does not wait, of this branch
   abbrev heard_at : (branch : List ℕ) → Said → Call → Option Said
   heard_at branch m c = if not (is_prack_at (position (in_flight.is_in_flight branch) c.flights) c.flights) && is_success (status_of m.heard.start) then Some m else None
 
@@ -889,7 +889,7 @@ module _ (site : Site) (own : CallNo) (count : ℕ) (before : List Emit) where
   silent_row : (branch : List ℕ) (c : Call) (desk : Desk) → Opens c → Quiet desk → Good (silent_other site branch c desk)
   silent_row branch c desk k had = silent_at_good branch (position (is_of branch) c.loose) c desk k had
 
-  -- it is dismissed
+  -- they are dismissed
 
   settled_in_desk : (accepts : Bool) (phase : Phase) (c : Call) (desk : Desk) → Adds accepts desk → Adds accepts (in_flight.settled_in phase site c desk)
   settled_in_desk accepts (Offered x) c desk had = settled_desk accepts None c desk had
@@ -981,7 +981,7 @@ module _ (site : Site) (own : CallNo) (count : ℕ) (before : List Emit) where
   row_goes now (signal.Due what) c desk k unsaid = HearsNone refl (due_good c.phase now what c desk k (quiet_of desk unsaid))
   row_goes now (signal.Ended key) c desk k unsaid = HearsNone refl (key_row key c desk k (quiet_of desk unsaid))
 
-  -- a step that leaves waits for the response that is heard, so it is of no PRACK
+  -- in a step that ends the attempt without a 2xx, or the call, the call waits for the response that is received, so that is none to a PRACK
   leaving_heard : (heard : Signal) (c : Call) → leaves heard c ≡ true → success_heard heard (in_flight.dismissed c) ≡ success_heard heard c
   leaving_heard (signal.Request side key request) c is = refl
   leaving_heard (signal.Ack side ack) c is = refl
@@ -1030,7 +1030,7 @@ module _ (site : Site) (own : CallNo) (count : ℕ) (before : List Emit) where
       let c : Call = new_call site (opening_of site now (token desk) a) in
       unless_refused_good (refusal_of site now.at c.opening) now (caller_of now.at c) c (told_caller site c 100 (drew desk)) k (told_in c 100 (drew desk) had)
 
-  -- ---- without a leg
+  -- ---- without a detached leg
 
   finished_in_good : (phase : Phase) (at : ℕ) (c : Call) (desk : Desk) → Opens c → Silent desk → Good (finished_in phase site at (at_phase phase c) desk)
   finished_in_good (Offered x) at c desk k had = onward_good (at_phase (Offered x) c) desk k (quiet_of desk had)

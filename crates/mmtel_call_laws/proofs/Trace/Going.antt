@@ -1,4 +1,4 @@
--- How a call goes on: it comes to one target after another until an INVITE goes out to one, or it is over; what is seen of it is that INVITE and its deadline.
+-- How a call continues: it reaches one target after another until an INVITE is sent to one, or it is over; what is observed of it is that INVITE and its deadline.
 use Rattle.std.proofs.Common.{◌≡◌, ◌<◌, ◌≤◌, ◌+◌, ℕ, zero, suc, Bool, true, false, List, [], ◌∷◌, ◌++◌, Option, Some, None, refl, ap, codes, arith}
 use Rattle.std.specs.Prelude.{if◌then◌else◌}
 use Rattle.mmtel_answers.specs.Attempts.{alert_lines, invite_of}
@@ -46,9 +46,9 @@ use Rattle.mmtel_call_laws.specs.Trace.Seen.{Armed, Invited, Mark, branch_of, ma
 use Rattle.mmtel_call_laws.proofs.Trace.Reading.{Adds, adds_emit, branch_read, own_deadline}
 use Rattle.mmtel_call_laws.proofs.Trace.Sending.{Unseen, relayed_unseen, told_diversion_unseen, told_unseen}
 
--- ---- where a call came to
+-- ---- the result
 
--- an INVITE went out, of the next attempt after so many, with its deadline; this was the last number of the caller; and there is room for so many attempts and diversions
+-- an INVITE was sent, of the next attempt after this many, with its deadline; this was the last CSeq number of the caller; and this many attempts and diversions are still possible
 pub record HasReached (at : ℕ) (y : Trial) (attempts : ℕ) (acks : AcksView) (last : Option ℕ) (room : ℕ) (c : Call) (marks : List Mark) : Type 0 where
   pub seen : marks ≡ Invited y.attempt.invitation.dialogue.peer y.attempt.invitation.dialogue.target y.attempt.invitation.branch ∷ Armed (due_word.Cap y.attempt.number) (at + longest) ∷ []
   pub leg : y.callee.leg.dialogue.peer ≡ y.attempt.invitation.dialogue.peer
@@ -127,7 +127,7 @@ module _ (site : Site) (before : Desk) where
 
   -- ---- at a target
 
-  -- a diversion that is due, where so many are left
+  -- a diversion that is due, where this many are left
   abbrev Diverts : ℕ → Standing → Leg → Type 0
   Diverts left now caller = (service : Option Service) (due : DueDiversion) (room : ℕ) (c : Call) (desk : Desk) → c.attempts + left ≤ room → So c desk → Goes now.at c caller room (divert left site now caller service due c desk)
 

@@ -1,4 +1,4 @@
--- What a call that is offered does on each signal: it waits on for its attempt, or the attempt ends and the call goes on or is over.
+-- What a call that is offered does on each signal: it continues to wait for its attempt, or the attempt ends and the call continues or is over.
 use Rattle.std.proofs.Common.{◌≡◌, ◌≤◌, ◌+◌, ℕ, ◌==◌, Bool, true, false, not, List, [], ◌∷◌, Option, Some, None, refl, ap, sym, subst, ◌∙◌, arith, nat_lt, ◌&&◌, ◌||◌, Result, Ok, Err, append-nil, ◌++◌, codes, drop, length}
 use Rattle.std.proofs.lemmas.Bool.Decides.{nat_tests}
 use Rattle.std.specs.Option.{option_map}
@@ -59,11 +59,11 @@ use Rattle.mmtel_call_laws.proofs.Trace.Reading.{Adds, adds_emit, adds_nothing, 
 use Rattle.mmtel_call_laws.proofs.Trace.Sending.{Unseen, cancelled_unseen, dismissing_unseen, final_acked_unseen, other_waits, relayed_unseen, replied_unseen, settled_unseen, silent_waits, told_unseen, unheard_unseen, unlisted_unseen}
 use Rattle.mmtel_session.specs.Intervals.{expiry_after}
 
--- the no-reply time of the record by which the call was offered
+-- the no-reply time of the record under which the call was offered
 abbrev pub its_time : Trial → Option ℕ
 its_time x = time_of (its_sheet x.attempt.service)
 
--- the attempt of a call as it would be seen, where its INVITE went out at this moment, and it rang at this one
+-- the attempt of a call as it would be observed, where its INVITE was sent at this moment, and it rang at this one
 abbrev pub going_of : Trial → (since : ℕ) → (rung : Option ℕ) → Going
 going_of x since rung = record {
   peer = x.attempt.invitation.dialogue.peer;
@@ -75,17 +75,17 @@ going_of x since rung = record {
   early = early_tag x.callee;
 }
 
--- what is told of an attempt by what is heard: whether it rings now, its early dialog, and which answers wait for their PRACK
+-- what is observed of an attempt by what is received: whether it rings now, its early dialog, and which reliable responses wait for their PRACK
 pub record Told : Type 0 where
   pub rings : Bool
   pub early : Option (List ℕ)
   pub acks : AcksView
 
--- of the call that was opened so
+-- of the call with this opening
 abbrev pub told_by : Site → Opening → (last : Option ℕ) → Going → AcksView → Signal → Told
 told_by site o last g acks heard = record { rings = rings_by (passes_answer site o g acks heard); early = early_by g.early (passes_answer site o g acks heard); acks = acks_by site o last g acks heard }
 
--- what a step arms at this moment, by whether it is the first in which the target rings: the no-reply time, where there is one
+-- what a step arms at this moment, by whether it is the first in which the target rings: the no-reply time, if there is one
 abbrev pub marked_by : (number : ℕ) → (at : ℕ) → (time : Option ℕ) → List Mark
 marked_by number at None = []
 marked_by number at (Some time) = Armed (due.NoReply number) (at + time) ∷ []
@@ -97,7 +97,7 @@ marks_rung number at time first = if first then marked_by number at time else []
 abbrev pub offered : Trial → Call → Call
 offered x c = record c { phase = Offered x }
 
--- it waits on for the same attempt, after this
+-- it continues to wait for the same attempt, after this
 pub record StillWaits (at : ℕ) (site : Site) (x : Trial) (c : Call) (before : Desk) (last : Option ℕ) (told : Told) (s : Step) (y : Trial) : Type 0 where
   pub phase : s.call.phase ≡ Offered y
   pub attempts : s.call.attempts ≡ c.attempts
@@ -132,7 +132,7 @@ module _ (site : Site) (now : Standing) (x : Trial) (c : Call) (before : Desk) w
   abbrev Does : (last : Option ℕ) → Told → Option End → Step → Type 0
   Does last told end s = Passes now.at site x c before last told end s
 
-  -- nothing new is told
+  -- nothing new is observed
   abbrev Same : Told
   Same = record { rings = false; early = early_tag x.callee; acks = c.acks }
 
@@ -144,7 +144,7 @@ module _ (site : Site) (now : Standing) (x : Trial) (c : Call) (before : Desk) w
   does_one last told true end s s2 f g = f
   does_one last told false end s s2 f g = g
 
-  -- nothing is seen, and it waits on as it was
+  -- nothing is observed, and it continues to wait as before
   waits : (s : Step) → s.call.phase ≡ Offered x → s.call.attempts ≡ c.attempts → s.call.diversions.left ≡ c.diversions.left → s.call.acks ≡ c.acks → So s.desk → Does Last Same None s
   waits s e f g h had = Waits refl x (record {
     phase = e;
@@ -163,7 +163,7 @@ module _ (site : Site) (now : Standing) (x : Trial) (c : Call) (before : Desk) w
     adds = had;
   })
 
-  -- a side was heard, or a request went to one
+  -- a request of a side was accepted, or a request was sent to one
   waits_heard : (y : Trial) (last : Option ℕ) (told : Told) (s : Step) → s.call.phase ≡ Offered y → s.call.attempts ≡ c.attempts → s.call.diversions.left ≡ c.diversions.left → told.rings ≡ false →
       y.caller.dialogue.last ≡ last → y.attempt.number ≡ x.attempt.number → y.attempt.invitation.dialogue ≡ x.attempt.invitation.dialogue → y.attempt.invitation.branch ≡ x.attempt.invitation.branch →
       y.callee.leg.dialogue.peer ≡ x.callee.leg.dialogue.peer → y.callee.leg.dialogue.side ≡ x.callee.leg.dialogue.side → y.attempt.rang ≡ x.attempt.rang → y.attempt.service ≡ x.attempt.service → early_tag y.callee ≡ told.early → s.call.acks ≡ told.acks → So s.desk →
@@ -185,7 +185,7 @@ module _ (site : Site) (now : Standing) (x : Trial) (c : Call) (before : Desk) w
     adds = subst (λ b. Adds site.sip c.opening.number before s.desk (marks_rung x.attempt.number now.at (its_time x) (b && not x.attempt.rang))) (sym silent) had;
   })
 
-  -- ---- the call is given up
+  -- ---- the call is abandoned
 
   gives_up_by : (cause : Cause) (how : End) (last : Option ℕ) (told : Told) (y : Trial) (desk : Desk) → So desk → Does last told (Some how) (given_up_by cause site now.at y (offered y c) desk)
   gives_up_by cause how last told y desk had =
@@ -195,11 +195,11 @@ module _ (site : Site) (now : Standing) (x : Trial) (c : Call) (before : Desk) w
 
   -- ---- requests
 
-  -- what is told where a side was heard, and the call is offered so
+  -- what is observed where a request of a side was accepted, and the call is offered in this way
   module _ (y : Trial) (last : Option ℕ) (key : TKey) (m : Said) (desk : Desk) (had : So desk) (latest : y.caller.dialogue.last ≡ last) (number : y.attempt.number ≡ x.attempt.number)
       (dialogue : y.attempt.invitation.dialogue ≡ x.attempt.invitation.dialogue) (branch : y.attempt.invitation.branch ≡ x.attempt.invitation.branch) (leg : y.callee.leg.dialogue.peer ≡ x.callee.leg.dialogue.peer)
       (side_same : y.callee.leg.dialogue.side ≡ x.callee.leg.dialogue.side) (rang : y.attempt.rang ≡ x.attempt.rang) (service : y.attempt.service ≡ x.attempt.service) (early : early_tag y.callee ≡ early_tag x.callee) where
-    -- nothing but a reply
+    -- nothing except a reply
     replies : (told : Told) (desk2 : Desk) → told.rings ≡ false → early_tag x.callee ≡ told.early → c.acks ≡ told.acks → So desk2 → Does last told None (onward (offered y c) desk2)
     replies told desk2 silent e f had2 = waits_heard y last told (onward (offered y c) desk2) refl refl refl silent latest number dialogue branch leg side_same rang service (early ∙ e) f had2
 
@@ -264,7 +264,7 @@ module _ (site : Site) (now : Standing) (x : Trial) (c : Call) (before : Desk) w
         subst (λ (callee : TriedView). Does last (Acked (acks_acked (early_tag callee) (Some rack) c.acks)) None (acknowledging site y key m rack (answer_named y (offered y c) rack) (offered y c) desk)) same
         (in_early y.callee.is_early y.callee.leg.dialogue.remote_tag rack)
 
-    -- what the caller asks, but for BYE
+    -- requests of the caller, except BYE
     asks : y.callee ≡ x.callee → (b : Bool) → Does last (Acked (if b then acks_acked (early_tag x.callee) (acknowledged_by m) c.acks else c.acks)) None
         (if b then on_prack site y key m (offered y c) desk else if is_update m then on_update site y Caller key m (offered y c) desk else onward (offered y c) (unlisted site (offered y c) key m desk))
     asks same true = racks (acknowledged_by m) same
@@ -297,7 +297,7 @@ module _ (site : Site) (now : Standing) (x : Trial) (c : Call) (before : Desk) w
   request_passes since rung Caller key m desk had = caller_heard key m (says x.caller m in_flight.Theirs) desk had
   request_passes since rung Callee key m desk had = callee_heard key m (says x.callee.leg m in_flight.Own) desk had
 
-  -- ---- deadlines and silence
+  -- ---- deadlines and timeouts
 
   stays : (desk : Desk) → So desk → Does Last Same None (onward (offered x c) desk)
   stays desk had = waits (onward (offered x c) desk) refl refl refl refl had
@@ -351,7 +351,7 @@ module _ (site : Site) (now : Standing) (x : Trial) (c : Call) (before : Desk) w
       adds_emit site.sip c.opening.number before desk _ [] mark (own_deadline site.sip c.opening.number what (now.at + time)) had
   armed_by false time desk had = had
 
-  -- what a response tells that is passed on
+  -- what is observed of a response that is relayed
   abbrev Passed : Option Said → Told
   Passed passed = record { rings = rings_by passed; early = early_by (early_tag x.callee) passed; acks = acks_by_answer site c.opening c.acks passed }
 
@@ -386,7 +386,7 @@ module _ (site : Site) (now : Standing) (x : Trial) (c : Call) (before : Desk) w
     adds = subst (λ code. Adds site.sip c.opening.number before s.desk (marks_rung x.attempt.number now.at (its_time x) (rings code && not x.attempt.rang))) is adds;
   })
 
-  -- a reliable answer
+  -- a reliable response
   relays_if : x.callee.leg.dialogue.side ≡ Callee → (key : TKey) (m : Said) (code rseq : ℕ) (given : Option ℕ) (desk : Desk) → code ≡ status_of m.heard.start → reliable_number site c.opening m ≡ Some rseq → So desk →
       Does Last (Passed (if is_some given then Some m else None)) None (relayed_if given rseq site now.at x key m code (offered x c) desk)
   relays_if its key m code rseq None desk is told had = tried_so key desk had
@@ -411,7 +411,7 @@ module _ (site : Site) (now : Standing) (x : Trial) (c : Call) (before : Desk) w
       subst (λ b. Does Last (Passed (if is_some (if b then own_number rseq c.acks else None) then Some m else None)) None (relayed_if (own_for rseq x m (offered x c)) rseq site now.at x key m code (offered x c) desk))
       (in_dialog x.callee.is_early x.callee.leg m) (relays_if own key m code rseq (own_for rseq x m (offered x c)) desk is told had)
 
-  -- what is armed for the session of a 2xx is of no attempt
+  -- the deadline for the session of a 2xx is of no attempt
   expiries_quiet : (timer : Bool) (time : Option ℕ) (desk : Desk) → Adds site.sip c.opening.number before desk [] →
       Adds site.sip c.opening.number before (record desk { out = desk.out ++ (if timer then expiry_in time now.at (offered x c) else []) }) []
   expiries_quiet true None desk had = simp append-nil had
@@ -473,7 +473,7 @@ row_passes site now x (signal.Silent branch method) c since rung before desk own
 row_passes site now x (signal.Due what) c since rung before desk own had = due_passes site now x c before what desk had
 row_passes site now x (signal.Ended key) c since rung before desk own had = waits site now x c before (onward (without_key key (offered x c)) desk) refl refl refl refl had
 
--- what is in flight was dismissed before
+-- the requests in flight were dismissed before
 dismissed_passes : (at : ℕ) (site : Site) (x : Trial) (c : Call) (before : Desk) (last : Option ℕ) (told : Told) (end : Option End) (s : Step) → Passes at site x (dismissed c) before last told end s → Passes at site x c before last told end s
 dismissed_passes at site x c before last told end s (Waits none y p) = Waits none y (record {
   phase = p.phase;

@@ -1,4 +1,4 @@
--- How what goes out is read: the branch of a request of the server, and the marks of more than one list.
+-- How what is sent is read: the branch of a request of the server, and the marks of more than one list.
 use Rattle.std.proofs.Common.{◌≡◌, ℕ, true, false, List, [], ◌∷◌, ◌++◌, length, Some, refl, ap, sym, ◌∙◌, append_assoc, arith, nat_lt, codes, length-append}
 use Rattle.std.proofs.lemmas.Bool.{eq-eqb, le-ltb}
 use Rattle.std.proofs.lemmas.List.{append-nil}
@@ -43,7 +43,7 @@ branch_read d number method given =
     ap (λ v. unwrap_or (after_text (via_text given.sip []) v) []) (first_via d number method given ∙ via_parts given.sip given.branch)
     ∙ ap (λ o. unwrap_or o []) (text_behind (via_text given.sip []) given.branch)
 
--- ---- what a step adds to what goes out
+-- ---- what a step adds to what is sent
 
 pub record Adds (sip : Addr) (own : CallNo) (before after : Desk) (marks : List Mark) : Type 0 where
   pub new : List Emit

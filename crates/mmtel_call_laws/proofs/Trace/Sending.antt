@@ -1,4 +1,4 @@
--- What a call sends while it is offered, but for INVITEs and deadlines, is no mark.
+-- What a call sends while it is offered, except INVITEs and deadlines, is no mark.
 use Rattle.std.proofs.Common.{◌≡◌, ◌+◌, ◌==◌, ℕ, Bool, true, false, not, List, [], ◌∷◌, ◌++◌, append-nil, refl, codes, nat_lt}
 use Rattle.std.specs.List.{filter}
 use Rattle.std.specs.Prelude.{Option, Some, None, if◌then◌else◌, position, slice_get}
@@ -46,7 +46,7 @@ use Rattle.mmtel_call_laws.specs.Trace.Seen.{mark_of, mark_of_deadline}
 use Rattle.mmtel_call_laws.proofs.Trace.Reading.{Adds, adds_quiet}
 
 module _ (site : Site) (own : CallNo) (before : Desk) where
-  -- so far nothing is seen
+  -- so far nothing is observed
   abbrev pub Unseen : Desk → Type 0
   Unseen desk = Adds site.sip own before desk []
 
@@ -96,7 +96,7 @@ module _ (site : Site) (own : CallNo) (before : Desk) where
   pub final_acked_unseen : (key : TKey) (i : Invitation) (m : HeardMessage) (desk : Desk) → Unseen desk → Unseen (final_acked site.sip key i m desk)
   final_acked_unseen key i m desk had = adds_quiet site.sip own before desk _ [] refl had
 
-  -- ---- what is in flight
+  -- ---- requests in flight
 
   expiry_unseen : (timer : Bool) (time : Option ℕ) (at : ℕ) (c : Call) (desk : Desk) → Unseen desk → Unseen (record desk { out = desk.out ++ (if timer then expiry_in time at c else []) })
   expiry_unseen true None at c desk had = simp append-nil had
@@ -128,7 +128,7 @@ module _ (site : Site) (own : CallNo) (before : Desk) where
       settled_in_unseen c.phase c (dismissed_all site c desk)
       (each_unseen c (filter is_updating c.flights) _ (each_unseen c (filter (λ flight. not (is_updating flight)) c.flights) desk had))
 
-  -- ---- a request that the call does not wait on
+  -- ---- a request for which the call does not wait
 
   success_unseen : (l : Loose) (remote : Remote) (d : Option Dialogue) (desk : Desk) → Unseen desk → Unseen (on_success_in site.sip l remote d desk).desk
   success_unseen l remote None desk had =
@@ -149,7 +149,7 @@ module _ (site : Site) (own : CallNo) (before : Desk) where
       (rest_if said.invitation.cancelled _ _ had (adds_quiet site.sip own before desk _ [] refl had))
       (rest_if (nat_lt (status_of m.start) 300) _ _ (success_unseen taken remote (ended_before taken remote.tag) desk had) (final_acked_unseen key l.invitation m desk had))
 
-  -- the call waits on as before, and nothing is seen
+  -- the call waits as before, and nothing is observed
   pub record GoesOnWaiting (c : Call) (s : Step) : Type 0 where
     pub phase : s.call.phase ≡ c.phase
     pub attempts : s.call.attempts ≡ c.attempts

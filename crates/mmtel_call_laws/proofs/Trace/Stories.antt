@@ -1,4 +1,4 @@
--- Every story: what the call keeps of its attempt is what is seen of it.
+-- Every trace: what the call keeps of its attempt is what is observed of it.
 use Rattle.std.proofs.Common.{◌≡◌, ◌<◌, ◌≤◌, ◌+◌, ◌^◌, ◌-◌, ◌==◌, ◌||◌, ℕ, Bool, true, false, List, [], ◌∷◌, ◌++◌, length, drop, Option, Some, None, refl, ap, sym, subst, ◌∙◌, arith}
 use Rattle.std.proofs.lemmas.List.{drop_at}
 use Rattle.std.specs.Option.{option_map}
@@ -84,7 +84,7 @@ AtMost n deadline = number_of_deadline deadline.what ≤ n
 abbrev IsBelow : ℕ → Deadline → Type 0
 IsBelow n deadline = number_of_deadline deadline.what < n
 
--- ---- the call beside what is seen
+-- ---- the call beside what is observed
 
 pub record IsTied (bound : ℕ) (x : Trial) (c : Call) (last : Option ℕ) (w : Watch) : Type 0 where
   pub since : ℕ
@@ -109,7 +109,7 @@ Ties bound (Over cause) c last w = w.going ≡ None
 
 -- ---- marks
 
--- where the INVITE went out then, and it rang so before, what is watched after a step in which a response says that it rings, or not
+-- where the INVITE was sent then, and it rang as observed before, what is observed after a step in which a response means that it rings, or not
 rung_next : (number since now : ℕ) (time : Option ℕ) (rung : Option ℕ) (rings : Bool) (w : Watch) (peer : Peer) (uri branch : List ℕ) (early : Option (List ℕ)) →
     let seen : Option ℕ → Going = λ (after : Option ℕ).
     record { peer = peer; uri = uri; branch = branch; since = since; armed = deadlines_of number time since rung; rung = after; early = early } in
@@ -127,7 +127,7 @@ rang_next now None false = refl
 rang_next now None true = refl
 rang_next now (Some first) rings = refl
 
--- where the call came to, after attempts of which these deadlines went out
+-- where the call continued to, after attempts of which these deadlines were armed
 came_ties : (now bound room : ℕ) (p : Phase) (attempts : ℕ) (acks : AcksView) (last : Option ℕ) (c : Call) (w : Watch) (marks : List Mark) → Came now p attempts acks last room c marks → room ≤ bound + 1 → acks ≡ w.acks → w.going ≡ None → Each (AtMost attempts) w.earlier → attempts ≤ greatest →
     Ties bound p c last (on_marks now w marks)
 came_ties now bound room (Offered y) attempts acks last c w marks came enough same none earlier most =
@@ -159,7 +159,7 @@ seen_added sip own before after marks a = ap (λ out. marks_of sip own (drop (le
 
 -- ---- what ends an attempt
 
--- a deadline of the number of an attempt is of no other
+-- a deadline with the number of an attempt is of no other
 any_same : (number own since : ℕ) (time rung : Option ℕ) → is_armed number (deadlines_of own time since rung) ≡ (number == own)
 any_same number own since time None = by (number == own)
   where
@@ -211,7 +211,7 @@ module _ (x : Trial) (since : ℕ) (rung : Option ℕ) (same : x.attempt.rang �
   same_end c (signal.Due what) e = deadline_ends what ∙ ap (λ acks. end_by_deadline x acks what) (sym e)
   same_end c (signal.Ended key) e = refl
 
--- by what is seen
+-- by what is observed
 tied_end : (bound : ℕ) (x : Trial) (c d : Call) (key : TKey) (last : Option ℕ) (w : Watch) (heard : Signal) → c.opening.key ≡ key → c.acks ≡ d.acks → (t : IsTied bound x d last w) →
     ends_by key last (going_of x t.since t.rung) w.acks heard ≡ end_of_attempt x c heard
 tied_end bound x c d key last w heard own acks t =
@@ -220,13 +220,13 @@ tied_end bound x c d key last w heard own acks t =
 
 -- ---- one step
 
--- what is watched next, where this is on its way and this is its end
+-- what is observed next, where this is current and this is its end
 next_watched : (site : Site) (o : Opening) (now : ℕ) (w : Watch) (g : Going) (last : Option ℕ) (heard : Signal) (end : Option End) (marks : List Mark) → w.going ≡ Some g → ends_by o.key last g w.acks heard ≡ end →
     watched_next site o now w last heard marks ≡ on_marks now (after_hearing site o now w last g heard end) marks
 next_watched site o now w g last heard end marks e f =
     ap (λ going. watched_from site o now w going last heard marks) e ∙ ap (λ end. on_marks now (after_hearing site o now w last g heard end) marks) f
 
--- what is seen of a step
+-- what is observed of a step
 abbrev marks_by : Site → CallNo → (before : Desk) → Step → List Mark
 marks_by site own before s = marks_of site.sip own (added before.out s.desk.out)
 
@@ -348,7 +348,7 @@ next_tied law (Over cause) s x c last w own flown t =
     let new = next_step s x d in
     none_next x.now.at s.site.bound s.site (opening_in s) x.signal w last new.call (marks_by s.site s.arrival.number x.desk new) (ap is_offered (law.ended s.site x.now x.signal d x.desk refl (flown refl)).phase) t
 
--- ---- every story
+-- ---- every trace
 
 first_room : (bound received : ℕ) → 0 + (bound - received) < bound + 1
 first_room bound received = omega arith
@@ -356,7 +356,7 @@ first_room bound received = omega arith
 one_room : (n : ℕ) → n ≤ n
 one_room n = omega arith
 
--- as the INVITE came
+-- as the INVITE arrived
 abbrev nothing_so : Start → Watch
 nothing_so s = nothing_yet (number_of s.arrival.invite)
 

@@ -1,4 +1,4 @@
--- The Request-URI of the attempt is that of the last INVITE that is shown, and so that of the last target to which Outcome says that the call is offered.
+-- The Request-URI of the attempt is that of the last INVITE that is observed, and so that of the last target to which the call is offered according to Outcome.
 use Rattle.std.proofs.Common.{◌≡◌, ◌==◌, ℕ, Bool, true, false, List, [], ◌∷◌, ◌++◌, Option, Some, None, refl, ap, sym, subst, ◌∙◌, append_assoc, codes, nat_lt}
 use Rattle.std.proofs.lemmas.List.{append-nil}
 use Rattle.std.specs.Option.{option_map}
@@ -29,7 +29,7 @@ use Rattle.mmtel_call_laws.specs.Story.{Heard, Start, added, call_after, first_s
 use Rattle.mmtel_call_laws.specs.Trace.Laws.{AttemptsAreSeen, IsLastOf, IsSeen, TargetsAreSeen, last_in, no_reply_after, or_before, uri_in, uris_in}
 use Rattle.mmtel_call_laws.specs.Trace.Seen.{Armed, Deadline, Going, Invited, Mark, Watch, after_hearing, branch_of, ends_by, last_after_all, mark_of, mark_of_deadline, marks_first, marks_next, marks_of, nothing_yet, on_mark, on_marks, watch_after, watched_from, watched_next, with_armed}
 
--- ---- what is shown and what is marked have the same Request-URIs
+-- ---- the observed signs and the marks have the same Request-URIs
 
 abbrev uri_marked : Mark → List (List ℕ)
 uri_marked (Invited peer uri branch) = uri ∷ []
@@ -86,7 +86,7 @@ signs_append key (e ∷ xs) ys = ap (λ l. sign_of key e ++ l) (signs_append key
 
 -- ---- the last of them
 
--- that of a list, or else of the one before
+-- that of a list, or, if it is empty, of the one before
 last_append : (xs ys : List (List ℕ)) → last_in (xs ++ ys) ≡ or_before (last_in xs) (last_in ys)
 last_append [] ys = by (last_in ys)
   where
@@ -119,13 +119,13 @@ marks_uri now (Invited peer uri branch ∷ marks) w = marks_uri now marks (on_ma
 marks_uri now (Armed what at ∷ marks) w =
     marks_uri now marks (on_mark now w (Armed what at)) ∙ ap (λ o. or_before o (last_in (uris_marked marks))) (armed_uri (record { what = what; at = at }) w.going)
 
--- ---- every story
+-- ---- every trace
 
--- the Request-URIs that are shown so far
+-- the Request-URIs that are observed so far
 abbrev shown_so_far : Start → List Heard → List (List ℕ)
 shown_so_far s heard = uris_in (signs_of s.arrival.key (emits_while_offered s heard))
 
--- where one is on its way, that is the last one
+-- if there is a current attempt, it is the last one
 abbrev IsLast : List (List ℕ) → Option Going → Type 0
 IsLast uris o = (uri : List ℕ) → uri_going o ≡ Some uri → last_in uris ≡ Some uri
 

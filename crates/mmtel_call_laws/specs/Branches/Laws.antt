@@ -1,4 +1,4 @@
--- What is said of each step of a call: its INVITEs, PRACKs and UPDATEs were sent, each once.
+-- What is claimed of each step of a call: its INVITEs, PRACKs and UPDATEs were sent, each once.
 use Rattle.std.specs.Prelude.{◌≡◌, ◌<◌, ◌^◌, ℕ, List, ◌++◌}
 use Rattle.mmtel_call_decisions.specs.Site.{Site}
 use Rattle.mmtel_call_decisions.specs.declared.openings.Arrival.{Arrival}
@@ -19,11 +19,11 @@ use Rattle.mmtel_types.specs.declared.numbers.Peer.{Peer}
 use Rattle.mmtel_types.specs.declared.sides.Side.{Side}
 use Rattle.mmtel_call_laws.specs.Branches.Sent.{AreNumbered, CallWasSent, WasAsked, asks_in}
 
--- of a step that found these tokens drawn, after all that was asked before
+-- of a step before which these tokens were drawn and these requests were sent
 pub record SendsOnce (sip : Addr) (before : List (Peer × Message Start)) (tokens : Drawn) (s : Step) : Type 0 where
-  -- each INVITE of the call, and what is in flight, was sent to its peer, before or in this step
+  -- each INVITE of the call, and each request in flight, was sent to its peer, before or in this step
   pub call_in : CallWasSent (WasAsked sip (before ++ asks_in s.desk.out)) s.call
-  -- the INVITEs, PRACKs and UPDATEs that go out have numbers that were drawn in this step, each its own
+  -- the INVITEs, PRACKs and UPDATEs that are sent have numbers that were drawn in this step, each its own
   pub out_in : s.desk.tokens.drawn < 2 ^ 60 → AreNumbered sip tokens.token tokens.drawn s.desk.tokens.drawn s.desk.out
   pub text_in : s.desk.tokens.token ≡ tokens.token
 
@@ -35,7 +35,7 @@ abbrev pub OpeningsSendOnce : Type 0
 OpeningsSendOnce = (site : Site) (now : Standing) (arrival : Arrival) (before : List (Peer × Message Start)) (tokens : Drawn) →
     SendsOnce site.sip before tokens (opened site now arrival (fresh tokens))
 
--- of the end of a call whose leg is away
+-- of the end of a call whose leg is detached
 abbrev pub EndsSendOnce : Type 0
 EndsSendOnce = (site : Site) (at : ℕ) (c : Call) (before : List (Peer × Message Start)) (tokens : Drawn) →
     CallWasSent (WasAsked site.sip before) c → SendsOnce site.sip before tokens (finished site at c (fresh tokens))

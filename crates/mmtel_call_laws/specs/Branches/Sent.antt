@@ -1,4 +1,4 @@
--- Which requests whose answer is waited for were sent, and to whom; and that the INVITEs of a call, and its PRACKs and UPDATEs that are in flight, are of these (RFC 3261
+-- Which requests whose response is awaited were sent, and to whom; and that the INVITEs of a call, and its PRACKs and UPDATEs that are in flight, are among these (RFC 3261
 -- §8.1.1.7, §13.2.1, §17.1.3).
 use Rattle.std.specs.Prelude.{◌≡◌, ◌<◌, ◌≤◌, ◌⊎◌, ℕ, true, false, List, [], ◌∷◌, Option, codes}
 use Rattle.mmtel_call.specs.Answered.{leg_of}
@@ -29,9 +29,9 @@ use Rattle.mmtel_types.specs.declared.addrs.Addr.{Addr}
 use Rattle.mmtel_types.specs.declared.numbers.Peer.{Peer}
 pub use Rattle.mmtel_call_laws.specs.Heads.Emits.{Each}
 
--- ---- what is asked
+-- ---- which requests are sent
 
--- the server's request of this method and this branch, in a dialog
+-- a request of the server with this method and this branch, in a dialog
 pub record IsRequest (method : List ℕ) (sip : Addr) (branch : List ℕ) (m : Message Start) : Type 0 where
   pub dialogue : Dialogue
   pub number : ℕ
@@ -40,21 +40,21 @@ pub record IsRequest (method : List ℕ) (sip : Addr) (branch : List ℕ) (m : M
   pub from_there : given.sip ≡ sip
   pub has_it : given.branch ≡ branch
 
--- its INVITE of this branch
+-- an INVITE of the server with this branch
 abbrev pub IsInvite : Addr → (branch : List ℕ) → Message Start → Type 0
 IsInvite sip branch m = IsRequest (codes "INVITE") sip branch m
 
--- its INVITE, PRACK or UPDATE of this branch
+-- an INVITE, PRACK or UPDATE of the server with this branch
 pub record IsAwaited (sip : Addr) (branch : List ℕ) (m : Message Start) : Type 0 where
   pub method : List ℕ
   pub waited_for : is_awaited_method method ≡ true
   pub request : IsRequest method sip branch m
 
--- it is no such request, and answers none
+-- it is no such request, and no response to one
 abbrev pub IsNotAwaited : Message Start → Type 0
 IsNotAwaited m = (five : Option Five) → is_awaited_method (head_with m.start five).method ≡ false
 
--- what is asked of peers, of all that goes out
+-- the requests to peers, of everything that is sent
 abbrev pub asks_in : List Emit → List (Peer × Message Start)
 asks_in [] = []
 asks_in (emit.Ask peer m ∷ out) = (peer, m) ∷ asks_in out
@@ -65,16 +65,16 @@ asks_in (emit.Settled key own ∷ out) = asks_in out
 asks_in (emit.Arm call what at ∷ out) = asks_in out
 asks_in (emit.ArmSeat room seat what at ∷ out) = asks_in out
 
--- among what was asked is a request of this method and this branch, which went to this peer
+-- among the requests that were sent is one with this method and this branch, sent to this peer
 abbrev pub WasAsked : Addr → List (Peer × Message Start) → (method branch : List ℕ) → Peer → Type 0
 WasAsked sip [] method branch peer = ⊥
 WasAsked sip (ask ∷ asks) method branch peer = ((ask.0 ≡ peer) × IsRequest method sip branch ask.1) ⊎ WasAsked sip asks method branch peer
 
--- an INVITE
+-- the same for an INVITE
 abbrev pub WasSent : Addr → List (Peer × Message Start) → (branch : List ℕ) → Peer → Type 0
 WasSent sip asks branch peer = WasAsked sip asks (codes "INVITE") branch peer
 
--- ---- the INVITEs of a call, where this says which were sent
+-- ---- the INVITEs of a call, where the first parameter is which were sent
 
 abbrev pub InvitationWasSent : (List ℕ → Peer → Type 0) → Invitation → Type 0
 InvitationWasSent sent i = sent i.branch i.dialogue.peer
@@ -85,21 +85,21 @@ LooseWasSent sent l = InvitationWasSent sent l.invitation
 abbrev pub TakenWasSent : (List ℕ → Peer → Type 0) → Taken → Type 0
 TakenWasSent sent t = InvitationWasSent sent t.invitation
 
--- the one whose 2xx waits for an ACK went to the peer of the other leg; and so did the one that was relayed
+-- the INVITE whose 2xx waits for an ACK was sent to the peer of the other leg; so was the one that was relayed
 abbrev pub StageWasSent : (List ℕ → Peer → Type 0) → Pair → Stage → Type 0
 StageWasSent sent x (Answered waiting success) = sent success.branch (leg_of (other_of waiting) x).dialogue.peer
 StageWasSent sent x (Parting waiting success) = Unit {0}
 StageWasSent sent x Talking = Unit {0}
 StageWasSent sent x (Asking asking q) = InvitationWasSent sent q.invitation × sent q.invitation.branch (leg_of (other_of asking) x).dialogue.peer
 
--- that of an attempt went to the peer of its leg
+-- the INVITE of an attempt was sent to the peer of its leg
 abbrev pub PhaseWasSent : (List ℕ → Peer → Type 0) → Phase → Type 0
 PhaseWasSent sent (Offered x) = InvitationWasSent sent x.attempt.invitation × sent x.attempt.invitation.branch x.callee.leg.dialogue.peer
 PhaseWasSent sent (Stood x stage) = StageWasSent sent x stage
 PhaseWasSent sent (Lent loan) = Unit {0}
 PhaseWasSent sent (Over cause) = Unit {0}
 
--- ---- and what is in flight, where this says of each method which were sent
+-- ---- and the requests in flight, where the parameter is which were sent with each method
 
 abbrev pub method_of : FlightKind → List ℕ
 method_of Prack = codes "PRACK"
@@ -108,7 +108,7 @@ method_of Update = codes "UPDATE"
 abbrev pub FlightWasSent : ((method branch : List ℕ) → Peer → Type 0) → Flight → Type 0
 FlightWasSent asked flight = InvitationWasSent (asked (method_of flight.kind)) flight.asked.invitation
 
--- those that the call does not wait on
+-- those for which the call does not wait
 pub record OthersWereSent (asked : (method branch : List ℕ) → Peer → Type 0) (loose : List Loose) (taken : List Taken) (flights : List Flight) : Type 0 where
   pub loose_in : Each (LooseWasSent (asked (codes "INVITE"))) loose
   pub taken_in : Each (TakenWasSent (asked (codes "INVITE"))) taken
@@ -118,9 +118,9 @@ pub record CallWasSent (asked : (method branch : List ℕ) → Peer → Type 0) 
   pub phase_in : PhaseWasSent (asked (codes "INVITE")) c.phase
   pub others_in : OthersWereSent asked c.loose c.taken c.flights
 
--- ---- each that goes out has a number of its own
+-- ---- each that is sent has a number of its own
 
--- between these numbers: a request whose answer is waited for has the token of the greater one, and for all else they are equal
+-- between these numbers: a request whose response is awaited has the token of the greater one; for everything else they are equal
 abbrev pub IsNumbered : Addr → (token : List ℕ) → (low next : ℕ) → Emit → Type 0
 IsNumbered sip token low next (emit.Ask peer m) = ((low ≡ next) × IsNotAwaited m) ⊎ ((low < next) × IsAwaited sip (token_text token next) m)
 IsNumbered sip token low next (emit.Reply key m) = low ≡ next
@@ -130,7 +130,7 @@ IsNumbered sip token low next (emit.Settled key own) = low ≡ next
 IsNumbered sip token low next (emit.Arm call what at) = low ≡ next
 IsNumbered sip token low next (emit.ArmSeat room seat what at) = low ≡ next
 
--- the numbers of these requests rise, from above the lower of these numbers to the greater one
+-- the numbers of these requests rise, starting above the lower of these numbers, up to the greater one
 abbrev pub AreNumbered : Addr → (token : List ℕ) → (low high : ℕ) → List Emit → Type 0
 AreNumbered sip token low high [] = low ≤ high
 AreNumbered sip token low high (e ∷ out) = (next : ℕ) × IsNumbered sip token low next e × AreNumbered sip token next high out

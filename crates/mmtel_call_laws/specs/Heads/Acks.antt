@@ -1,4 +1,4 @@
--- The ACKs of a 2xx that a call passes on: which ACK was heard, in the dialog of the other side, and what is given to the one that goes out (RFC 3261 §13.2.2.4, §16.6).
+-- The ACKs of a 2xx that a call relays: which ACK was received, the dialog of the other side then, and the content of the ACK that is sent (RFC 3261 §13.2.2.4, §16.6).
 use Rattle.std.specs.Prelude.{◌≡◌, ◌⊎◌, Bool, List, [], ◌∷◌, ◌++◌}
 use Rattle.mmtel_answers.specs.Requests.{bare, relaying}
 use Rattle.mmtel_answers.specs.Said.{Said}
@@ -21,9 +21,9 @@ use Rattle.mmtel_trust.specs.declared.showing.Facing.{Facing}
 use Rattle.mmtel_types.specs.Sides.{other_of}
 use Rattle.mmtel_types.specs.declared.sides.Side.{Side}
 
--- ---- ACKs that were heard
+-- ---- ACKs that were received
 
--- an ACK that a side said, the dialog of the other side as it stood then, and what that side may see of it
+-- an ACK that a side sent, the dialog of the other side as it was then, and what that side may see of the ACK
 pub record Acked : Type 0 where
   pub ack : Said
   pub dialogue : Dialogue
@@ -38,7 +38,7 @@ acked_across site c x side ack = record {
   to_trusted = trusts site (leg_of (other_of side) x).dialogue.peer;
 }
 
--- while both sides stand
+-- while both sides are confirmed
 abbrev pub acked_in : Site → Phase → Call → Side → Said → List Acked
 acked_in site (Offered x) c side ack = []
 acked_in site (Stood x stage) c side ack = acked_across site c x side ack ∷ []
@@ -54,14 +54,15 @@ acked_by site (signal.Silent branch method) c = []
 acked_by site (signal.Due what) c = []
 acked_by site (signal.Ended key) c = []
 
--- those of a story
+-- those of a trace
 abbrev pub acked_after : Start → List Heard → List Acked
 acked_after s [] = []
 acked_after s (x ∷ earlier) = acked_by s.site x.signal (call_after s earlier) ++ acked_after s earlier
 
--- ---- what is given to an ACK of a 2xx
+-- ---- the content of an ACK of a 2xx
 
--- one of these ACKs goes on in its dialog: of its lines those that the header table shows, with entries of History-Info where such a message has them, its body, and one hop less
+-- one of these ACKs is relayed in its dialog: those of its header fields that the header table copies, with entries of History-Info if such a message has them, its body, and
+-- Max-Forwards reduced by one
 pub record PassesOn (acks : List Acked) (dialogue : Dialogue) (given : Given) : Type 0 where
   pub heard : Acked
   pub among : IsIn heard acks
@@ -69,6 +70,6 @@ pub record PassesOn (acks : List Acked) (dialogue : Dialogue) (given : Given) : 
   pub history : List Entry
   pub is : given ≡ relaying given.sip given.branch (shown_lines heard.facing heard.to_trusted history heard.ack.heard.start heard.ack.heard.lines) heard.ack.heard
 
--- or the server acknowledges by itself, and gives nothing
+-- or the server acknowledges by itself, without such content
 abbrev pub IsGivenTo : (acks : List Acked) → Dialogue → Given → Type 0
 IsGivenTo acks dialogue given = (given ≡ bare given.sip given.branch) ⊎ PassesOn acks dialogue given

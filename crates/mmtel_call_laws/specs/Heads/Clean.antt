@@ -1,5 +1,5 @@
--- Messages that are clean: their start line and their lines are one line each, so that the bytes of a message, parted at its line ends, are its own lines and nobody else's
--- (RFC 3261 §7, §25.1).
+-- Messages without injected lines: the start line and each header field are one line each, so that the bytes of a message, split at its line ends, are its own lines and nobody
+-- else's (RFC 3261 §7, §25.1). Such a message is called clean.
 use Rattle.std.specs.Prelude.{◌≡◌, true, ◌&&◌, ℕ, Bool, List, [], ◌∷◌, ◌++◌, codes, map}
 use Rattle.std.specs.List.{list_all}
 use Rattle.mmtel_message.specs.Headers.{is_value_byte}
@@ -9,7 +9,7 @@ use Rattle.mmtel_message.specs.Texts.{message_text, start_text}
 use Rattle.mmtel_message.specs.declared.messages.Start.{Start}
 use Rattle.mmtel_message.specs.declared.messages.Start.TheVariants.{Request, Status}
 
--- bytes of one line: none is 0, CR or LF
+-- bytes within one line: none is 0, CR or LF
 abbrev pub IsClean : List ℕ → Type 0
 IsClean s = list_all is_value_byte s ≡ true
 
@@ -20,25 +20,25 @@ is_clean_line l = list_all is_value_byte l.0 && list_all is_value_byte l.1
 abbrev pub AreCleanLines : List Line → Type 0
 AreCleanLines ls = list_all is_clean_line ls ≡ true
 
--- of each of these texts
+-- the same of each of these texts
 abbrev pub AreClean : List (List ℕ) → Type 0
 AreClean texts = list_all (list_all is_value_byte) texts ≡ true
 
--- of a method and a Request-URI, and of a phrase
+-- the same of a method and a Request-URI, and of a phrase
 abbrev pub IsCleanStart : Start → Type 0
 IsCleanStart (Request method uri) = IsClean method × IsClean uri
 IsCleanStart (Status code phrase) = IsClean phrase
 
--- a message whose start line and whose lines are clean; its body may be anything
+-- a message whose start line and header fields are clean; its body may be anything
 pub record IsCleanMessage (m : Message Start) : Type 0 where
   pub start_in : IsCleanStart m.start
   pub lines_in : AreCleanLines m.lines
 
--- a line as it stands in a text, without its end
+-- a header field as it is in a text, without its line end
 abbrev pub written_line : Line → List ℕ
 written_line l = l.0 ++ (codes ": " ++ l.1)
 
--- its text, parted at the line ends, is its start line, its lines, an empty line and its body, and nothing else
+-- its text, split at the line ends, is its start line, its header fields, an empty line and its body, and nothing else
 pub record HasOwnLines (m : Message Start) : Type 0 where
   pub parted : split (message_text m) ≡ start_text m.start ∷ (map written_line m.lines ++ [] ∷ split m.body)
   pub clean : AreClean (start_text m.start ∷ map written_line m.lines)

@@ -1,4 +1,4 @@
--- What goes out of a step, clean: each message, and each text, which is that of an ACK.
+-- What a step sends, without injected lines: each message, and each text, which is that of an ACK.
 use Rattle.std.specs.Prelude.{◌≡◌, ℕ, List, [], ◌∷◌}
 use Rattle.mmtel_desk.specs.declared.desks.Desk.{Desk}
 use Rattle.mmtel_leg.specs.Requests.{Given, ack_of}
@@ -9,13 +9,13 @@ use Rattle.mmtel_transaction.specs.declared.words.Emit.TheVariants as emit
 use Rattle.mmtel_call_laws.specs.Heads.Acks.{Acked, IsGivenTo}
 use Rattle.mmtel_call_laws.specs.Heads.Clean.{IsClean, IsCleanMessage}
 
--- it holds of each
+-- the predicate holds of each
 abbrev pub Each : {A : Type 0} → (A → Type 0) → List A → Type 0
 Each P [] = Unit {0}
 Each P (x ∷ xs) = P x × Each P xs
 
--- the text of an ACK in a dialog (RFC 3261 §13.2.2.4), which goes out by no transaction: it is that of a clean message, which was made of the dialog and of what it was given,
--- and that is nothing, or what goes on of one of these ACKs that were heard
+-- the text of an ACK in a dialog (RFC 3261 §13.2.2.4), which is sent without a transaction: it is that of a clean message, which was made from the dialog and from content that is
+-- nothing, or what is relayed of one of these ACKs that were received
 pub record IsTextOfAck (acks : List Acked) (text : List ℕ) : Type 0 where
   pub dialogue : Dialogue
   pub given : Given
@@ -32,7 +32,7 @@ IsCleanEmit acks (emit.Settled key own) = Unit {0}
 IsCleanEmit acks (emit.Arm call what at) = Unit {0}
 IsCleanEmit acks (emit.ArmSeat room seat what at) = Unit {0}
 
--- what tokens are drawn of, and what goes out
+-- the text of which tokens are drawn, and what is sent
 pub record AreCleanDone (acks : List Acked) (drawn_of : List ℕ) (out : List Emit) : Type 0 where
   pub token_in : IsClean drawn_of
   pub out_in : Each (IsCleanEmit acks) out

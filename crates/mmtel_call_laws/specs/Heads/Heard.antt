@@ -1,5 +1,5 @@
--- What a call is given: messages as the reader leaves them, and records and a directory whose URIs are clean. Each URI of the grammar has visible bytes alone (RFC 3261
--- §19.1.1, §25.1), which are clean.
+-- The input of a call: messages as the reader returns them, and records and a directory whose URIs are clean. Each URI of the grammar has visible bytes alone (RFC 3261 §19.1.1,
+-- §25.1), which are clean.
 use Rattle.std.specs.Prelude.{◌≡◌, true, ℕ, Bool, IfSome}
 use Rattle.std.specs.List.{list_all}
 use Rattle.mmtel_lex.specs.Grammar.{uri_text}
@@ -17,7 +17,7 @@ use Rattle.mmtel_trust.specs.Digest.{HeardMessage, heard}
 use Rattle.mmtel_answers.specs.Said.{phrase_in}
 use Rattle.mmtel_call_laws.specs.Heads.Clean.{AreCleanLines, IsClean}
 
--- what is heard of a message whose lines are clean, and its phrase where it has one, as those are of each message that was read
+-- what was read of a message whose header fields are clean, and whose phrase is clean if it has one, as is so for each message that was read
 pub record IsOfClean (m : HeardMessage) : Type 0 where
   pub trusted : Bool
   pub message : Message Start
@@ -33,7 +33,7 @@ is_clean_uri uri = list_all is_value_byte (uri_text uri)
 abbrev pub IsCleanUri : Uri → Type 0
 IsCleanUri uri = IsClean (uri_text uri)
 
--- where a rule forwards to
+-- the URI to which a rule forwards
 abbrev pub is_clean_action : Action → Bool
 is_clean_action (Forward forward) = is_clean_uri forward.target
 is_clean_action (Allow allowed) = true
@@ -48,6 +48,6 @@ AreCleanRules part = list_all is_clean_rule part.rules ≡ true
 abbrev pub IsCleanSheet : Sheet → Type 0
 IsCleanSheet sheet = IfSome sheet.diversion AreCleanRules
 
--- all records, as they stand
+-- all records, as they currently are
 abbrev pub AreCleanSheets : Standing → Type 0
 AreCleanSheets now = (number : ℕ) → IfSome (now.sheets number) IsCleanSheet

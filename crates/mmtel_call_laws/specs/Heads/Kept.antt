@@ -1,4 +1,4 @@
--- What a call keeps and is given, of clean texts alone: dialogs, entries of History-Info, and what messages are built of.
+-- What a call keeps and gets as input, of clean texts alone: dialogs, entries of History-Info, and the content of messages.
 use Rattle.std.specs.Prelude.{◌≡◌, true, ◌&&◌, ℕ, Bool, List}
 use Rattle.std.specs.List.{list_all}
 use Rattle.mmtel_history.specs.declared.entries.Entry.{Entry}
@@ -20,7 +20,7 @@ AreCleanEntries h = list_all is_clean_entry h ≡ true
 
 -- ---- dialogs
 
--- what of a dialog stands in its requests
+-- the values of a dialog that are in its requests
 pub record AreCleanParts (call_id local remote remote_tag target : List ℕ) (routes : List (List ℕ)) : Type 0 where
   pub call_id_in : IsClean call_id
   pub local_in : IsClean local
@@ -32,19 +32,19 @@ pub record AreCleanParts (call_id local remote remote_tag target : List ℕ) (ro
 abbrev pub IsCleanDialogue : Dialogue → Type 0
 IsCleanDialogue d = AreCleanParts d.call_id d.local d.remote d.remote_tag d.target d.routes
 
--- that of a leg that is taken out of a call, with the server's tag in it
+-- the same for a leg that is detached from a call, with the server's tag in it
 pub record IsCleanLeg (leg : Released) : Type 0 where
   pub dialog : IsCleanDialogue (released_leg leg).dialogue
   pub tag : IsClean (released_leg leg).dialogue.local_tag
 
--- ---- what messages are built of
+-- ---- the content of messages
 
 -- of a request, beside its dialog
 pub record IsCleanGiven (given : Given) : Type 0 where
   pub branch_in : IsClean given.branch
   pub shown_in : AreCleanLines given.shown
 
--- of a response, beside the lines of its request
+-- of a response, beside the header fields of its request
 pub record IsCleanReply (r : Reply) : Type 0 where
   pub phrase_in : IsClean r.phrase
   pub tag_in : IsClean r.tag

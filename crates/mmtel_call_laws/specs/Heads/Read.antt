@@ -1,4 +1,4 @@
--- What is clean of a message that was read: each that `read` gives is canonical.
+-- What is clean in a message that was read: each that `read` returns is canonical.
 use Rattle.std.specs.Prelude.{◌≡◌, ℕ, List, Ok}
 use Rattle.mmtel_answers.specs.Said.{phrase_in}
 use Rattle.mmtel_lex.specs.Reading.{uri_of}
@@ -10,7 +10,7 @@ use Rattle.mmtel_call_laws.specs.Heads.Clean.{AreCleanLines, IsClean}
 use Rattle.mmtel_call_laws.specs.Heads.Heard.{IsCleanUri}
 
 pub record IsReadClean : Type 0 where
-  -- its lines, and its phrase where it has one
+  -- its header fields, and its phrase if it has one
   pub lines : (m : Message Start) → IsCanonical m → AreCleanLines m.lines
   pub phrase : (m : Message Start) → IsCanonical m → IsClean (phrase_in m.start)
   -- a Request-URI of the grammar, and each URI that was read, as it is printed

@@ -1,4 +1,4 @@
--- What is said of every story of a call: where it is given clean messages, and records and a directory whose URIs are clean, each message that goes out is clean.
+-- What is claimed of every trace of a call: if its input is clean messages, and records and a directory whose URIs are clean, each message that is sent is clean.
 use Rattle.std.specs.Prelude.{◌≡◌, ℕ, List, [], ◌∷◌}
 use Rattle.mmtel_desk.specs.declared.desks.Desk.{Desk}
 use Rattle.mmtel_leg.specs.Dialogues.{request_uri}
@@ -18,9 +18,9 @@ use Rattle.mmtel_call_laws.specs.Heads.Clean.{HasOwnLines, IsClean}
 use Rattle.mmtel_call_laws.specs.Heads.Emits.{Each, IsCleanDesk, IsCleanEmit}
 use Rattle.mmtel_call_laws.specs.Heads.Heard.{AreCleanSheets, IsOfClean}
 
--- ---- what a step is given
+-- ---- the input of a step
 
--- each message that is heard is of a clean one
+-- each message that is received was read from a clean one
 abbrev pub IsCleanSignal : Signal → Type 0
 IsCleanSignal (signal.Request side key request) = IsOfClean request.heard
 IsCleanSignal (signal.Ack side ack) = IsOfClean ack.heard
@@ -30,7 +30,7 @@ IsCleanSignal (signal.Silent branch method) = Unit {0}
 IsCleanSignal (signal.Due what) = Unit {0}
 IsCleanSignal (signal.Ended key) = Unit {0}
 
--- as the call opens: the home domain, the records as they stand, the INVITE with its Request-URI, and the desk
+-- as the call opens: the home domain, the current records, the INVITE with its Request-URI, and the output before
 pub record IsCleanStart (acks : List Acked) (s : Start) : Type 0 where
   pub home : IsClean s.site.home
   pub sheets : AreCleanSheets s.now
@@ -44,7 +44,7 @@ pub record IsCleanHeard (acks : List Acked) (x : Heard) : Type 0 where
   pub signal : IsCleanSignal x.signal
   pub desk : IsCleanDesk acks x.desk
 
--- ---- what goes out of the last step of a story, as the desk has it
+-- ---- what the last step of a trace sends, as it is in the output
 
 abbrev pub desk_after : Start → List Heard → Desk
 desk_after s [] = (first_step s).desk
@@ -54,12 +54,12 @@ desk_after s (x ∷ earlier) = (next_step s x (call_after s earlier)).desk
 abbrev pub AreAmong : (some acks : List Acked) → Type 0
 AreAmong some acks = Each (λ (acked : Acked). IsIn acked acks) some
 
--- each message of it is clean, whatever came before; and of an ACK of a 2xx no lines go out but those that are shown of an ACK that the call heard on the other side
+-- each message of it is clean, whatever happened before; and an ACK of a 2xx has no header fields but those that are copied from an ACK that the call received on the other side
 abbrev pub EmitsAreClean : Type 0
 EmitsAreClean = (acks : List Acked) (s : Start) (heard : List Heard) → IsCleanStart acks s → Each (IsCleanHeard acks) heard → AreAmong (acked_after s heard) acks →
     Each (IsCleanEmit acks) (desk_after s heard).out
 
--- and so is what goes out where a leg is taken out of the call then, and the call ends without it
+-- and so is what is sent where a leg is detached from the call then, and the call ends without it
 abbrev pub FinishedEmitsAreClean : Type 0
 FinishedEmitsAreClean = (acks : List Acked) (s : Start) (heard : List Heard) (side : Side) (at : ℕ) (desk : Desk) → IsCleanStart acks s → Each (IsCleanHeard acks) heard →
     AreAmong (acked_after s heard) acks → IsCleanDesk acks desk →

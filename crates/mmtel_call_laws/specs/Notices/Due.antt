@@ -1,4 +1,4 @@
--- The 181s that the caller has: what is seen of what goes out, and what is due of the diversions that led to targets (TS 24.604 §4.5.2.6, RFC 7044 §7).
+-- The 181s that the caller gets: those observed in what is sent, and those due for the diversions that led to targets (TS 24.604 §4.5.2.6, RFC 7044 §7).
 use Rattle.std.specs.Prelude.{◌==◌, ◌&&◌, not, Bool, false, if◌then◌else◌, List, [], ◌∷◌, ◌++◌, Option, Some, None, drop}
 use Rattle.mmtel_answers.specs.Answers.{own_answer}
 use Rattle.mmtel_answers.specs.Said.{status_of}
@@ -23,9 +23,9 @@ use Rattle.mmtel_call.specs.declared.signals.Signal.{Signal}
 use Rattle.mmtel_call.specs.declared.signals.Signal.TheVariants as signal
 use Rattle.mmtel_call_laws.specs.Story.{Heard, Start, added, call_after, first_step, next_step}
 
--- ---- what is seen of what goes out
+-- ---- what is observed in what is sent
 
--- a 181 to the INVITE that opened the call, which is of this server transaction
+-- a 181 to the INVITE that opened the call, whose server transaction is this one
 abbrev pub notice_in : (key : TKey) → Emit → List (Message StartLine)
 notice_in key (emit.Ask peer m) = []
 notice_in key (emit.Reply asked m) = if asked.0 == key.0 && status_of m.start == 181 then m ∷ [] else []
@@ -39,7 +39,7 @@ abbrev pub notices_in : (key : TKey) → List Emit → List (Message StartLine)
 notices_in key [] = []
 notices_in key (e ∷ later) = notice_in key e ++ notices_in key later
 
--- a 181 of a target, which the caller has too
+-- a 181 of a target, which is relayed to the caller too
 abbrev pub is_notice : Signal → Bool
 is_notice (signal.Request side key request) = false
 is_notice (signal.Ack side ack) = false
@@ -49,27 +49,27 @@ is_notice (signal.Silent branch method) = false
 is_notice (signal.Due what) = false
 is_notice (signal.Ended key) = false
 
--- the server's own: where a target's was heard, all but the first, which is that one
+-- the server's own: where a target's 181 was received, all but the first, which is that one
 abbrev pub but_passed : (passed : Bool) → List (Message StartLine) → List (Message StartLine)
 but_passed passed notices = if passed then drop 1 notices else notices
 
--- of a step in which this was heard
+-- of a step in which this was received
 abbrev pub own_notices : Start → Heard → List Emit → List (Message StartLine)
 own_notices s x out = but_passed (is_notice x.signal) (notices_in s.arrival.key out)
 
--- the server's own as the call opened, and in each step; in order
+-- the server's own as the call opened, and in each step, in order
 unfoldable pub notices_after : Start → List Heard → List (Message StartLine)
 notices_after s [] = notices_in s.arrival.key (added s.desk.out (first_step s).desk.out)
 notices_after s (x ∷ earlier) = notices_after s earlier ++ own_notices s x (added x.desk.out (next_step s x (call_after s earlier)).desk.out)
 
--- ---- what is due of the diversions that led to targets
+-- ---- what is due for the diversions that led to targets
 
--- History-Info once the call came to a target: a diversion that led there has its entry, and hides the one before it from the target where its forward says so
+-- History-Info after the call reached a target: a diversion that led there has its entry, and hides the one before it from the target if its forward requires that
 abbrev pub history_at : Opening → List Entry → Option DueDiversion → Uri → List Entry
 history_at o history None uri = history
 history_at o history (Some due) uri = appended history (request_uri o.invite.heard.start) (uri_text uri) due.cause (not due.forward.reveal_to_target)
 
--- once it came to all of them
+-- after it reached all of them
 abbrev pub history_over : Opening → List Entry → List Target → List Entry
 history_over o history [] = history
 history_over o history (target ∷ later) = history_over o (history_at o history target.by target.uri) later
@@ -78,7 +78,8 @@ history_over o history (target ∷ later) = history_over o (history_at o history
 abbrev pub notice : Site → Opening → (told : List Entry) → Message StartLine
 notice site o told = own_answer (contact_text site.sip) o.invite o.tag 181 (history_lines (masks_all o) (trusts site o.invite.peer) told) [] []
 
--- that of a diversion after which History-Info is this: the caller is told of it where the forward says so, and of the user that diverts and of the target as it says
+-- that of a diversion after which History-Info is this: the caller is notified if the forward requires that, and the user that diverts and the target are hidden as the forward
+-- says
 abbrev pub notice_due : Site → Opening → List Entry → Option DueDiversion → List (Message StartLine)
 notice_due site o history None = []
 notice_due site o history (Some due) =

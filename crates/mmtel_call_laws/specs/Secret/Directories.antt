@@ -1,5 +1,5 @@
--- Two configurations that are equal but for the URIs of accounts. Of these URIs a call sees the answers alone where it looks an account up: at its Request-URI, at the targets
--- to which records divert it, and at those to which responses redirect it (TS 24.604 §4.5.2.6, RFC 3261 §21.3).
+-- Two configurations that are equal but for the URIs of accounts. Of these URIs a call sees only the results of its account look-ups: at its Request-URI, at the targets to which
+-- records divert it, and at those to which responses redirect it (TS 24.604 §4.5.2.6, RFC 3261 §21.3).
 use Rattle.std.specs.Prelude.{◌≡◌, ℕ, Bool, true, Option, Some, None, List, [], ◌∷◌, slice_get}
 use Rattle.std.specs.Option.{unwrap_or}
 use Rattle.mmtel_answers.specs.Said.{Said}
@@ -50,22 +50,22 @@ pub record EqualButForAccounts (one other : Site) : Type 0 where
 
 -- ---- look-ups
 
--- this URI is of the same account in both, or of none
+-- this URI belongs to the same account in both, or to none
 abbrev pub LooksUpAlike : (one other : Site) → Uri → Type 0
 LooksUpAlike one other uri = account_of one.accounts uri ≡ account_of other.accounts uri
 
--- so is the target of a call that is diverted to it
+-- the same for the target of a call that is diverted to it
 abbrev pub LeadsAlike : (one other : Site) → Uri → Type 0
 LeadsAlike one other uri = LooksUpAlike one other (new_target one.home uri)
 
--- a rule of the record diverts calls so
+-- a rule of the record has this forward
 pub record Forwards (sheet : Sheet) (forward : Forward) : Type 0 where
   pub place : ℕ
   pub rule : Rule
   pub stands : slice_get (diversion_rules sheet.diversion) place ≡ Some rule
   pub does : forward_of rule.action ≡ Some forward
 
--- the targets to which these records divert calls are looked up alike
+-- the targets to which these records divert calls have the same look-up results
 abbrev pub RecordsLeadAlike : (records : List Sheet) → (one other : Site) → Type 0
 RecordsLeadAlike records one other = (sheet : Sheet) → IsAmong records sheet → (forward : Forward) → Forwards sheet forward → LeadsAlike one other forward.target
 
@@ -73,7 +73,7 @@ RecordsLeadAlike records one other = (sheet : Sheet) → IsAmong records sheet �
 abbrev pub RedirectsAlike : (one other : Site) → Said → Type 0
 RedirectsAlike one other m = (uri : Uri) → redirect_of m ≡ Some uri → LeadsAlike one other uri
 
--- what is private of a response is looked up by nobody: of one with this role that to which it redirects without it
+-- what is private in a response is never looked up: for one with this role, the target to which it redirects without its private places
 abbrev pub SignalsAlike : (one other : Site) → Role → Signal → Type 0
 SignalsAlike one other role (signal.Request side key request) = Unit {0}
 SignalsAlike one other role (signal.Ack side ack) = Unit {0}
@@ -83,7 +83,7 @@ SignalsAlike one other role (signal.Silent branch method) = Unit {0}
 SignalsAlike one other role (signal.Due what) = Unit {0}
 SignalsAlike one other role (signal.Ended key) = Unit {0}
 
--- by the call: only while it is offered a response to the INVITE that it waits on redirects it
+-- by the call: only while it is offered does a response to the INVITE for which it waits redirect it
 abbrev pub PhaseLeads : Phase → (one other : Site) → Said → Type 0
 PhaseLeads (Offered x) one other m = RedirectsAlike one other m
 PhaseLeads (Stood x stage) one other m = Unit {0}
@@ -110,14 +110,14 @@ requested invite = unwrap_or (first_target (request_uri invite.heard.start)) now
 abbrev pub ArrivesAlike : (one other : Site) → Arrival → Type 0
 ArrivesAlike one other a = LooksUpAlike one other (requested a.invite).uri
 
--- one configuration does all this with itself
+-- all this holds for one configuration and itself
 pub record OneIsAlike : Type 0 where
   pub equal : (site : Site) → EqualButForAccounts site site
   pub lead : (records : List Sheet) (site : Site) → RecordsLeadAlike records site site
   pub signals : (site : Site) (role : Role) (x : Signal) → SignalsAlike site site role x
   pub arrives : (site : Site) (a : Arrival) → ArrivesAlike site site a
 
--- ---- of the URIs of accounts a call sees the answers to its look-ups alone
+-- ---- of the URIs of accounts a call sees the results of its look-ups alone
 
 abbrev pub StepsSeeLookUpsAlone : Type 0
 StepsSeeLookUpsAlone = (records : List Sheet) (one other : Site) (now : Standing) (x : Signal) (c : Call) (desk : Desk) →
@@ -129,11 +129,11 @@ OpeningsSeeLookUpsAlone = (records : List Sheet) (one other : Site) (now : Stand
     EqualButForAccounts one other → RecordsLeadAlike records one other → AreAsked records now → ArrivesAlike one other a →
     opened one now a desk ≡ opened other now a desk
 
--- the end of a call of which a leg is away looks up none
+-- the end of a call of which a leg is detached looks up none
 abbrev pub EndsLookUpNone : Type 0
 EndsLookUpNone = (one other : Site) (at : ℕ) (c : Call) (desk : Desk) → EqualButForAccounts one other → finished one at c desk ≡ finished other at c desk
 
--- ---- so two calls that are alike go on alike, each under its configuration
+-- ---- so two indistinguishable calls continue indistinguishably, each under its configuration
 
 abbrev pub StepsKeepAlikeInBoth : Type 0
 StepsKeepAlikeInBoth = (records : List Sheet) (site far : Site) (keys : TKey → Bool) (now : Standing) (x y : Signal) (role second : Role) (c d : Call) (one other : Desk) →
@@ -142,7 +142,7 @@ StepsKeepAlikeInBoth = (records : List Sheet) (site far : Site) (keys : TKey →
     IsHeard records (trust_of site keys) x role c → IsHeard records (trust_of site keys) y second d → AlikeDesks (trust_of site keys) one other →
     AlikeSteps (trust_of site keys) (step site now x c one) (step far now y d other)
 
--- and stay alike calls
+-- and remain indistinguishable
 abbrev pub CallsStayAlikeInBoth : Type 0
 CallsStayAlikeInBoth = (records : List Sheet) (site far : Site) (keys : TKey → Bool) (now : Standing) (x y : Signal) (role second : Role) (c d : Call) (one other : Desk) →
     EqualButForAccounts site far → RecordsLeadAlike records site far → SignalsAlike site far second y →
@@ -150,7 +150,7 @@ CallsStayAlikeInBoth = (records : List Sheet) (site far : Site) (keys : TKey →
     IsHeard records (trust_of site keys) x role c → IsHeard records (trust_of site keys) y second d → AlikeDesks (trust_of site keys) one other →
     AlikeCalls records (trusts site) (step site now x c one).call (step far now y d other).call
 
--- two INVITEs that are the same but for private places open calls that are alike, and the same is seen of it
+-- two INVITEs that are the same but for private places open indistinguishable calls, with the same observable output
 abbrev pub OpeningsKeepAlikeInBoth : Type 0
 OpeningsKeepAlikeInBoth = (records : List Sheet) (site far : Site) (keys : TKey → Bool) (now : Standing) (a b : Arrival) (one other : Desk) →
     EqualButForAccounts site far → RecordsLeadAlike records site far → ArrivesAlike site far b →
@@ -158,7 +158,7 @@ OpeningsKeepAlikeInBoth = (records : List Sheet) (site far : Site) (keys : TKey 
     public_arrival now nobody a ≡ public_arrival now nobody b → AlikeDesks (trust_of site keys) one other →
     AlikeSteps (trust_of site keys) (opened site now a one) (opened far now b other) × AlikeCalls records (trusts site) (opened site now a one).call (opened far now b other).call
 
--- through every two stories, each under its configuration, alike calls stay alike, and each step is seen alike
+-- through every two traces, each under its configuration, indistinguishable calls remain so, and each step has the same observable output
 abbrev pub HearAlikeInBoth : (records : List Sheet) → (site far : Site) → (keys : TKey → Bool) → Both → Call → Call → Type 0
 HearAlikeInBoth records site far keys both c d = HearAlike records site keys both c d × SignalsAlike site far both.other.role both.other.signal
 

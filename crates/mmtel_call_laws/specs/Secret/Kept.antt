@@ -1,5 +1,5 @@
--- What holds of a call that stands in a table: how it opened, and the requests of a side that wait for their answers, were asked by their own peers; and the account that is
--- served where it is offered has one of these records. A call keeps this, whatever it hears.
+-- An invariant of a call in a table: the INVITE that opened it, and the requests of a side that await their responses, were sent by their own peers; and the account that is served
+-- where it is offered has one of these records. It holds after whatever the call receives.
 use Rattle.std.specs.Prelude.{ℕ, List}
 use Rattle.mmtel_desk.specs.declared.desks.Desk.{Desk}
 use Rattle.mmtel_leg.specs.declared.legs.Released.{Released}
@@ -23,7 +23,7 @@ pub record IsKept (records : List Sheet) (t : Trust) (c : Call) : Type 0 where
   pub kept : requests_are_asked t c
   pub served : ServedIn c.phase records
 
--- a request that is heard is asked by its own peer
+-- a request that is received was sent by its own peer
 abbrev pub AsksWell : Trust → Signal → Type 0
 AsksWell t (signal.Request side key m) = IsAsked t key m
 AsksWell t (signal.Ack side ack) = Unit {0}
@@ -38,7 +38,7 @@ pub record CallsKeep : Type 0 where
       IsKept records t c → IsKept records t (step site now x c desk).call
   pub openings : (records : List Sheet) (t : Trust) (site : Site) (now : Standing) (a : Arrival) (desk : Desk) → AreAsked records now → IsAsked t a.key a.invite →
       IsKept records t (opened site now a desk).call
-  -- a leg is taken out or put back, or the call ends without it
+  -- a leg is detached or put back, or the call ends without it
   pub out : (records : List Sheet) (t : Trust) (side : Side) (c : Call) → IsKept records t c → IsKept records t (lent_in c.phase side c)
   pub back : (records : List Sheet) (t : Trust) (leg : Released) (c : Call) → IsKept records t c → IsKept records t (put_back_in c.phase leg c)
   pub ended : (records : List Sheet) (t : Trust) (site : Site) (at : ℕ) (c : Call) (desk : Desk) → IsKept records t c → IsKept records t (finished site at c desk).call

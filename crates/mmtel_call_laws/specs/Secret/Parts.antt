@@ -1,7 +1,7 @@
--- The public part of a call: what of it rests on no private place. All that may be private has a place of its own in the structs of a call, and the public part has these
--- places blank.
--- Of what is said to a peer who is trusted, or is heard from one, it leaves out the texts: nobody else is told these, and they decide nothing. Who the caller is stands
--- apart, since it is asked.
+-- The public part of a call: what of it depends on no private place. Everything that may be private has a place of its own in the structs of a call, and in the public part these
+-- places are blank.
+-- Of what is sent to a trusted peer, or received from one, it omits the texts: nobody else gets these, and they decide nothing. The identity of the caller is treated separately,
+-- because decisions use it.
 use Rattle.std.specs.Option.{option_map}
 use Rattle.std.specs.Prelude.{ℕ, Bool, true, List, None, map}
 use Rattle.mmtel_answers.specs.Said.{Said}
@@ -39,7 +39,7 @@ use Rattle.mmtel_call_laws.specs.Secret.Roles.{hidden_by, opening_role, without_
 
 -- ---- a dialog
 
--- its other side is named in To of what is asked of a caller, as the caller named itself; a callee is named as it was called
+-- its other side is in the To of requests to a caller, as the caller named itself; a callee is named by the URI that was called
 abbrev pub public_remote : (trusted : Bool) → Side → List ℕ → List ℕ
 public_remote trusted Caller name = hide_if trusted name
 public_remote trusted Callee name = name
@@ -60,7 +60,7 @@ public_released trusts (released.Callee leg) = released.Callee (public_leg trust
 
 -- ---- INVITEs that were sent
 
--- what their callee said of itself in an early dialog
+-- the remote side of an early dialog
 abbrev pub public_said : (trusted : Bool) → Remote → Remote
 public_said trusted r = record r { target = blank_if trusted r.target }
 
@@ -78,9 +78,9 @@ public_loose trusts l = record l { invitation = public_invitation trusts l.invit
 abbrev pub public_taken : (Peer → Bool) → Taken → Taken
 public_taken trusts t = record t { invitation = public_invitation trusts t.invitation }
 
--- ---- a request that waits for its answer
+-- ---- a request that awaits its response
 
--- it is kept to be answered alone
+-- it is kept only to be responded to
 abbrev pub everything : Places
 everything = record { from = true; to = true; contact = true; redirect = true; served = true; asserted = true; personal = true; history = AllEntries }
 
@@ -143,10 +143,10 @@ public_call trusts who c = record c {
   phase = public_phase trusts c.phase;
 }
 
--- nobody
+-- no identity at all
 abbrev pub nobody : Identities2
 nobody = record { sip = None; tel = None }
 
--- and with nobody's: the public part
+-- with that in the place of the caller's identities: the public part
 abbrev pub public_part : (Peer → Bool) → Call → Call
 public_part trusts c = public_call trusts nobody c

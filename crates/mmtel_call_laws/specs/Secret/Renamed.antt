@@ -1,4 +1,4 @@
--- Accounts that another configuration names otherwise. Whoever looks up a URI that names none of these passes over them, so the answer is that of the other accounts.
+-- Accounts that have other URIs in another configuration. A look-up of a URI that names none of these ignores them, so its result is that of the other accounts.
 use Rattle.std.specs.Prelude.{◌≡◌, ◌==◌, ◌&&◌, Bool, true, not, List, [], filter}
 use Rattle.std.specs.List.{list_any}
 use Rattle.mmtel_lex.specs.declared.values.Uri.{Uri}
@@ -18,15 +18,15 @@ but renamed es = filter (λ (e : AccountIdentity). not (is_theirs renamed e)) es
 abbrev pub names_none : (renamed : List Account) → List AccountIdentity → Uri → Bool
 names_none renamed es u = not (list_any (λ (e : AccountIdentity). is_theirs renamed e && is_of u e) es)
 
--- such a URI is of an account exactly where it is one of the others, and of the same
+-- such a URI belongs to an account exactly if it belongs to one of the others, and to the same one
 abbrev pub LookUpsPassOver : Type 0
 LookUpsPassOver = (renamed : List Account) (es : List AccountIdentity) (u : Uri) → names_none renamed es u ≡ true → account_of es u ≡ account_of (but renamed es) u
 
--- so it is of the same account in any two configurations that differ in these accounts alone, or of none
+-- so it belongs to the same account in any two configurations that differ in these accounts alone, or to none
 abbrev pub LookUpsAgree : Type 0
 LookUpsAgree = (renamed : List Account) (es others : List AccountIdentity) (u : Uri) → but renamed es ≡ but renamed others → names_none renamed es u ≡ true →
     names_none renamed others u ≡ true → account_of es u ≡ account_of others u
 
--- without renamed accounts nothing is passed over
+-- without renamed accounts nothing is ignored
 abbrev pub NoneAreNamed : Type 0
 NoneAreNamed = (es : List AccountIdentity) (u : Uri) → names_none [] es u ≡ true

@@ -1,5 +1,5 @@
--- What each row of the step table sees of a call and of a message: their public parts alone. With these in the place of the call and of the message, and on a desk of which
--- the same is seen, it leaves a call of the same public part, and the same is seen of what it brings forth.
+-- What each transition of the step table uses of a call and of a message: their public parts alone. With these in the place of the call and of the message, and with the same
+-- observable output before, the call afterwards has the same public part, and the observable output is the same.
 use Rattle.std.specs.Prelude.{◌≡◌, ℕ, Bool, false, if◌then◌else◌, nat_lt, Option, Some, List}
 use Rattle.std.specs.Option.{option_map}
 use Rattle.mmtel_answers.specs.Said.{Said}
@@ -32,7 +32,7 @@ use Rattle.mmtel_call_laws.specs.Secret.Seen.{AlikeDesks, AlikeSteps, trust_of}
 
 -- ---- while it is offered (RFC 3261 §9.2, §12.2.2, §15.1.2)
 
--- a request of a side: BYE of the caller gives up; a PRACK of it, and an UPDATE, go across; others are answered
+-- a request of a side: BYE of the caller abandons the call; its PRACK, and an UPDATE, are relayed; the server itself responds to others
 abbrev pub RequestsWhileOffered : Type 0
 RequestsWhileOffered = (site : Site) (keys : TKey →
     Bool) (who : Identities2) (at : ℕ) (x : Trial) (side : Side) (key : TKey) (role : Role) (m : Said) (c : Call) (one other : Desk) →
@@ -51,7 +51,7 @@ CancelsWhileOffered = (site : Site) (keys : TKey →
 
 -- ---- once it is answered (§13.3.1.4, §14, §15)
 
--- a request of a side: BYE leaves, at each stage; an INVITE and an UPDATE go across; others are answered
+-- a request of a side: BYE leaves, at each stage; an INVITE and an UPDATE are relayed; the server itself responds to others
 abbrev pub RequestsOnceAnswered : Type 0
 RequestsOnceAnswered = (stage : Stage) (site : Site) (keys : TKey →
     Bool) (who : Identities2) (at : ℕ) (x : Pair) (side : Side) (key : TKey) (role : Role) (m : Said) (c : Call) (one other : Desk) →
@@ -60,14 +60,14 @@ RequestsOnceAnswered = (stage : Stage) (site : Site) (keys : TKey →
     (on_request_at (public_stage (trusts site) stage) site at (public_pair (trusts site) x) side key (without_private role m) (public_call (trusts site) who c) one)
     (on_request_at stage site at x side key m c other)
 
--- CANCEL of the INVITE that a side asked
+-- CANCEL of the INVITE that a side sent
 abbrev pub CancelsOnceAnswered : Type 0
 CancelsOnceAnswered = (stage : Stage) (site : Site) (keys : TKey → Bool) (who : Identities2) (x : Pair) (invite : TKey) (c : Call) (one other : Desk) →
     AlikeDesks (trust_of site keys) one other →
     AlikeSteps (trust_of site keys) (on_cancel_at (public_stage (trusts site) stage) site (public_pair (trusts site) x) invite (public_call (trusts site) who c) one)
     (on_cancel_at stage site x invite c other)
 
--- the other side's response to that INVITE, and its silence
+-- the other side's response to that INVITE, and its timeout
 abbrev pub AnswersAcross : Type 0
 AnswersAcross = (asking : Side) (q : Reinvite) (site : Site) (keys : TKey →
     Bool) (who : Identities2) (at : ℕ) (x : Pair) (key : TKey) (role : Role) (m : Said) (c : Call) (one other : Desk) →
@@ -83,16 +83,16 @@ SilenceOnceAnswered = (stage : Stage) (site : Site) (keys : TKey → Bool) (who 
     AlikeSteps (trust_of site keys) (on_silence_at (public_stage (trusts site) stage) site at (public_pair (trusts site) x) (public_call (trusts site) who c) one)
     (on_silence_at stage site at x c other)
 
--- a 2xx that had no ACK, and a session that nobody refreshed
+-- a 2xx that got no ACK, and a session that nobody refreshed
 abbrev pub DeadlinesOnceAnswered : Type 0
 DeadlinesOnceAnswered = (stage : Stage) (site : Site) (keys : TKey → Bool) (who : Identities2) (at : ℕ) (x : Pair) (what : DueWord) (c : Call) (one other : Desk) →
     stage_is_asked (trust_of site keys) stage → AlikeDesks (trust_of site keys) one other →
     AlikeSteps (trust_of site keys) (on_due_at (public_stage (trusts site) stage) site at (public_pair (trusts site) x) what (public_call (trusts site) who c) one)
     (on_due_at stage site at x what c other)
 
--- ---- what the target says before it refuses (§12.1.2, §13.2.2, §16.7)
+-- ---- what the target sends before it refuses (§12.1.2, §13.2.2, §16.7)
 
--- 100, which stays here, and other provisional responses, which go to the caller, as reliable answers or not
+-- 100, which is not relayed, and other provisional responses, which are relayed to the caller, as reliable ones or not
 abbrev pub ProvisionalToAttempt : Type 0
 ProvisionalToAttempt = (site : Site) (keys : TKey → Bool) (who : Identities2) (at : ℕ) (x : Trial) (key : TKey) (role : Role) (m : Said) (code : ℕ) (c : Call) (one other : Desk) →
     IsAsked (trust_of site keys) c.opening.key c.opening.invite → Fits c.opening x.attempt.service Callee m role →
@@ -111,9 +111,9 @@ AnswersToAttempt = (site : Site) (keys : TKey → Bool) (who : Identities2) (at 
     AlikeSteps (trust_of site keys) (answered site at (public_trial (trusts site) x) key (without_private role m) (public_call (trusts site) who c) one)
     (answered site at x key m c other)
 
--- ---- how a call goes on after an attempt (TS 24.604 §4.5.2.6, RFC 7044 §7)
+-- ---- how a call continues after an attempt (TS 24.604 §4.5.2.6, RFC 7044 §7)
 
--- it is diverted or refused, whatever diversions follow: callers of whom the same is decided fare alike
+-- it is diverted or refused, whatever diversions follow: for callers on whom the same is decided the outcome is the same
 abbrev pub EndsOfAttempts : Type 0
 EndsOfAttempts = (records : List Sheet) (site : Site) (keys : TKey →
     Bool) (now : Standing) (who : Identities2) (x : Trial) (how : End) (role : Role) (m : Option Said) (c : Call) (one other : Desk) →
@@ -131,7 +131,7 @@ AnswersWhileOffered = (records : List Sheet) (site : Site) (keys : TKey →
     AlikeSteps (trust_of site keys) (on_response site now (public_trial (trusts site) x) key (without_private role m) code (public_call (trusts site) who c) one)
     (on_response site now x key m code c other)
 
--- its silence, and the deadlines of an attempt and of its reliable answers
+-- its timeout, and the deadlines of an attempt and of its reliable responses
 abbrev pub SilenceWhileOffered : Type 0
 SilenceWhileOffered = (records : List Sheet) (site : Site) (keys : TKey → Bool) (now : Standing) (who : Identities2) (x : Trial) (c : Call) (one other : Desk) →
     CanGoOn records (trust_of site keys) now who c → ServiceIsAsked records x.attempt.service → AlikeDesks (trust_of site keys) one other →
@@ -142,27 +142,27 @@ DeadlinesWhileOffered = (records : List Sheet) (site : Site) (keys : TKey → Bo
     CanGoOn records (trust_of site keys) now who c → ServiceIsAsked records x.attempt.service → AlikeDesks (trust_of site keys) one other →
     AlikeSteps (trust_of site keys) (on_due site now (public_trial (trusts site) x) what (public_call (trusts site) who c) one) (on_due site now x what c other)
 
--- ---- requests that the call does not wait on, whatever its phase (RFC 3261 §9.1, §13.2.2.4, §17.1.1.3, RFC 3262 §4, RFC 3311 §5)
+-- ---- requests for which the call does not wait, whatever its phase (RFC 3261 §9.1, §13.2.2.4, §17.1.1.3, RFC 3262 §4, RFC 3311 §5)
 
--- a response to an INVITE that was left, or had a 2xx, and to what is in flight
+-- a response to an INVITE that was abandoned, or had a 2xx, and to a request in flight
 abbrev pub AnswersOfOthers : Type 0
 AnswersOfOthers = (site : Site) (keys : TKey → Bool) (who : Identities2) (at : ℕ) (key : TKey) (role : Role) (m : Said) (branch : List ℕ) (c : Call) (one other : Desk) →
     flights_are_asked (trust_of site keys) c.flights → HearsOther (trust_of site keys) key branch role m c → AlikeDesks (trust_of site keys) one other →
     AlikeSteps (trust_of site keys) (answered_other site at key (without_private role m) branch (public_call (trusts site) who c) one) (answered_other site at key m branch c other)
 
--- silence: what is in flight has its answer
+-- a timeout: a request in flight gets its final response
 abbrev pub SilenceOfOthers : Type 0
 SilenceOfOthers = (site : Site) (keys : TKey → Bool) (who : Identities2) (branch : List ℕ) (c : Call) (one other : Desk) →
     flights_are_asked (trust_of site keys) c.flights → AlikeDesks (trust_of site keys) one other →
     AlikeSteps (trust_of site keys) (silent_other site branch (public_call (trusts site) who c) one) (silent_other site branch c other)
 
--- what is in flight has its answer before all else of a step that leaves the attempt, or ends the call (RFC 3262 §3, RFC 3311 §5.2)
+-- requests in flight get their final responses before everything else in a step that ends the attempt without a 2xx, or ends the call (RFC 3262 §3, RFC 3311 §5.2)
 abbrev pub Dismissals : Type 0
 Dismissals = (site : Site) (keys : TKey → Bool) (who : Identities2) (c : Call) (one other : Desk) →
     flights_are_asked (trust_of site keys) c.flights → AlikeDesks (trust_of site keys) one other →
     AlikeDesks (trust_of site keys) (dismissing site (public_call (trusts site) who c) one) (dismissing site c other)
 
--- the ACK of a 2xx: it goes across, and is kept; or a parting call ends
+-- the ACK of a 2xx: it is relayed, and kept; or a departing call ends
 abbrev pub AcksOnceAnswered : Type 0
 AcksOnceAnswered = (stage : Stage) (site : Site) (keys : TKey → Bool) (who : Identities2) (at : ℕ) (x : Pair) (side : Side) (role : Role) (m : Said) (c : Call)
     (one other : Desk) →

@@ -1,5 +1,5 @@
--- What is seen of what goes out: untrusted peers see it whole, and of what goes to a trusted one the transactions read its head, and the number of a reliable answer (RFC 3261
--- §17.1.3, §17.2.3, RFC 3262 §3).
+-- The observable part of what is sent: untrusted peers see it whole, and of what is sent to a trusted one the transactions read its head, and the number of a reliable response
+-- (RFC 3261 §17.1.3, §17.2.3, RFC 3262 §3).
 use Rattle.std.specs.Prelude.{◌≡◌, ℕ, Bool, Option, List, map}
 use Rattle.mmtel_desk.specs.declared.desks.Desk.{Desk}
 use Rattle.mmtel_message.specs.Texts.{message_text}
@@ -14,7 +14,7 @@ use Rattle.mmtel_call_decisions.specs.Site.{Site, trusts}
 use Rattle.mmtel_call.specs.Closing.{Step}
 use Rattle.mmtel_call_laws.specs.Secret.Parts.{public_part}
 
--- whom the server trusts: of the peers, and of the transactions, each by its peer
+-- what the server trusts: the peers, and the transactions, each by its peer
 pub record Trust : Type 0 where
   pub peer : Peer → Bool
   pub key : TKey → Bool
@@ -24,7 +24,7 @@ pub data Seen : Type 0 where
   Replied : (key : TKey) → Head → (number : Option ℕ) → (text : List ℕ) → Seen
   Sent : (peer : Peer) → (text : List ℕ) → Seen
   Acked : (key : TKey) → (text : List ℕ) → Seen
-  -- which reliable answers are not sent again, and a deadline, are seen as they are
+  -- which reliable responses are not retransmitted, and deadlines, are wholly observable
   Settled : (key : TKey) → (own : Option ℕ) → Seen
   Armed : Emit → Seen
 
@@ -40,17 +40,17 @@ seen t (emit.ArmSeat room seat what at) = Armed (emit.ArmSeat room seat what at)
 abbrev pub seen_all : Trust → List Emit → List Seen
 seen_all t out = map (seen t) out
 
--- the desk on which this stands in the place of what went out
+-- the output in which this is in the place of what was sent
 abbrev pub with_out : List Emit → Desk → Desk
 with_out out desk = record desk { out = out }
 
--- two desks of which the same is seen: as many tokens were drawn, and the same rows filed
+-- two outputs with the same observable part: as many tokens were drawn, and the same CDRs filed
 pub record AlikeDesks (t : Trust) (one other : Desk) : Type 0 where
   pub tokens : one.tokens ≡ other.tokens
   pub rows : one.rows ≡ other.rows
   pub out : seen_all t one.out ≡ seen_all t other.out
 
--- two steps that leave calls of one public part, and of which the same is seen
+-- two steps after which the calls have the same public part, and with the same observable output
 pub record AlikeSteps (t : Trust) (one other : Step) : Type 0 where
   pub call : public_part t.peer one.call ≡ public_part t.peer other.call
   pub desk : AlikeDesks t one.desk other.desk

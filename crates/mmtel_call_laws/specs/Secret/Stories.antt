@@ -1,5 +1,5 @@
--- Two stories of a call, side by side: what each call hears, one signal after another, with how things stand then and the desk that it finds. So what is said of them holds
--- however the calls are mixed with others.
+-- Two traces of a call, side by side: what each call receives, one signal after another, with the state and the output before it. So what is claimed of them holds however the
+-- calls are interleaved with others.
 use Rattle.std.specs.Prelude.{◌≡◌, Bool, List, [], ◌∷◌}
 use Rattle.mmtel_desk.specs.declared.desks.Desk.{Desk}
 use Rattle.mmtel_precedence.specs.Calls.{Standing}
@@ -16,19 +16,19 @@ use Rattle.mmtel_call_laws.specs.Secret.Roles.{Role}
 use Rattle.mmtel_call_laws.specs.Secret.Seen.{AlikeDesks, AlikeSteps, trust_of}
 use Rattle.mmtel_call_laws.specs.Secret.Table.{public_signal}
 
--- what one call hears
+-- what one call receives
 pub record Event : Type 0 where
   pub signal : Signal
   pub role : Role
   pub desk : Desk
 
--- what both hear, at one moment
+-- what both receive, at one moment
 pub record Both : Type 0 where
   pub now : Standing
   pub one : Event
   pub other : Event
 
--- ---- the calls after all that: the last stands first
+-- ---- the calls after all that: the last is first in the list
 
 abbrev pub next : Site → Standing → Event → Call → Step
 next site now e c = step site now e.signal c e.desk
@@ -41,7 +41,7 @@ abbrev pub other_after : Site → Call → List Both → Call
 other_after site d [] = d
 other_after site d (both ∷ earlier) = (next site both.now both.other (other_after site d earlier)).call
 
--- ---- they hear the same but for private places
+-- ---- they receive the same but for private places
 
 pub record HearAlike (records : List Sheet) (site : Site) (keys : TKey → Bool) (both : Both) (c d : Call) : Type 0 where
   pub stand : AreAsked records both.now
@@ -55,7 +55,7 @@ AllHearAlike records site keys c d [] = Unit {0}
 AllHearAlike records site keys c d (both ∷ earlier) =
     HearAlike records site keys both (one_after site c earlier) (other_after site d earlier) × AllHearAlike records site keys c d earlier
 
--- alike calls stay alike through such stories, and each step is seen alike
+-- indistinguishable calls remain so through such traces, and each step has the same observable output
 pub record StoriesStayAlike : Type 0 where
   pub calls : (records : List Sheet) (site : Site) (keys : TKey → Bool) (c d : Call) (story : List Both) → AlikeCalls records (trusts site) c d →
       AllHearAlike records site keys c d story → AlikeCalls records (trusts site) (one_after site c story) (other_after site d story)

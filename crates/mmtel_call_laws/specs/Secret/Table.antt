@@ -1,4 +1,4 @@
--- The step table as a whole: what it sees of a call and of a signal is their public parts.
+-- The step table as a whole: what it uses of a call and of a signal is their public parts.
 use Rattle.std.specs.Prelude.{◌≡◌, ℕ, Bool, true, false, Option, Some, None, List}
 use Rattle.mmtel_answers.specs.Said.{Said}
 use Rattle.mmtel_desk.specs.declared.desks.Desk.{Desk}
@@ -22,7 +22,7 @@ use Rattle.mmtel_call_laws.specs.Secret.Premises.{CanGoOn, Fits, FitsOffered, He
 use Rattle.mmtel_call_laws.specs.Secret.Roles.{Role, without_private}
 use Rattle.mmtel_call_laws.specs.Secret.Seen.{AlikeDesks, AlikeSteps, Trust, trust_of}
 
--- a signal without what is private of its message, which has this role
+-- a signal without the private places of its message, which has this role
 abbrev pub public_signal : Role → Signal → Signal
 public_signal role (signal.Request side key request) = signal.Request side key (without_private role request)
 public_signal role (signal.Ack side ack) = signal.Ack side (without_private role ack)
@@ -32,7 +32,7 @@ public_signal role (signal.Silent branch method) = signal.Silent branch method
 public_signal role (signal.Due what) = signal.Due what
 public_signal role (signal.Ended key) = signal.Ended key
 
--- ---- what holds of a signal, by the phase of the call that hears it
+-- ---- conditions on a signal, by the phase of the call that receives it
 
 abbrev pub FitsIn : Phase → Call → Side → Said → Role → Type 0
 FitsIn (Offered x) c side m role = FitsOffered c.opening x.attempt.service side m role
@@ -52,7 +52,7 @@ ServedIn (Stood x stage) records = Unit {0}
 ServedIn (Lent loan) records = Unit {0}
 ServedIn (Over cause) records = Unit {0}
 
--- a response of the INVITE that the call waits on
+-- a response to the INVITE for which the call waits
 abbrev pub AnswersIn : Phase → Trust → TKey → Role → Said → Call → Type 0
 AnswersIn (Offered x) t key role m c = IsTargets t key x role m c.opening
 AnswersIn (Stood x (Answered side success)) t key role m c = Unit {0}
@@ -62,7 +62,7 @@ AnswersIn (Stood x (Asking side q)) t key role m c = IsAnswer t key q.invitation
 AnswersIn (Lent loan) t key role m c = Unit {0}
 AnswersIn (Over cause) t key role m c = Unit {0}
 
--- by the request that it answers: the INVITE that the call waits on, or another one
+-- by the request to which it belongs: the INVITE for which the call waits, or another one
 abbrev pub AnswersOne : Option (List ℕ) → Trust → TKey → Role → Said → Call → Type 0
 AnswersOne None t key role m c = Unit {0}
 AnswersOne (Some branch) t key role m c = (is_current branch c ≡ true → AnswersIn c.phase t key role m c) × (is_current branch c ≡ false → HearsOther t key branch role m c)
@@ -78,8 +78,8 @@ Hears (signal.Ended key) t role c = Unit {0}
 
 -- ---- the table
 
--- on whatever signal: with the public parts in the place of the call and of the signal, and another caller of whom the same is decided, a step leaves a call of the same
--- public part, and the same is seen of it
+-- on any signal: with the public parts in the place of the call and of the signal, and another caller on whom the same is decided, the call after a step has the same public part,
+-- and the observable output is the same
 abbrev pub StepsSeePublicParts : Type 0
 StepsSeePublicParts = (records : List Sheet) (site : Site) (keys : TKey → Bool) (now : Standing) (who : Identities2) (x : Signal) (role : Role) (c : Call) (one other : Desk) →
     CanGoOn records (trust_of site keys) now who c → requests_are_asked (trust_of site keys) c → ServedIn c.phase records → Hears x (trust_of site keys) role c →

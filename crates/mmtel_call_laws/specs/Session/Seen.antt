@@ -1,5 +1,5 @@
--- What is seen of the session of a call from outside: the 2xx that the call passes on, the deadlines of sessions that go out, each with its moment, and the BYEs. By these alone
--- it is told which deadline is that of the last 2xx (RFC 4028 §7.2, §10; RFC 3261 §13.3.1.4, §14, §15).
+-- What is observed of the session of a call from outside: the 2xx that the call relays, the deadlines of sessions that are armed, each with its moment, and the BYEs. These alone
+-- determine which deadline is that of the last 2xx (RFC 4028 §7.2, §10; RFC 3261 §13.3.1.4, §14, §15).
 use Rattle.std.specs.Prelude.{ℕ, ◌==◌, ◌&&◌, not, Bool, false, if◌then◌else◌, Option, Some, None, List, [], ◌∷◌, ◌++◌, codes, position, slice_get}
 use Rattle.std.specs.List.{list_any}
 use Rattle.mmtel_answers.specs.Said.{Said, status_of}
@@ -23,9 +23,9 @@ use Rattle.mmtel_call.specs.declared.signals.Signal.TheVariants as signal
 use Rattle.mmtel_call_laws.specs.Story.{Heard, Start, added, call_after, first_step, next_step}
 use Rattle.mmtel_call_laws.specs.Trace.Seen.{Deadline}
 
--- ---- the 2xx that is passed on
+-- ---- the 2xx that is relayed
 
--- the call has sent a PRACK with this branch, which waits for its answer: its 2xx says nothing of the session
+-- whether the call has sent a PRACK with this branch, which awaits its response: a 2xx to it does not concern the session
 abbrev pub is_prack_in : Option Flight → Bool
 is_prack_in None = false
 is_prack_in (Some flight) = not (is_updating flight)
@@ -37,7 +37,7 @@ is_prack_at (Some place) flights = is_prack_in (slice_get flights place)
 abbrev pub has_prack : (branch : List ℕ) → Call → Bool
 has_prack branch c = not (is_current branch c) && is_prack_at (position (is_in_flight branch) c.flights) c.flights
 
--- a 2xx to an INVITE or an UPDATE of this call is heard
+-- the 2xx to an INVITE or an UPDATE of this call that is received
 abbrev pub success_to : Option (List ℕ) → Said → Call → Option Said
 success_to None m c = None
 success_to (Some branch) m c = if not (has_prack branch c) && is_success (status_of m.heard.start) then Some m else None
@@ -51,7 +51,7 @@ success_heard (signal.Silent branch method) c = None
 success_heard (signal.Due what) c = None
 success_heard (signal.Ended key) c = None
 
--- a 2xx goes out
+-- whether a 2xx is sent
 abbrev pub is_accepted : Emit → Bool
 is_accepted (emit.Ask peer m) = false
 is_accepted (emit.Reply asked m) = is_success (status_of m.start)
@@ -61,11 +61,11 @@ is_accepted (emit.Settled key own) = false
 is_accepted (emit.Arm call what at) = false
 is_accepted (emit.ArmSeat room seat what at) = false
 
--- the one that is heard is passed on: in the step in which it is heard one goes out
+-- the one that is received is relayed: in the step in which it is received one is sent
 abbrev pub passed_on : Signal → Call → List Emit → Option Said
 passed_on heard c out = if list_any is_accepted out then success_heard heard c else None
 
--- ---- the deadlines of sessions that go out
+-- ---- the deadlines of sessions that are armed
 
 -- of the call itself
 abbrev pub expiry_by : (is_own : Bool) → DueWord → (at : ℕ) → List Deadline
@@ -91,34 +91,34 @@ expiries_of own (e ∷ later) = expiry_of own e ++ expiries_of own later
 
 -- ---- the session
 
--- a 2xx that was passed on, and the moment of that step
+-- a 2xx that was relayed, and the moment of that step
 pub record Agreed : Type 0 where
   pub at : ℕ
   pub said : Said
 
 pub record Session : Type 0 where
-  -- so many were passed on; the count stands still at 2^64 - 1
+  -- how many were relayed; the count does not rise above 2^64 - 1
   pub count : ℕ
   -- the last of them, if there was one
   pub last : Option Agreed
-  -- the deadlines that went out before its step, and those that went out in it and since
+  -- the deadlines that were armed before its step, and those that were armed in it and since
   pub earlier : List Deadline
   pub armed : List Deadline
 
--- in a step at this moment, in which this 2xx was passed on, if one was, and these deadlines went out: a 2xx begins the session anew
+-- after a step at this moment, in which this 2xx was relayed, if one was, and these deadlines were armed: a 2xx starts the session anew
 abbrev pub agreed_by : (now : ℕ) → Session → Option Said → List Deadline → Session
 agreed_by now w None armed = record w { armed = w.armed ++ armed }
 agreed_by now w (Some m) armed = record { count = next_number w.count; last = Some (record { at = now; said = m }); earlier = w.earlier ++ w.armed; armed = armed }
 
--- after what this call heard, and what went out of it
+-- after what this call received, and what it sent
 abbrev pub session_by : (now : ℕ) → CallNo → Call → Signal → List Emit → Session → Session
 session_by now own c heard out w = agreed_by now w (passed_on heard c out) (expiries_of own out)
 
--- as the call opens, when these go out
+-- as the call opens, when these are sent
 abbrev pub session_at_first : CallNo → List Emit → Session
 session_at_first own out = record { count = 0; last = None; earlier = []; armed = expiries_of own out }
 
--- ---- in a story
+-- ---- in a trace
 
 unfoldable pub session_after : Start → List Heard → Session
 session_after s [] = session_at_first s.arrival.number (added s.desk.out (first_step s).desk.out)
@@ -127,7 +127,7 @@ session_after s (x ∷ earlier) =
 
 -- ---- how it ends
 
--- a side is left: the peer of a BYE that goes out, and its Request-URI
+-- a BYE to a side: its peer, and its Request-URI
 abbrev pub bye_of : Emit → List (Peer × List ℕ)
 bye_of (emit.Ask peer m) = if is_method (codes "BYE") m.start then (peer, request_uri m.start) ∷ [] else []
 bye_of (emit.Reply asked m) = []
@@ -141,7 +141,7 @@ abbrev pub byes_of : List Emit → List (Peer × List ℕ)
 byes_of [] = []
 byes_of (e ∷ later) = bye_of e ++ byes_of later
 
--- a deadline of this number is among these
+-- whether the deadline has this number
 abbrev pub carries : ℕ → DueWord → Bool
 carries number (due.NoReply other) = false
 carries number (due.NoPrack other) = false

@@ -1,5 +1,5 @@
--- What is said of every story of a call, in the subject's words: what it keeps of its attempt is what went out and was heard, when its deadlines are due, and which of its
--- answers wait for their PRACK (TS 24.604 §4.5.2.6, RFC 3262 §3).
+-- What is claimed of every trace of a call, in the terms of SIP: what it keeps of its attempt is what was sent and received, when its deadlines are due, and which of its reliable
+-- responses wait for their PRACK (TS 24.604 §4.5.2.6, RFC 3262 §3).
 use Rattle.std.specs.Prelude.{◌≡◌, ◌<◌, ◌≤◌, ◌^◌, ◌+◌, ◌-◌, ℕ, if◌then◌else◌, List, [], ◌∷◌, ◌++◌, Option, Some, None}
 use Rattle.mmtel_reliable.specs.Acks.{AcksView}
 use Rattle.mmtel_transaction.specs.declared.words.DueWord.{DueWord}
@@ -22,7 +22,7 @@ use Rattle.mmtel_call_laws.specs.Trace.Seen.{Deadline, Going, Watch, endings_see
 abbrev pub longest : ℕ
 longest = 180000
 
--- so long it may ring, where the record of the account that is served at the last target has a rule for no answer, as it stood when the call reached it
+-- how long it may ring, if the record of the account that is served at the last target, as it was when the call reached that target, has a rule for no answer
 abbrev pub no_reply_after : Start → List Heard → Option ℕ
 no_reply_after s heard = time_of (last_record (known_after s heard) 0 (outcome_after s heard).targets)
 
@@ -30,12 +30,12 @@ abbrev pub no_reply_in : (number : ℕ) → (first : ℕ) → (time : Option ℕ
 no_reply_in number first None = []
 no_reply_in number first (Some time) = record { what = due.NoReply number; at = first + time } ∷ []
 
--- the no-reply time of the attempt of this number, where it rang: from the first moment at which it did
+-- the deadline of the no-reply time of the attempt of this number, if it rang: from the first moment at which it did
 abbrev pub no_reply_of : (number : ℕ) → (time : Option ℕ) → (rung : Option ℕ) → List Deadline
 no_reply_of number time None = []
 no_reply_of number time (Some first) = no_reply_in number first time
 
--- the deadlines of the attempt of this number whose INVITE went out at this moment: the longest time from then, and the no-reply time
+-- the deadlines of the attempt of this number whose INVITE was sent at this moment: the longest time from then, and the no-reply time
 abbrev pub deadlines_of : (number : ℕ) → (time : Option ℕ) → (since : ℕ) → (rung : Option ℕ) → List Deadline
 deadlines_of number time since rung = record { what = due.Cap number; at = since + longest } ∷ no_reply_of number time rung
 
@@ -51,27 +51,27 @@ number_of_deadline (due.Expired number) = number
 abbrev pub early_tag : TriedView → Option (List ℕ)
 early_tag callee = if callee.is_early then Some callee.leg.dialogue.remote_tag else None
 
--- the attempt is the one that is on its way, where the configuration has this bound on diversions, and the record of the target's account this no-reply time
+-- the attempt is the current one, where the configuration has this bound on diversions, and the record of the target's account this no-reply time
 pub record IsOnItsWay (bound : ℕ) (time : Option ℕ) (relayed : AcksView) (x : Trial) (w : Watch) : Type 0 where
   pub seen : Going
   pub going : w.going ≡ Some seen
-  -- its INVITE is the one that went out: to that peer, which is the peer of the target's leg, with that Request-URI and that branch
+  -- its INVITE is the one that was sent: to that peer, which is the peer of the target's leg, with that Request-URI and that branch
   pub peer : x.attempt.invitation.dialogue.peer ≡ seen.peer
   pub leg : x.callee.leg.dialogue.peer ≡ seen.peer
   pub uri : x.attempt.invitation.dialogue.target ≡ seen.uri
   pub branch : x.attempt.invitation.branch ≡ seen.branch
-  -- the deadlines that went out since are its own, of its number, each at its moment: the longest time from its INVITE on, and no other but for the no-reply time where it rang
+  -- the deadlines that were armed since are its own, of its number, each at its moment: the longest time from its INVITE on, and no other except the no-reply time if it rang
   pub armed : seen.armed ≡ deadlines_of x.attempt.number time seen.since seen.rung
-  -- and each deadline that went out before has a lower one: of a bound that is configured there are numbers enough
+  -- and each deadline that was armed before has a lower one: with a configured bound the numbers suffice
   pub few : x.attempt.number ≤ bound + 1
   pub lower : bound < 2 ^ 64 - 2 → Each (λ deadline. number_of_deadline deadline.what < x.attempt.number) w.earlier
-  -- it rang where a response to that INVITE said so
+  -- it rang if a response to that INVITE said so
   pub rang : x.attempt.rang ≡ rang seen
-  -- its early dialog is that of the first response with a tag; and those reliable answers wait for their PRACK which were passed on and not acknowledged
+  -- its early dialog is that of the first response with a tag; and those reliable responses wait for their PRACK that were relayed and not acknowledged
   pub early : early_tag x.callee ≡ seen.early
   pub acks : relayed ≡ w.acks
 
--- none is on its way but while the call is offered
+-- none is current except while the call is offered
 abbrev pub IsSeen : (bound : ℕ) → (time : Option ℕ) → AcksView → Phase → Watch → Type 0
 IsSeen bound time acks (Offered x) w = IsOnItsWay bound time acks x w
 IsSeen bound time acks (Stood x stage) w = w.going ≡ None
@@ -81,13 +81,13 @@ IsSeen bound time acks (Over cause) w = w.going ≡ None
 abbrev pub AttemptsAreSeen : Type 0
 AttemptsAreSeen = (s : Start) (heard : List Heard) → IsSeen s.site.bound (no_reply_after s heard) (call_after s heard).acks (call_after s heard).phase (watch_after s heard)
 
--- so how attempts ended is told by what went out and was heard alone
+-- so how attempts ended is determined by what was sent and received alone
 abbrev pub EndingsAreSeen : Type 0
 EndingsAreSeen = (s : Start) (heard : List Heard) → endings_after s heard ≡ endings_seen s heard
 
 -- ---- and the target is that of Outcome
 
--- the Request-URIs of the INVITEs that are shown, and the last of them
+-- the Request-URIs of the INVITEs that are observed, and the last of them
 abbrev pub uri_in : Sign → List (List ℕ)
 uri_in (Invited uri) = uri ∷ []
 uri_in Accepted = []
@@ -112,6 +112,6 @@ IsLastOf (Stood x stage) signs = Unit {0}
 IsLastOf (Lent loan) signs = Unit {0}
 IsLastOf (Over cause) signs = Unit {0}
 
--- of the INVITEs to the targets to which Outcome says that it is offered
+-- of the INVITEs to the targets to which it is offered according to Outcome
 abbrev pub TargetsAreSeen : Type 0
 TargetsAreSeen = (s : Start) (heard : List Heard) → AreOwn s heard → IsLastOf (call_after s heard).phase (signs_of_targets (opening_in s) (outcome_after s heard).targets)

@@ -1,5 +1,5 @@
--- What is seen of a call from outside, while it is offered: the INVITEs to its targets and the deadlines that go out, each with its moment, and what is heard. By these
--- alone it is told which attempt is on its way, since when and when it rang, which answers of it wait for their PRACK, and how attempts ended (RFC 3261 §9, §13.2.1, §15,
+-- What is observed of a call from outside, while it is offered: the INVITEs to its targets and the deadlines that are armed, each with its moment, and what is received. These
+-- alone determine which attempt is current, since when and when it rang, which reliable responses to it wait for their PRACK, and how attempts ended (RFC 3261 §9, §13.2.1, §15,
 -- §17.1.1, §17.1.3 and §21, RFC 3262 §3 and §4, TS 24.604 §4.5.2.6).
 use Rattle.std.specs.Prelude.{ℕ, ◌==◌, ◌&&◌, not, nat_lt, Bool, true, false, if◌then◌else◌, Option, Some, None, List, [], ◌∷◌, ◌++◌, codes, is_ok, is_some, length, option_to_list}
 use Rattle.std.specs.List.{list_any}
@@ -42,14 +42,14 @@ use Rattle.mmtel_call.specs.declared.signals.Signal.TheVariants as signal
 use Rattle.mmtel_call_laws.specs.Endings.{ended_at}
 use Rattle.mmtel_call_laws.specs.Story.{Heard, Start, added, call_after, first_step, next_step, opening_in}
 
--- ---- what is seen of what goes out
+-- ---- what is observed in what is sent
 
 -- an INVITE, to this peer, with this Request-URI and this branch; and a deadline of an attempt, due at this moment
 pub data Mark : Type 0 where
   Invited : (peer : Peer) → (uri branch : List ℕ) → Mark
   Armed : (what : DueWord) → (at : ℕ) → Mark
 
--- the branch of a request of the server, behind its cookie: what stands behind all else of the server's Via (RFC 3261 §8.1.1.7)
+-- the branch of a request of the server, without its cookie: the part after everything else in the server's Via (RFC 3261 §8.1.1.7)
 abbrev pub branch_of : Addr → Message StartLine → List ℕ
 branch_of sip m = unwrap_or (after_text (via_text sip []) (field (codes "Via") m.lines)) []
 
@@ -75,7 +75,7 @@ abbrev pub marks_of : Addr → CallNo → List Emit → List Mark
 marks_of sip own [] = []
 marks_of sip own (e ∷ later) = mark_of sip own e ++ marks_of sip own later
 
--- ---- the attempt that is on its way
+-- ---- the current attempt
 
 -- a deadline, and the moment at which it is due
 pub record Deadline : Type 0 where
@@ -83,28 +83,28 @@ pub record Deadline : Type 0 where
   pub at : ℕ
 
 pub record Going : Type 0 where
-  -- of its INVITE: to whom it went, with which Request-URI and which branch
+  -- of its INVITE: the peer to which it was sent, its Request-URI and its branch
   pub peer : Peer
   pub uri : List ℕ
   pub branch : List ℕ
-  -- the moment of the step in which it went out
+  -- the moment of the step in which it was sent
   pub since : ℕ
-  -- the deadlines that went out since, in order
+  -- the deadlines that were armed since, in order
   pub armed : List Deadline
-  -- the moment at which a response was first heard since which says that the target rings and is passed on, if one was
+  -- the moment at which a response was first received since that means that the target rings and that is relayed, if one was
   pub rung : Option ℕ
-  -- the tag of the first response with one that was heard since and is passed on, if one was: that of the early dialog (RFC 3261 §12.1.2)
+  -- the tag of the first response with one that was received since and is relayed, if one was: that of the early dialog (RFC 3261 §12.1.2)
   pub early : Option (List ℕ)
 
 abbrev pub rang : Going → Bool
 rang g = is_some g.rung
 
 pub record Watch : Type 0 where
-  -- the deadlines of those before
+  -- the deadlines of the attempts before
   pub earlier : List Deadline
-  -- the one that is on its way, if one is
+  -- the current one, if there is one
   pub going : Option Going
-  -- the reliable answers that are passed on to the caller, and which of them are acknowledged (RFC 3262 §3)
+  -- the reliable responses that are relayed to the caller, and which of them are acknowledged (RFC 3262 §3)
   pub acks : AcksView
 
 abbrev pub armed_in : Option Going → List Deadline
@@ -114,7 +114,7 @@ armed_in (Some g) = g.armed
 abbrev pub with_armed : Deadline → Going → Going
 with_armed deadline g = record g { armed = g.armed ++ deadline ∷ [] }
 
--- in a step at this moment; an INVITE that goes out begins one
+-- in a step at this moment; an INVITE that is sent begins one
 abbrev pub on_mark : (now : ℕ) → Watch → Mark → Watch
 on_mark now w (Invited peer uri branch) = record {
   earlier = w.earlier ++ armed_in w.going;
@@ -127,14 +127,14 @@ abbrev pub on_marks : (now : ℕ) → Watch → List Mark → Watch
 on_marks now w [] = w
 on_marks now w (mark ∷ later) = on_marks now (on_mark now w mark) later
 
--- ---- what is heard of it
+-- ---- what is received for it
 
--- it is of the early dialog, if there is one: each dialog numbers its answers by itself (RFC 3262 §4)
+-- whether it is of the early dialog, if there is one: each dialog has RSeq numbers of its own (RFC 3262 §4)
 abbrev pub is_in_early : Option (List ℕ) → Said → Bool
 is_in_early None m = true
 is_in_early (Some tag) m = bytes_eq tag (tag_given m)
 
--- the number under which a reliable answer of this number is passed on, if it is; any other response is, without one
+-- the number under which a reliable response of this number is relayed, if it is; any other response is relayed without one
 abbrev pub number_for : ℕ → (early : Option (List ℕ)) → AcksView → Said → Option ℕ
 number_for rseq early acks m = if is_in_early early m then own_number rseq acks else None
 
@@ -142,7 +142,7 @@ abbrev pub is_passed_by : Option ℕ → (early : Option (List ℕ)) → AcksVie
 is_passed_by None early acks m = true
 is_passed_by (Some rseq) early acks m = is_some (number_for rseq early acks m)
 
--- a response to its INVITE that is passed on, other than a final one
+-- whether it is a response to its INVITE that is relayed, other than a final one
 abbrev pub is_passed : Site → Opening → (early : Option (List ℕ)) → AcksView → (code : ℕ) → Said → Bool
 is_passed site o early acks code m = if nat_lt code 101 then false else if nat_lt code 200 then is_passed_by (reliable_number site o m) early acks m else false
 
@@ -161,7 +161,7 @@ passes_answer site o g acks (signal.Silent branch method) = None
 passes_answer site o g acks (signal.Due what) = None
 passes_answer site o g acks (signal.Ended key) = None
 
--- one that says that the target rings
+-- one that means that the target rings
 abbrev pub rings_by : Option Said → Bool
 rings_by None = false
 rings_by (Some m) = rings (status_of m.heard.start)
@@ -171,7 +171,7 @@ abbrev pub first_rung : (now : ℕ) → (before : Option ℕ) → (rings : Bool)
 first_rung now (Some first) rings = Some first
 first_rung now None rings = if rings then Some now else None
 
--- the first one that has a tag begins the early dialog: the tag of its To
+-- the first one that has a tag establishes the early dialog: the tag of its To
 abbrev pub early_in : Option (List ℕ) → (empty : Bool) → List Line → Option (List ℕ)
 early_in (Some tag) empty lines = Some tag
 early_in None empty lines = if empty then None else Some (tag_in (codes "To") lines)
@@ -235,19 +235,19 @@ acks_by site o last g acks (signal.Silent branch method) = acks
 acks_by site o last g acks (signal.Due what) = acks
 acks_by site o last g acks (signal.Ended key) = acks
 
--- ---- what ends it, if it does
+-- ---- what ends it, if anything
 
 -- a response to its INVITE, by its status
 abbrev pub ends_by_answer : Going → Said → Option (List ℕ) → Option End
 ends_by_answer g m None = None
 ends_by_answer g m (Some branch) = if bytes_eq g.branch branch then end_by_response (status_of m.heard.start) (redirect_of m) (rang g) else None
 
--- no response at all to it; one that rang had one
+-- no response at all to it; an attempt that rang had a response
 abbrev pub ends_by_silence : Going → Option (List ℕ) → Option End
 ends_by_silence g None = None
 ends_by_silence g (Some branch) = if bytes_eq g.branch branch && not (rang g) then end_by events.Silence (rang g) else None
 
--- a deadline that has the number of one that went out for it
+-- whether a deadline has the number of one that was armed for it
 abbrev pub carries : ℕ → DueWord → Bool
 carries number (due.NoReply other) = number == other
 carries number (due.NoPrack other) = false
@@ -258,7 +258,7 @@ carries number (due.Expired other) = false
 abbrev pub is_armed : ℕ → List Deadline → Bool
 is_armed number armed = list_any (λ deadline. carries number deadline.what) armed
 
--- or that of an answer which waits for its PRACK
+-- or that of a reliable response that waits for its PRACK
 abbrev pub ends_by_deadline : Going → AcksView → DueWord → Option End
 ends_by_deadline g acks (due.NoReply number) = if is_armed number g.armed then end_by events.NoReplyTime (rang g) else None
 ends_by_deadline g acks (due.NoPrack own) = if has_own own acks.waiting then end_by events.AckTime (rang g) else None
@@ -266,12 +266,12 @@ ends_by_deadline g acks (due.Cap number) = if is_armed number g.armed then end_b
 ends_by_deadline g acks (due.NoAck number) = None
 ends_by_deadline g acks (due.Expired number) = None
 
--- the BYE of the caller, where it is in order
+-- the BYE of the caller, if it is in order
 abbrev pub ends_by_request : (last : Option ℕ) → Going → Side → Said → Option End
 ends_by_request last g Caller m = if in_order last m && is_bye m then end_by events.CallerGaveUp (rang g) else None
 ends_by_request last g Callee m = None
 
--- where the INVITE that opened the call is of this server transaction, this was the last number of its caller, and these answers wait
+-- where the INVITE that opened the call has this server transaction, this was the last CSeq number of its caller, and these reliable responses wait
 abbrev pub ends_by : (key : TKey) → (last : Option ℕ) → Going → AcksView → Signal → Option End
 ends_by key last g acks (signal.Request side asked request) = ends_by_request last g side request
 ends_by key last g acks (signal.Ack side ack) = None
@@ -281,7 +281,7 @@ ends_by key last g acks (signal.Silent branch method) = ends_by_silence g (invit
 ends_by key last g acks (signal.Due what) = ends_by_deadline g acks what
 ends_by key last g acks (signal.Ended asked) = None
 
--- while none is on its way, none ends
+-- while none is current, none ends
 abbrev pub ends_in : (key : TKey) → (last : Option ℕ) → Option Going → AcksView → Signal → Option End
 ends_in key last None acks heard = None
 ends_in key last (Some g) acks heard = ends_by key last g acks heard
@@ -289,9 +289,9 @@ ends_in key last (Some g) acks heard = ends_by key last g acks heard
 abbrev pub ends_watched : (key : TKey) → (last : Option ℕ) → Watch → Signal → Option End
 ends_watched key last w heard = ends_in key last w.going w.acks heard
 
--- ---- in a story: what was heard, and then what went out in that step
+-- ---- in a trace: what was received, and then what was sent in that step
 
--- where it goes on: when it rang, its early dialog, and what waits for a PRACK, by the response that is passed on, if it is one
+-- the attempt continues: when it rang, its early dialog, and what waits for a PRACK, by the response that is relayed, if there is one
 abbrev pub having_passed : (now : ℕ) → Going → Option Said → Going
 having_passed now g passed = record g { rung = first_rung now g.rung (rings_by passed); early = early_by g.early passed }
 
@@ -299,20 +299,20 @@ abbrev pub after_hearing : Site → Opening → (now : ℕ) → Watch → (last 
 after_hearing site o now w last g heard None = record w { going = Some (having_passed now g (passes_answer site o g w.acks heard)); acks = acks_by site o last g w.acks heard }
 after_hearing site o now w last g heard (Some how) = record w { earlier = w.earlier ++ g.armed; going = None }
 
--- once none is on its way, none comes
+-- once none is current, none follows
 abbrev pub watched_from : Site → Opening → (now : ℕ) → Watch → Option Going → (last : Option ℕ) → Signal → List Mark → Watch
 watched_from site o now w None last heard marks = w
 watched_from site o now w (Some g) last heard marks = on_marks now (after_hearing site o now w last g heard (ends_by o.key last g w.acks heard)) marks
 
--- of the call that was opened so
+-- of the call that was opened in this way
 abbrev pub watched_next : Site → Opening → (now : ℕ) → Watch → (last : Option ℕ) → Signal → List Mark → Watch
 watched_next site o now w last heard marks = watched_from site o now w w.going last heard marks
 
--- where the INVITE that opened the call has this number, if it has one
+-- where the INVITE that opened the call has this CSeq number, if it has one
 abbrev pub nothing_yet : Option ℕ → Watch
 nothing_yet cseq = record { earlier = []; going = None; acks = no_answers (unwrap_or cseq 0) }
 
--- what went out as it opened, and in one more step
+-- what was sent as it opened, and in one more step
 abbrev pub marks_first : Start → List Mark
 marks_first s = marks_of s.site.sip s.arrival.number (added s.desk.out (first_step s).desk.out)
 
@@ -323,7 +323,7 @@ unfoldable pub watch_after : Start → List Heard → Watch
 watch_after s [] = on_marks s.now.at (nothing_yet (number_of s.arrival.invite)) (marks_first s)
 watch_after s (x ∷ earlier) = watched_next s.site (opening_in s) x.now.at (watch_after s earlier) (last_after_all s earlier) x.signal (marks_next s x earlier)
 
--- ---- how attempts ended, one after the other
+-- ---- how attempts ended, in order
 
 abbrev pub ended_in : Start → Heard → List Heard → Option End
 ended_in s x earlier = ends_watched s.arrival.key (last_after_all s earlier) (watch_after s earlier) x.signal

@@ -1,4 +1,4 @@
-//! How a leg comes to the rooms: a room is opened for it, or it has a seat in one.
+//! How a leg enters a conference: one is opened for it, or it becomes a participant of one.
 ghost use Rattle.std.specs.Prelude.{◌≡◌, ◌<◌, ◌∷◌, ℕ, false, true, length, List, Err, IfErr, IfOk, IsSome, None, Ok, OnErr, OnOk, Some};
 ghost use Rattle.mmtel_leg.specs.Releases.{released_leg};
 ghost use Rattle.mmtel_scan.specs.Numbers.{next_number};
@@ -38,11 +38,11 @@ fn callers(leg: Released) -> CallerLeg<Standing>
 }
 
 impl Rooms {
-    /// Opens a room for whoever comes by an INVITE that offers audio.
+    /// Opens a conference for a leg that comes by an INVITE which offers audio.
     ///
     /// # Errors
     ///
-    /// Want of memory alone; the leg is handed back, and the rooms are as before.
+    /// Out of memory only; the leg is handed back, and the conferences have not changed.
     fn begin(
         &mut self,
         step: &Step<'_>,
@@ -67,11 +67,11 @@ impl Rooms {
         }
     }
 
-    /// Opens a room for a caller whose INVITE offers audio, who has its first seat (RFC 4579 §5.4). No token is drawn.
+    /// Opens a conference for a caller whose INVITE offers audio, who is its first participant (RFC 4579 §5.4). No token is drawn.
     ///
     /// # Errors
     ///
-    /// `NoRoom` exactly where 1,024 rooms are live, and `NoMemory` for want of memory. The leg is handed back, and the rooms are as before.
+    /// `NoRoom` exactly where 1,024 conferences are live, and `NoMemory` where memory runs out. The leg is handed back, and the conferences have not changed.
     pub fn create<'a>(
         &mut self,
         alloc: Global,
@@ -114,11 +114,11 @@ impl Rooms {
         }
     }
 
-    /// A leg enters the room at this place.
+    /// A leg enters the conference at this place.
     ///
     /// # Errors
     ///
-    /// Want of memory alone; a leg of the same side without a meter is handed back.
+    /// Out of memory only; a leg of the same side without a meter is handed back.
     #[tactic(auto, using(crate::proofs::Places::and_nothing), unfolding(crate::specs::Table::joined, crate::specs::Table::referred))]
     fn enter(
         &mut self,
@@ -155,14 +155,14 @@ impl Rooms {
         Ok(effects.into_emits())
     }
 
-    /// Gives a leg a seat in a room: one that comes by an INVITE (RFC 4579 §5.1), or one out of a call by the REFER of a seat (§5.6), which is
-    /// asked in by an INVITE.
+    /// Makes a leg a participant of a conference: one that comes by an INVITE (RFC 4579 §5.1), or one that is moved out of a call by the REFER of a participant (§5.6), which is
+    /// invited by a re-INVITE.
     ///
     /// # Errors
     ///
-    /// `Gone` exactly where the room is not live, and `RoomFull` exactly where 32 of its seats are taken, pending invitations among them: the leg is handed back, and
-    /// nothing has changed. `NoMemory` for want of memory: a leg of the same side without a meter is handed back, and the rooms have failed then; each later call answers
-    /// it and changes nothing; of the tokens nothing is said then.
+    /// `Gone` exactly where the conference is not live, and `RoomFull` exactly where it has 32 participants, pending invitations among them: the leg is handed back, and nothing
+    /// has changed. `NoMemory` where memory runs out: a leg of the same side without a meter is handed back, and the table has failed then; each later call returns `NoMemory`
+    /// and changes nothing; nothing is claimed of the tokens then.
     pub fn adopt(
         &mut self,
         alloc: Global,

@@ -1,4 +1,4 @@
-//! The rooms hear a signal, and a seat of one is told a status.
+//! The conferences receive a signal, and a participant of one is notified of a status.
 ghost use Rattle.std.specs.Prelude.{◌≡◌, ◌∷◌, false, true, List, IfErr, IfOk, IsErr, OnOk};
 ghost use Rattle.mmtel_trust.specs.Peers.{Peers};
 ghost use Rattle.mmtel_trust.specs.declared.accounts.AccountIdentity.{AccountIdentity};
@@ -19,7 +19,7 @@ use std::alloc::Global;
 use std::mem;
 
 impl Rooms {
-    /// The rooms hear a signal and keep what it left and closed.
+    /// The conferences receive a signal; what it abandons and closes is kept.
     fn hear(
         &mut self,
         step: &Step<'_>,
@@ -40,11 +40,12 @@ impl Rooms {
         self.settle(step.alloc, effects)
     }
 
-    /// The rooms hear a signal: the seat that it is of takes its row of the room table, or what was left of an INVITE goes on (RFC 4579 §5, RFC 3515 §2.4, RFC 3261 §12 to §15).
+    /// The conferences receive a signal: the participant that it is of takes its transition of the step table of conferences, or an abandoned INVITE takes its own (RFC 4579 §5,
+    /// RFC 3515 §2.4, RFC 3261 §12 to §15).
     ///
     /// # Errors
     ///
-    /// Want of memory alone: the rooms have failed then, and each later signal answers it and changes nothing; of the tokens nothing is said then.
+    /// Out of memory only: the table has failed then, and each later signal returns that error and changes nothing; nothing is claimed of the tokens then.
     pub fn signal(
         &mut self,
         alloc: Global,
@@ -80,7 +81,7 @@ impl Rooms {
         heard
     }
 
-    /// Tells a seat the status of this code, and keeps what comes of it.
+    /// Notifies a participant of the status of this code, and keeps what that abandons and closes.
     fn tell(
         &mut self,
         step: &Step<'_>,
@@ -102,12 +103,12 @@ impl Rooms {
         self.settle(step.alloc, effects)
     }
 
-    /// Tells a seat what became of its REFER, by the status line of this code; nothing goes out once it has left (RFC 3515 §2.4.4). The code has a phrase among those of
-    /// the server's own statuses.
+    /// Notifies a participant of the progress of its REFER, by the status line of this code; nothing is sent once it has left (RFC 3515 §2.4.4). The code has a reason phrase
+    /// among those of the server's own statuses.
     ///
     /// # Errors
     ///
-    /// Want of memory alone: the rooms have failed then, and each later call answers it and changes nothing; of the tokens nothing is said then.
+    /// Out of memory only: the table has failed then, and each later call returns that error and changes nothing; nothing is claimed of the tokens then.
     pub fn notify(
         &mut self,
         alloc: Global,

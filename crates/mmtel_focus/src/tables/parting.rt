@@ -1,4 +1,4 @@
-//! A seat is left, and a room closes, without a signal.
+//! A participant leaves, and a conference closes, without a signal.
 ghost use Rattle.std.specs.Prelude.{◌≡◌, ◌∷◌, List, IfOk, OnErr, OnOk};
 ghost use Rattle.mmtel_trust.specs.Peers.{Peers};
 ghost use Rattle.mmtel_trust.specs.declared.accounts.AccountIdentity.{AccountIdentity};
@@ -15,8 +15,8 @@ use mmtel_types::{Moment, RoomNo};
 use std::alloc::Global;
 
 impl Rooms {
-    /// Leaves a seat, and gives its row. Nothing goes out; an INVITE of the server's own to it that has no final is given up. None exactly where nobody has the seat, or
-    /// somebody who is invited and has not answered, who stays, or where no account is charged for it. It takes no memory.
+    /// A participant leaves; returns its CDR. Nothing is sent; an INVITE of the server's own to it that has no final response is dropped. None exactly where there is no such
+    /// participant, where it is invited and has not answered (it stays then), or where no account is charged for it. It allocates nothing.
     pub fn leave(&mut self, room: RoomNo, seat: u64, now: Moment) -> Option<Row>
         ensures done { (peers : Peers) (accounts : List AccountIdentity) (deeds : List Deed) →
             Stands peers accounts self.old deeds →
@@ -28,12 +28,12 @@ impl Rooms {
         parting::leave(&mut self.live, room, seat, now)
     }
 
-    /// Closes a room, and gives what is left of its seats, in their order: nothing goes out, no row is filed, and an INVITE of the server's own to a seat that has no final
-    /// is given up. It is none exactly where the room is not live, or no seat of it is taken.
+    /// Closes a conference, and returns what remains of its participants, in their order: nothing is sent, no CDR is filed, and an INVITE of the server's own to a participant
+    /// that has no final response is dropped. The result is empty exactly where the conference is not live, or has no participants.
     ///
     /// # Errors
     ///
-    /// Want of memory alone; the rooms are then as before.
+    /// Out of memory only; the conferences have not changed then.
     pub fn close(&mut self, alloc: Global, room: RoomNo) -> Result<Vec<Ended>, NoMemory>
         ensures done { OnOk result ((peers : Peers) (accounts : List AccountIdentity) (deeds : List Deed) →
             Stands peers accounts self.old deeds →

@@ -1,4 +1,4 @@
-//! What is done on mailboxes and on the subscriptions to them (RFC 6665 §4.1, §4.2; RFC 3842; 3GPP TS 24.606).
+//! Operations on mailboxes and on the subscriptions to them (RFC 6665 §4.1, §4.2; RFC 3842; 3GPP TS 24.606).
 ghost use Rattle.std.specs.Prelude.{◌≡◌, ◌∷◌, [], ℕ, List, IfOk, None, OnErr, OnOk, false, true};
 ghost use Rattle.std.specs.Option.{option_copied};
 ghost use Rattle.mmtel_directory.specs.declared.directories.Directory.{Directory};
@@ -34,9 +34,9 @@ use mmtel_transaction::TKey;
 use mmtel_types::{Account, Moment, SubNo};
 use std::sync::ledger::Ledger;
 
-/// What a subscriber is told.
+/// The notification of a subscriber.
 impl Server {
-    /// Whoever subscribed is told how many messages wait (RFC 3842 §3.6); nothing, where the subscription does not live.
+    /// Notifies the subscriber how many messages wait (RFC 3842 §3.6); nothing, where the subscription is not live.
     fn tell_box<L: Ledger>(
         &mut self,
         context: &Context,
@@ -67,7 +67,7 @@ impl Server {
         }
     }
 
-    /// Whoever subscribed is told so for the last time, and the subscription ends.
+    /// Sends the subscriber its last notification, and ends the subscription.
     fn tell_last<L: Ledger>(
         &mut self,
         context: &Context,
@@ -87,11 +87,11 @@ impl Server {
         Ok(())
     }
 
-    /// How many messages wait in a mailbox, where that was said: whoever subscribes to it is told, in the order in which they subscribed.
+    /// Where the counts of a mailbox were set: notifies its subscribers, in the order in which they subscribed.
     ///
     /// # Errors
     ///
-    /// Want of memory alone; a front of what is to be offered is then offered.
+    /// Out of memory only; a prefix of the outputs has then been added.
     pub(super) fn put_counts<L: Ledger>(
         &mut self,
         context: &Context,
@@ -114,7 +114,7 @@ impl Server {
         done
     }
 
-    /// Each of these subscribers is told how many messages wait.
+    /// Notifies each of these subscribers how many messages wait.
     fn tell_each<L: Ledger>(
         &mut self,
         context: &Context,
@@ -134,9 +134,9 @@ impl Server {
     }
 }
 
-/// What is done with a SUBSCRIBE that is of no dialog.
+/// The processing of a SUBSCRIBE outside a dialog.
 impl Server {
-    /// A subscription stands for so many seconds from now: its subscriber is told, for the last time where there are none.
+    /// Makes a subscription active for so many seconds from now: its subscriber gets a NOTIFY, the last one where the number is 0.
     fn stand<L: Ledger>(
         &mut self,
         context: &Context,
@@ -164,7 +164,7 @@ impl Server {
         }
     }
 
-    /// Answers a SUBSCRIBE that makes a subscription, with this tag (RFC 6665 §4.2.1.1).
+    /// Sends the 200 to a SUBSCRIBE that creates a subscription, with this tag (RFC 6665 §4.2.1.1).
     fn grant<L: Ledger>(
         &mut self,
         context: &Context,
@@ -194,7 +194,7 @@ impl Server {
         done
     }
 
-    /// Where a leg subscribes to the mailbox of an account; it is spent where memory ran out.
+    /// Where a leg subscribes to the mailbox of an account; it is released where memory ran out.
     fn add_box(
         &mut self,
         account: Account,
@@ -215,7 +215,7 @@ impl Server {
         }
     }
 
-    /// Somebody subscribes to the mailbox of an account, where fewer subscriptions live than may.
+    /// Creates a subscription to the mailbox of an account, where fewer subscriptions live than may.
     fn make_box<L: Ledger>(
         &mut self,
         context: &Context,
@@ -241,7 +241,7 @@ impl Server {
         self.stand(context, sub, seconds, out, steps)
     }
 
-    /// Somebody who may subscribes to the mailbox of an account, unless as many do as may.
+    /// Creates a subscription to the mailbox of an account, for a sender who may subscribe, unless as many live as may.
     fn make_box_for<L: Ledger>(
         &mut self,
         context: &Context,
@@ -288,11 +288,11 @@ impl Server {
         done
     }
 
-    /// Does what is due of a SUBSCRIBE that is of no dialog: it makes a subscription, or the first refusal that applies decides.
+    /// Processes a SUBSCRIBE outside a dialog: it creates a subscription, or the first refusal that applies decides.
     ///
     /// # Errors
     ///
-    /// Want of memory alone; a front of what is to be offered is then offered.
+    /// Out of memory only; a prefix of the outputs has then been added.
     pub(super) fn subscribe<L: Ledger>(
         &mut self,
         context: &Context,
@@ -316,9 +316,9 @@ impl Server {
     }
 }
 
-/// What is done with a request in the dialog of a subscription.
+/// The processing of a request in the dialog of a subscription.
 impl Server {
-    /// A SUBSCRIBE that is accepted makes the subscription stand anew.
+    /// A SUBSCRIBE that is accepted sets the expiration of the subscription anew.
     fn refresh_box<L: Ledger>(
         &mut self,
         context: &Context,
@@ -342,7 +342,7 @@ impl Server {
         self.stand(context, sub, seconds, out, steps)
     }
 
-    /// Does what is due of a SUBSCRIBE in the dialog of a subscription: it makes it stand anew, or the first refusal that applies decides.
+    /// Processes a SUBSCRIBE in the dialog of a subscription: it sets its expiration anew, or the first refusal that applies decides.
     fn resubscribe<L: Ledger>(
         &mut self,
         context: &Context,
@@ -363,7 +363,7 @@ impl Server {
         }
     }
 
-    /// Answers any other request in the dialog of a subscription: 200 to OPTIONS, 403 to REFER, and else 481.
+    /// Sends the response to any other request in the dialog of a subscription: 200 to OPTIONS, 403 to REFER, and else 481.
     fn answer_other<L: Ledger>(
         &mut self,
         context: &Context,
@@ -382,7 +382,7 @@ impl Server {
         done
     }
 
-    /// Takes note of a request of whoever subscribed, or refuses it where it is out of order (RFC 3261 §12.2.2).
+    /// Notes the CSeq number of a request of the subscriber, or refuses the request where it is out of order (RFC 3261 §12.2.2).
     fn hear_box(&mut self, sub: SubNo, request: &Hearing) -> Result<(), DialogueFault>
         ensures answer { (directory : Directory) (token : List ℕ) (world : World) → Stands directory token self.old world →
             result ≡ says sub (message_in request.now.heard) (boxes_in world) }
@@ -396,11 +396,11 @@ impl Server {
         }
     }
 
-    /// Does what is due of a request in the dialog of a subscription.
+    /// Processes a request in the dialog of a subscription.
     ///
     /// # Errors
     ///
-    /// Want of memory alone; a front of what is to be offered is then offered.
+    /// Out of memory only; a prefix of the outputs has then been added.
     pub(super) fn enter_box<L: Ledger>(
         &mut self,
         context: &Context,
@@ -430,7 +430,7 @@ impl Server {
 
 /// The end of a subscription.
 impl Server {
-    /// The time of a subscription is over that this SUBSCRIBE of it set, unless a later one set another.
+    /// Ends a subscription at the moment that this SUBSCRIBE of it set, unless a later one set another moment.
     pub(super) fn end_box<L: Ledger>(
         &mut self,
         context: &Context,
@@ -456,7 +456,7 @@ impl Server {
         }
     }
 
-    /// A NOTIFY of this branch was answered with this status, 408 where it was not at all: one from 300 ends its subscription (RFC 6665 §4.2.2).
+    /// A NOTIFY of this branch got a response with this status, 408 where it got none: a status from 300 on ends its subscription (RFC 6665 §4.2.2).
     pub(super) fn answer_box(&mut self, branch: Option<&[u8]>, code: u16)
         ensures { (out : List Offer) → Follows self.old out self.new out
             (λ d token. box_answered (option_copied branch.entry) code) }

@@ -1,4 +1,4 @@
-//! What the calls hear, and what is done of it.
+//! What the calls receive, and the execution of their output.
 ghost use Rattle.std.specs.Prelude.{◌≡◌, ℕ, List, IfOk, OnErr, OnOk, Some, false, true};
 ghost use Rattle.std.specs.Option.{option_copied, option_map};
 ghost use Rattle.mmtel_b2bua.specs.Lending.{entry_of, is_away};
@@ -41,7 +41,7 @@ fn bytes_of(text: &Option<Text>) -> Option<&[u8]>
     }
 }
 
-/// The subscription that has a dialog, as its holder.
+/// The subscription that has a dialog, as its owner.
 fn in_box(found: Option<SubNo>) -> Option<Holder>
     ensures { option_map holder_in result ≡ in_box found }
 {
@@ -52,7 +52,7 @@ fn in_box(found: Option<SubNo>) -> Option<Holder>
 }
 
 impl Server {
-    /// What the calls bring forth on a signal that opens none too many, with what is in force and the tokens; their rows are taken from them.
+    /// The output of the calls for a signal that does not open a call beyond the capacity, with what is in force and the tokens; their CDRs are removed from them.
     fn tell_calls(&mut self, context: &Context, signal: Signal) -> Result<Emits, NoMemory>
         requires { is_full signal self.old.calls.table.entries ≡ false }
         ensures { IfOk result (λ emits. CallsHear self.old self.new context.now.at signal emits) }
@@ -77,11 +77,11 @@ impl Server {
         }
     }
 
-    /// The calls hear a signal that opens none too many, and what they want done is done.
+    /// Delivers to the calls a signal that does not open a call beyond the capacity, and executes their commands.
     ///
     /// # Errors
     ///
-    /// Want of memory alone; a front of what is to be offered is then offered.
+    /// Out of memory only; a prefix of the outputs has then been added.
     fn bring<L: Ledger>(
         &mut self,
         context: &Context,
@@ -102,11 +102,11 @@ impl Server {
         done
     }
 
-    /// The calls hear a signal that opens none, and what they want done is done.
+    /// Delivers to the calls a signal that opens none, and executes their commands.
     ///
     /// # Errors
     ///
-    /// Want of memory alone; a front of what is to be offered is then offered.
+    /// Out of memory only; a prefix of the outputs has then been added.
     pub(super) fn signal<L: Ledger>(
         &mut self,
         context: &Context,
@@ -127,7 +127,7 @@ impl Server {
     ///
     /// # Errors
     ///
-    /// Want of memory alone; a front of what is to be offered is then offered.
+    /// Out of memory only; a prefix of the outputs has then been added.
     pub(super) fn open<L: Ledger>(
         &mut self,
         context: &Context,
@@ -147,7 +147,7 @@ impl Server {
         self.bring(context, signal, out, steps)
     }
 
-    /// What the calls bring forth where one of them, whose leg is away, ends; their rows are taken from them.
+    /// The output of the calls where one of them, whose leg is detached, ends; their CDRs are removed from them.
     fn end_call(&mut self, context: &Context, call: CallNo) -> Result<Emits, NoMemory>
         requires { is_away (entry_of call.0 self.old.calls.table.entries) ≡ true }
         ensures { IfOk result (λ emits. CallEnds self.old self.new context.now.at call emits) }
@@ -165,11 +165,11 @@ impl Server {
         Ok(emits)
     }
 
-    /// A call whose leg is away ends without it.
+    /// Ends a call without its detached leg.
     ///
     /// # Errors
     ///
-    /// Want of memory alone; a front of what is to be offered is then offered.
+    /// Out of memory only; a prefix of the outputs has then been added.
     pub(super) fn finish<L: Ledger>(
         &mut self,
         context: &Context,
@@ -190,7 +190,7 @@ impl Server {
         done
     }
 
-    /// Who has the dialog of this name: a side of a call, or else a seat of a room, or else a subscription.
+    /// The owner of the dialog of this name: a side of a call, or else a participant of a conference, or else a subscription.
     fn holder(&self, name: &DialogName) -> Option<Holder>
         ensures { (directory : Directory) (token : List ℕ) (world : World) → Stands directory token self.now world →
             option_map holder_in result ≡
@@ -209,7 +209,7 @@ impl Server {
         }
     }
 
-    /// Who has the dialog that a message names (RFC 3261 §12.2.2).
+    /// The owner of the dialog that a message names (RFC 3261 §12.2.2).
     pub(super) fn named(&self, alloc: Global, message: &Hearing) -> Result<Option<Holder>, NoMemory>
         ensures { IfOk result (λ named. Names self.now message.now named) }
     {
@@ -224,7 +224,7 @@ impl Server {
         }
     }
 
-    /// Whoever has the dialog of an ACK of a 2xx hears it.
+    /// Delivers an ACK of a 2xx to the owner of its dialog.
     fn hear_ack_of<L: Ledger>(
         &mut self,
         context: &Context,
@@ -252,7 +252,7 @@ impl Server {
         }
     }
 
-    /// Does what is due of an ACK of a 2xx: it is of the dialog that it names (RFC 3261 §13.2.2.4).
+    /// Processes an ACK of a 2xx: it belongs to the dialog that it names (RFC 3261 §13.2.2.4).
     pub(super) fn hear_ack<L: Ledger>(
         &mut self,
         context: &Context,
@@ -279,8 +279,8 @@ impl Server {
         }
     }
 
-    /// Does what is due of a response: it is of the calls where an INVITE of one has the branch that it answers, of the mailboxes where a NOTIFY of a subscription has it, and else
-    /// of the rooms (RFC 3261 §17.1.3).
+    /// Processes a response: it belongs to the calls where an INVITE of one has its branch, to the subscriptions where a NOTIFY of one has it, and else
+    /// to the conferences (RFC 3261 §17.1.3).
     pub(super) fn hear_answer<L: Ledger>(
         &mut self,
         context: &Context,
@@ -322,7 +322,7 @@ impl Server {
         }
     }
 
-    /// Does what is due of a CANCEL, by the live INVITE transaction that it is of, if there is one (RFC 3261 §9.2).
+    /// Processes a CANCEL, by the live INVITE transaction that it cancels, if there is one (RFC 3261 §9.2).
     pub(super) fn hear_cancel<L: Ledger>(
         &mut self,
         context: &Context,
@@ -348,7 +348,7 @@ impl Server {
         }
     }
 
-    /// Does what is due of a CANCEL of this INVITE transaction: it is of the call whose INVITE that is, or is answered alone.
+    /// Processes a CANCEL of this INVITE transaction: the call of that INVITE receives it, or it only gets its response.
     fn cancel_invite<L: Ledger>(
         &mut self,
         context: &Context,

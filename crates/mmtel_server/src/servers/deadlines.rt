@@ -1,4 +1,4 @@
-//! Deadlines: those that are due fire, each at its own moment (RFC 3261 §17).
+//! Timers: those that are due fire, each at its own moment (RFC 3261 §17).
 ghost use Rattle.std.specs.Prelude.{◌≡◌, ℕ, List, OnErr, OnOk, Some};
 ghost use Rattle.std.specs.Option.{option_map};
 ghost use Rattle.mmtel_outside.specs.declared.events.Offer.{Offer};
@@ -31,11 +31,11 @@ use mmtel_types::Moment;
 use std::alloc::Global;
 use std::sync::ledger::Ledger;
 
-/// The deadlines that fire before one event, at most: more than the steps of any run that numbers count.
+/// The maximum number of timers that fire before one event: more than the steps of any run within the range of the counters.
 const FIRINGS: u64 = 1 << 60;
 
 impl Server {
-    /// A step begins: deadlines that are armed in it carry its number.
+    /// Begins a step: timers that are armed in it carry its number.
     pub(super) fn begin(&mut self)
         ensures done { (out : List Offer) → Follows self.old out self.new out (λ d token. begun) }
         ensures directory { self.new.directory ≡ self.old.directory }
@@ -45,7 +45,7 @@ impl Server {
         self.steps = self.steps.saturating_add(1);
     }
 
-    /// A request was given up: whoever sent it hears of it, the calls of an INVITE of theirs, the mailboxes of a NOTIFY of a subscription, and the rooms of all others.
+    /// A request timed out: its owner receives that, the calls for an INVITE of theirs, the subscriptions for a NOTIFY of one, and the conferences for all others.
     fn silence<L: Ledger>(
         &mut self,
         context: &Context,
@@ -81,7 +81,7 @@ impl Server {
         }
     }
 
-    /// The client transaction of a request that was answered has ended: whoever sent it hears of it, the calls of an INVITE of theirs, and the rooms of all others.
+    /// The client transaction of a request that got its response has ended: its owner receives that, the calls for an INVITE of theirs, and the conferences for all others.
     fn end_transaction<L: Ledger>(
         &mut self,
         context: &Context,
@@ -104,11 +104,11 @@ impl Server {
         }
     }
 
-    /// Brings what a deadline of a message brings.
+    /// Executes what a timer of a transaction causes.
     ///
     /// # Errors
     ///
-    /// Want of memory alone; a front of what is to be offered is then offered.
+    /// Out of memory only; a prefix of the outputs has then been added.
     fn ring<L: Ledger>(
         &mut self,
         alloc: Global,
@@ -141,7 +141,7 @@ impl Server {
         }
     }
 
-    /// The first deadline of messages that is due fires, at its own moment.
+    /// Fires the first timer of the transactions that is due, at its own moment.
     fn fire_message<L: Ledger>(
         &mut self,
         alloc: Global,
@@ -157,7 +157,7 @@ impl Server {
         self.ring(alloc, said, now, out, steps)
     }
 
-    /// A deadline of a call, of a seat or of a subscription comes.
+    /// A timer of a call, of a participant or of a subscription expires.
     fn sound<L: Ledger>(
         &mut self,
         context: &Context,
@@ -184,7 +184,7 @@ impl Server {
         }
     }
 
-    /// The deadline of a call or of a seat that comes first fires, at its own moment.
+    /// Fires the first timer of calls, participants and subscriptions, at its own moment.
     fn strike<L: Ledger>(
         &mut self,
         alloc: Global,
@@ -206,11 +206,11 @@ impl Server {
         }
     }
 
-    /// A deadline that is due, the first of all, fires, at its own moment.
+    /// Fires a timer that is due, the first of all, at its own moment.
     ///
     /// # Errors
     ///
-    /// Want of memory alone; a front of what it brings is then offered.
+    /// Out of memory only; a prefix of its outputs has then been added.
     fn fire<L: Ledger>(
         &mut self,
         alloc: Global,
@@ -234,7 +234,7 @@ impl Server {
         }
     }
 
-    /// Which deadline comes first of those that are due.
+    /// Which timer comes first of those that are due.
     fn next_deadline<L: Ledger>(&self, now: Moment, steps: &mut Steps<L>) -> Option<Deadline>
         ensures { (h : List Done) → table.Stands self.now.transactions h →
             result ≡ option_map kind_of (first_of (next_due now (live h)) (first_armed now (queue_of self.now.armed))) }
@@ -245,11 +245,11 @@ impl Server {
         )
     }
 
-    /// All deadlines that are due fire, the first one first.
+    /// Fires all timers that are due, the first one first.
     ///
     /// # Errors
     ///
-    /// Want of memory alone; a front of what they bring is then offered.
+    /// Out of memory only; a prefix of their outputs has then been added.
     pub(super) fn settle<L: Ledger>(
         &mut self,
         alloc: Global,

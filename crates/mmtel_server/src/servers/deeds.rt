@@ -1,4 +1,4 @@
-//! What is offered: whatever the layers want done goes through here.
+//! Outputs: each command of a layer is executed here.
 ghost use Rattle.std.specs.Prelude.{◌≡◌, ◌<◌, ◌^◌, ◌+◌, ◌-◌, ◌++◌, ◌∷◌, [], List, IfOk, OnErr, OnOk};
 ghost use Rattle.mmtel_outside.specs.declared.events.Offer.{Offer};
 ghost use Rattle.mmtel_outside.specs.declared.events.Offer.TheVariants as offer;
@@ -22,7 +22,7 @@ use mmtel_types::Peer;
 use std::alloc::Global;
 use std::sync::ledger::Ledger;
 
-/// Adds an offer to a peer.
+/// Adds an output for a peer.
 pub(super) fn offer_to(
     alloc: Global,
     peer: Peer,
@@ -37,7 +37,7 @@ pub(super) fn offer_to(
     Ok(())
 }
 
-/// Adds an offer to a peer, where there is one.
+/// Adds an output for a peer, where there is one.
 fn offer_to_peer(
     alloc: Global,
     peer: Option<Peer>,
@@ -68,7 +68,7 @@ pub(super) fn drawn_tag(alloc: Global, tokens: &mut Tokens, message: &Msg) -> Re
     }
 }
 
-/// What a layer wants done. Each deed offers all that it has to; for want of memory nothing, and of several deeds a front, and the server has then failed.
+/// The commands of a layer. Each operation adds all its outputs; where memory runs out none, and of several operations a prefix, and the server has then failed.
 impl Server {
     /// Sends a request in a client transaction of its own.
     pub(super) fn ask<L: Ledger>(
@@ -91,7 +91,7 @@ impl Server {
         offer_to(context.alloc, peer, context.at.ms(), text, out)
     }
 
-    /// Answers a server transaction.
+    /// Sends a response in a server transaction.
     pub(super) fn reply<L: Ledger>(
         &mut self,
         context: &Context,
@@ -112,7 +112,7 @@ impl Server {
         offer_to_peer(context.alloc, peer, context.at.ms(), text, out)
     }
 
-    /// Acknowledges the non-2xx final that a client transaction heard.
+    /// Acknowledges the non-2xx final response that a client transaction received.
     pub(super) fn acknowledge<L: Ledger>(
         &mut self,
         context: &Context,
@@ -149,7 +149,7 @@ impl Server {
         offer_to(context.alloc, peer, context.at.ms(), text, out)
     }
 
-    /// The reliable answer of this number to a server transaction, or each of them, is sent no more.
+    /// Stops the retransmission of the reliable response of this number in a server transaction, or of each of them.
     fn settle_answers<L: Ledger>(
         &mut self,
         key: TKey,
@@ -164,7 +164,7 @@ impl Server {
         Ok(())
     }
 
-    /// Arms a deadline, in this step.
+    /// Arms a timer, in this step.
     pub(super) fn arm<L: Ledger>(
         &mut self,
         alarm: Alarm,
@@ -180,7 +180,7 @@ impl Server {
         self.armed.arm(Armed { alarm, at, step }, steps)
     }
 
-    /// Does what a layer wants done.
+    /// Executes a command of a layer.
     pub(super) fn emit<L: Ledger>(
         &mut self,
         context: &Context,
@@ -226,7 +226,7 @@ impl Server {
         }
     }
 
-    /// Does all that a layer wants done, in order.
+    /// Executes all commands of a layer, in order.
     pub(super) fn emit_all<L: Ledger>(
         &mut self,
         context: &Context,

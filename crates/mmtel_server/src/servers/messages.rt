@@ -1,4 +1,4 @@
-//! What is done with messages.
+//! The processing of messages.
 ghost use Rattle.std.specs.Prelude.{◌≡◌, None, OnErr, OnOk, Some, false, true};
 ghost use Rattle.mmtel_answers.specs.Said.{said};
 ghost use Rattle.mmtel_intake.specs.Courses.{answer_in, course_in};
@@ -42,7 +42,7 @@ pub(super) fn until(now: Moment, seconds: u64) -> Moment
     }
 }
 
-/// From whom a message was heard.
+/// The source of a received message.
 #[derive(Clone, Copy)]
 struct Whence {
     peer: Peer,
@@ -51,7 +51,7 @@ struct Whence {
 }
 
 impl Whence {
-    /// A message that was heard from there.
+    /// A message that was received from there.
     fn hearing(self, message: Msg) -> Hearing
         ensures { result ≡ said self.peer self.source self.trusted message }
     {
@@ -64,9 +64,9 @@ impl Whence {
     }
 }
 
-/// Answers of the server's own.
+/// Responses of the server's own.
 impl Server {
-    /// Answers a request in its transaction, with a tag of the server where To has none (RFC 3261 §8.2.6).
+    /// Sends a response to a request in its transaction, with a tag of the server where To has none (RFC 3261 §8.2.6).
     pub(super) fn replying<L: Ledger>(
         &mut self,
         context: &Context,
@@ -95,7 +95,7 @@ impl Server {
         done
     }
 
-    /// Answers a request without a transaction, with a tag of the server where To has none (RFC 3261 §8.2.7).
+    /// Sends a response to a request without a transaction, with a tag of the server where To has none (RFC 3261 §8.2.7).
     fn replying_plainly(
         &mut self,
         context: &Context,
@@ -149,7 +149,7 @@ impl Server {
 
 /// What is done with a request that opens a transaction.
 impl Server {
-    /// Registers an account for so many seconds, and answers (RFC 3261 §10.3).
+    /// Registers an account for so many seconds, and sends the response (RFC 3261 §10.3).
     fn register<L: Ledger>(
         &mut self,
         context: &Context,
@@ -168,7 +168,7 @@ impl Server {
         self.replying(context, key, request, &plainly(200), out, steps)
     }
 
-    /// Does with a request what is decided of it; a call is opened only where fewer live than may, and a room or a seat asked for only by whoever offers audio.
+    /// Executes the disposition of a request; a call is opened only where fewer live than may, and a conference is opened or joined only by an INVITE that offers audio.
     fn take<L: Ledger>(
         &mut self,
         context: &Context,
@@ -235,7 +235,7 @@ impl Server {
         }
     }
 
-    /// Does what is due of a request that opened a transaction.
+    /// Processes a request that opened a transaction.
     fn take_fresh<L: Ledger>(
         &mut self,
         context: &Context,
@@ -275,9 +275,9 @@ impl Server {
     }
 }
 
-/// What is done with whatever a peer says.
+/// The processing of any message of a peer.
 impl Server {
-    /// Sends again what a message that is heard again is due.
+    /// Sends the retransmission that is due for a retransmitted message.
     fn repeat(
         &mut self,
         context: &Context,
@@ -294,7 +294,7 @@ impl Server {
         }
     }
 
-    /// Does what is due of a message of a peer, by what the transactions say of it.
+    /// Processes a message of a peer, by how the transactions classify it.
     fn answer<L: Ledger>(
         &mut self,
         context: &Context,
@@ -334,7 +334,7 @@ impl Server {
         }
     }
 
-    /// Answers a message that is one too many (RFC 3261 §21.5.4).
+    /// Responds to a message beyond the capacity (RFC 3261 §21.5.4).
     fn turn_away(
         &mut self,
         context: &Context,
@@ -348,7 +348,7 @@ impl Server {
         self.replying_plainly(context, request, &plainly(503), out)
     }
 
-    /// Hears a message of a peer.
+    /// Processes a received message of a peer.
     fn hear<L: Ledger>(
         &mut self,
         context: &Context,
@@ -388,11 +388,11 @@ impl Server {
         }
     }
 
-    /// Meets a datagram, or the passing of time, at a moment of the clock, by what was read of it.
+    /// Processes a datagram, or the passing of time, at a moment of the clock, by what was read of it.
     ///
     /// # Errors
     ///
-    /// Want of memory alone: a front of what it has to offer is then offered, and the server has failed.
+    /// Out of memory only: a prefix of its outputs has then been added, and the server has failed.
     pub(crate) fn meet<L: Ledger>(
         &mut self,
         alloc: Global,

@@ -1,4 +1,4 @@
-//! A request of a seat; a REFER with Replaces that was accepted brings the other leg of a call in the place of a dialog (RFC 3891 §3, RFC 4579 §5.6).
+//! A request of a participant; a REFER with Replaces that was accepted moves the other leg of a call into the conference in the place of a dialog (RFC 3891 §3, RFC 4579 §5.6).
 ghost use Rattle.std.specs.Prelude.{◌≡◌, ◌<◌, ℕ, List, Err, IfOk, None, OnErr, OnOk, Some, codes, false, if◌then◌else◌, true};
 ghost use Rattle.mmtel_b2bua.specs.Lending.{entry_of, is_away, leg_out, takes_back};
 ghost use Rattle.mmtel_directory.specs.declared.directories.Directory.{Directory};
@@ -29,7 +29,7 @@ use mmtel_types::{Account, CallNo, Peer, Side};
 use std::alloc::Global;
 use std::sync::ledger::Ledger;
 
-/// Whether the first of these accepts a request: it is a 202 (RFC 3515 §2.4.2).
+/// Whether the first of these commands accepts a request: it is a 202 (RFC 3515 §2.4.2).
 fn is_accepted(emits: &[Emit]) -> bool
     ensures { result ≡ is_accepted emits.now }
 {
@@ -39,7 +39,7 @@ fn is_accepted(emits: &[Emit]) -> bool
     }
 }
 
-/// What was asked, where it was accepted.
+/// The requested replacement, where it was accepted.
 fn where_accepted(asked: Option<Replaces>, emits: &[Emit]) -> Option<Replaces>
     ensures { result ≡ if is_accepted emits.now then asked else None }
 {
@@ -51,7 +51,7 @@ fn where_accepted(asked: Option<Replaces>, emits: &[Emit]) -> Option<Replaces>
     }
 }
 
-/// The dialog in the place of which a request asks for another, where it is a REFER with Replaces (RFC 3891 §3).
+/// The dialog that a request asks to replace, where it is a REFER with Replaces (RFC 3891 §3).
 fn replaces_asked(alloc: Global, request: &Hearing) -> Result<Option<Replaces>, NoMemory>
     ensures { IfOk result (λ asked. asked ≡ if is_method (codes "REFER") request.now.heard.start
         then replaces_by (referral_in request.now.heard.refer_to) else None) }
@@ -70,7 +70,7 @@ fn replaces_asked(alloc: Global, request: &Hearing) -> Result<Option<Replaces>, 
     }
 }
 
-/// The account that is served at a side.
+/// The served account of a side.
 fn account_at(party: Option<(Peer, Option<Account>)>) -> Option<Account>
     ensures { result ≡ account_at party }
 {
@@ -80,13 +80,13 @@ fn account_at(party: Option<(Peer, Option<Account>)>) -> Option<Account>
     }
 }
 
-/// A REFER of a seat with Replaces, which was accepted: the other leg of the call has a seat in the place of the dialog, and the call ends (RFC 3891 §3, RFC 4579 §5.6).
+/// A REFER of a participant with Replaces, which was accepted: the other leg of the call joins in the place of the dialog, and the call ends (RFC 3891 §3, RFC 4579 §5.6).
 impl Server {
-    /// A request of a seat, and what follows of it where it was accepted: a REFER with Replaces asks for a leg in the place of another (RFC 3891 §3, RFC 4579 §5.6).
+    /// Processes a request of a participant, and what follows from it: a REFER with Replaces, if accepted, asks for a leg in the place of another (RFC 3891 §3, RFC 4579 §5.6).
     ///
     /// # Errors
     ///
-    /// Want of memory alone; a front of what is to be offered is then offered.
+    /// Out of memory only; a prefix of the outputs has then been added.
     pub(super) fn enter_room<L: Ledger>(
         &mut self,
         context: &Context,
@@ -130,7 +130,7 @@ impl Server {
         self.replace(context, peer, seat, accepted, out, steps)
     }
 
-    /// The call that lives and the side whose dialog is to be replaced; a Replaces without one of the tags names none.
+    /// The live call and the side whose dialog is to be replaced; a Replaces without one of the tags names none.
     fn side_replaced(&self, replaces: &Replaces) -> Option<(CallNo, Side)>
         ensures { (directory : Directory) (token : List ℕ) (world : World) → Stands directory token self.now world →
             result ≡ side_replaced replaces.now (calls_in directory world).entries }
@@ -147,7 +147,7 @@ impl Server {
         }
     }
 
-    /// The seat is told that it is tried, and then what came of it, where something was asked.
+    /// Notifies the participant of 100 (Trying), and then of the outcome, where a replacement was requested.
     fn replace<L: Ledger>(
         &mut self,
         context: &Context,
@@ -172,7 +172,7 @@ impl Server {
         }
     }
 
-    /// The seat is told that it is tried, and then what came of it.
+    /// Notifies the participant of 100 (Trying), and then of the outcome.
     fn replace_by<L: Ledger>(
         &mut self,
         context: &Context,
@@ -192,7 +192,7 @@ impl Server {
         self.replace_dialog(context, peer, seat, replaces, out, steps)
     }
 
-    /// The dialog has to be of a call that lives.
+    /// The dialog has to be that of a live call.
     fn replace_dialog<L: Ledger>(
         &mut self,
         context: &Context,
@@ -214,7 +214,7 @@ impl Server {
         }
     }
 
-    /// It has to be of the peer that asks; then the leg across from it is taken.
+    /// It has to be with the peer that asks; then the leg across from it is taken out.
     fn replace_side<L: Ledger>(
         &mut self,
         context: &Context,
@@ -238,7 +238,7 @@ impl Server {
         }
     }
 
-    /// The leg of this side is taken out of its call, where that talks.
+    /// Takes the leg of this side out of its call, where that is stable.
     fn take_out<L: Ledger>(
         &mut self,
         context: &Context,
@@ -265,7 +265,7 @@ impl Server {
         }
     }
 
-    /// A leg that was taken out of its call has a seat, and the call ends; or none is free, and it is put back.
+    /// A leg that was taken out of its call becomes a participant, and the call ends; or no place is free, and the leg is put back.
     fn adopt<L: Ledger>(
         &mut self,
         context: &Context,

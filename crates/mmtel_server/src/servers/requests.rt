@@ -1,4 +1,4 @@
-//! What is done with web requests.
+//! The processing of web requests.
 ghost use Rattle.std.specs.Prelude.{◌≡◌, ◌<◌, ◌++◌, ◌∷◌, [], length, slice_set, IfOk, OnErr, OnOk};
 ghost use Rattle.mmtel_http.specs.Requests.{request_of};
 ghost use Rattle.mmtel_outside.specs.declared.events.Offer.TheVariants as offer;
@@ -23,16 +23,16 @@ use mmtel_types::{Account, Moment};
 use std::alloc::Global;
 use std::sync::ledger::Ledger;
 
-/// What the keeper answered to an event.
+/// The keeper's results for an event.
 #[derive(Drop)]
 pub(super) struct Answered {
-    /// What became of its call, where one was due.
+    /// The outcome of its call, where one was due.
     pub kept: Outcome,
-    /// The charging rows that it gave.
+    /// The CDRs that it returned.
     pub rows: List<Row>,
 }
 
-/// Of an event that asks nothing of the keeper.
+/// For an event that does not call the keeper.
 pub(super) fn unasked() -> Answered
     ensures kept { result.kept ≡ Outcome.Made }
     ensures rows { result.rows ≡ [] }
@@ -43,7 +43,7 @@ pub(super) fn unasked() -> Answered
     }
 }
 
-/// Makes room for a reply on a web connection, as the last of what is offered.
+/// Reserves a place for a reply on a web connection, as the last of the outputs.
 fn make_room(alloc: Global, at: u64, out: &mut List<Offer>) -> Result<(), NoMemory>
     ensures done { OnOk result (out.new ≡ out.old ++ offer.Web at [] ∷ []) }
     ensures err { OnErr result (out.new ≡ out.old) }
@@ -53,7 +53,7 @@ fn make_room(alloc: Global, at: u64, out: &mut List<Offer>) -> Result<(), NoMemo
     Ok(())
 }
 
-/// Puts a reply where room was made for it.
+/// Puts a reply into the place that was reserved for it.
 fn put_reply(place: usize, at: u64, text: Text, out: &mut List<Offer>)
     requires { place < length out.old }
     ensures { out.new ≡ slice_set out.old place (offer.Web at text) }
@@ -62,11 +62,11 @@ fn put_reply(place: usize, at: u64, text: Text, out: &mut List<Offer>)
 }
 
 impl Server {
-    /// Does what the bytes of a web connection ask, and replies.
+    /// Processes the bytes of a web connection, and replies.
     ///
     /// # Errors
     ///
-    /// Want of memory alone: no reply was then offered, and the keeper was not called, since room for the reply is made first.
+    /// Out of memory only: no reply was then output, and the keeper was not called, since the place for the reply is reserved first.
     fn answer_web<K: Keeper>(
         &mut self,
         alloc: Global,
@@ -114,12 +114,12 @@ impl Server {
         }
     }
 
-    /// Does what the bytes of a web connection ask, replies, and tells whoever subscribes to a mailbox of which they say how many messages wait (RFC 3842 §3).
+    /// Processes the bytes of a web connection, replies, and notifies the subscribers of a mailbox whose counts they set (RFC 3842 §3).
     ///
     /// # Errors
     ///
-    /// Want of memory alone: before anything was done, no reply was offered and the keeper was not called; or in telling, behind the reply, and a front of the NOTIFYs is
-    /// then offered.
+    /// Out of memory only: either before anything was done, so that no reply was output and the keeper was not called; or after the reply, while subscribers were notified, and a
+    /// prefix of the NOTIFYs has then been added.
     pub(super) fn serve<K: Keeper, L: Ledger>(
         &mut self,
         alloc: Global,

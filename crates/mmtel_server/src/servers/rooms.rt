@@ -1,4 +1,4 @@
-//! What is done on the conference rooms, and what is done of it.
+//! Operations on the conferences, and the execution of their output.
 ghost use Rattle.std.specs.Prelude.{◌≡◌, ◌<◌, ◌+◌, ◌++◌, ◌∷◌, List, Err, IfErr, IfOk, IfSome, IsOk, None, OnErr, OnOk, Some, length, false, true};
 ghost use Rattle.mmtel_focus.specs.Histories as histories;
 ghost use Rattle.mmtel_focus.specs.Histories.{Deed, Drops, Hears, Notifies, Opens, coming, entering, is_offer, site_of};
@@ -27,16 +27,16 @@ use mmtel_types::{Account, RoomNo};
 use std::alloc::Global;
 use std::sync::ledger::Ledger;
 
-/// A seat of a room.
+/// A participant of a conference.
 #[derive(Clone, Copy)]
 pub(super) struct RoomSeat {
-    /// The room.
+    /// The conference.
     pub room: RoomNo,
-    /// The number of the seat in it.
+    /// The number of the participant in it.
     pub number: u64,
 }
 
-/// Lets go of what is left of a leg for which no meter ran.
+/// Releases what remains of a leg for which no meter ran.
 pub(super) fn let_go(ended: Ended)
     requires { ended.meter ≡ None }
 {
@@ -47,11 +47,11 @@ pub(super) fn let_go(ended: Ended)
     }
 }
 
-/// Takes the rows that the rooms closed from them: they wait with all others.
+/// Removes from the conferences the CDRs that they closed: these wait with all others.
 ///
 /// # Errors
 ///
-/// Want of memory alone.
+/// Out of memory only.
 fn take_rows_of_rooms(
     alloc: Global,
     rooms: &mut Rooms,
@@ -70,9 +70,9 @@ fn take_rows_of_rooms(
     Ok(())
 }
 
-/// What the rooms bring forth, with their rows taken from them.
+/// The output of the conferences, with their CDRs removed.
 impl Server {
-    /// On a signal.
+    /// For a signal.
     pub(super) fn tell_rooms(
         &mut self,
         context: &Context,
@@ -94,7 +94,7 @@ impl Server {
         Ok(emits)
     }
 
-    /// Where a seat is told a status (RFC 3515 §2.4.4).
+    /// For the notification of a participant of a status (RFC 3515 §2.4.4).
     fn tell_seat(&mut self, alloc: Global, seat: RoomSeat, code: u16) -> Result<Emits, NoMemory>
         ensures { IfOk result (RoomsDo self.old self.new
             (λ d token world. Notifies seat.room.0 seat.number code (tokens_now token world))) }
@@ -113,11 +113,11 @@ impl Server {
         Ok(emits)
     }
 
-    /// Where a caller has a room of its own (RFC 4579 §5.4); None where as many are live as may.
+    /// For a caller who gets a conference of its own (RFC 4579 §5.4); None where as many are live as may.
     ///
     /// # Errors
     ///
-    /// Want of memory alone.
+    /// Out of memory only.
     pub(super) fn create_room(
         &mut self,
         context: &Context,
@@ -159,11 +159,11 @@ impl Server {
         }
     }
 
-    /// Where a leg comes to a room (RFC 4579 §5.1, §5.6); or the leg again and why it finds no seat.
+    /// For a leg that joins a conference (RFC 4579 §5.1, §5.6); or the leg is returned with the reason why it cannot.
     ///
     /// # Errors
     ///
-    /// Want of memory alone; the leg is then spent.
+    /// Out of memory only; the leg is then released.
     pub(super) fn seat_leg(
         &mut self,
         context: &Context,
@@ -208,13 +208,13 @@ impl Server {
     }
 }
 
-/// What the rooms and their seats hear.
+/// What the conferences and their participants receive.
 impl Server {
-    /// The rooms hear a signal, and what they want done is done.
+    /// Delivers a signal to the conferences, and executes their commands.
     ///
     /// # Errors
     ///
-    /// Want of memory alone; a front of what is to be offered is then offered.
+    /// Out of memory only; a prefix of the outputs has then been added.
     pub(super) fn seat_signal<L: Ledger>(
         &mut self,
         context: &Context,
@@ -233,11 +233,11 @@ impl Server {
         done
     }
 
-    /// A seat is told a status, and what that brings forth is done (RFC 3515 §2.4.4).
+    /// Notifies a participant of a status, and executes the commands for it (RFC 3515 §2.4.4).
     ///
     /// # Errors
     ///
-    /// Want of memory alone; a front of what is to be offered is then offered.
+    /// Out of memory only; a prefix of the outputs has then been added.
     pub(super) fn notice<L: Ledger>(
         &mut self,
         context: &Context,

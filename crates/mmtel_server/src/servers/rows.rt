@@ -1,4 +1,4 @@
-//! The charging rows that wait.
+//! The CDRs that wait.
 ghost use Rattle.std.specs.Prelude.{◌≡◌, ◌++◌, ◌∷◌, List, OnOk, length};
 ghost use Rattle.mmtel_b2bua.specs.Histories.{Deed, Drops, Stands, site_of};
 ghost use Rattle.mmtel_trust.specs.Peers.{Peers};
@@ -9,11 +9,11 @@ use mmtel_charging::Row;
 use mmtel_scan::{List, NoMemory};
 use std::alloc::Global;
 
-/// Adds rows at the end.
+/// Adds CDRs at the end.
 ///
 /// # Errors
 ///
-/// Want of memory alone; some of them may then stand there.
+/// Out of memory only; some of them may have been added then.
 pub(super) fn add_rows(alloc: Global, rows: &[Row], waiting: &mut List<Row>) -> Result<(), NoMemory>
     ensures { OnOk result (waiting.new ≡ waiting.old ++ rows.now) }
 {
@@ -23,11 +23,11 @@ pub(super) fn add_rows(alloc: Global, rows: &[Row], waiting: &mut List<Row>) -> 
     Ok(())
 }
 
-/// Takes the rows that the calls closed from them: they wait with all others.
+/// Removes from the calls the CDRs that they closed: these wait with all others.
 ///
 /// # Errors
 ///
-/// Want of memory alone.
+/// Out of memory only.
 pub(super) fn take_rows_of_calls(
     alloc: Global,
     calls: &mut Calls,

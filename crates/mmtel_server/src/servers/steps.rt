@@ -1,4 +1,4 @@
-//! The steps of a run: the deadlines that are due by an event fire, and then it is met.
+//! The steps of a run: the timers that are due by an event fire, and then the event is processed.
 ghost use Rattle.std.specs.Prelude.{◌≡◌, ◌≤◌, ℕ, Bool, List, IfOk, IsErr, OnErr, OnOk, [], false, max, true};
 ghost use Rattle.mmtel_charging.specs.declared.rows.Row.{Row};
 ghost use Rattle.mmtel_b2bua.specs.Tables.{no_calls};
@@ -41,7 +41,7 @@ use mmtel_types::{Account, Addr, Moment};
 use std::alloc::Global;
 use std::sync::ledger::Ledger;
 
-/// The moment at which the clock begins.
+/// The moment at which the clock starts.
 fn first_moment() -> Moment
     ensures { result ≡ 0 }
 {
@@ -62,7 +62,7 @@ fn later(clock: Moment, moment: Moment) -> Moment
     }
 }
 
-/// The digits of the home country once more.
+/// A copy of the digits of the home country.
 fn country_copied(alloc: Global, country: &Option<Text>) -> Result<Option<Text>, NoMemory>
     ensures { IfOk result (λ digits. digits ≡ country.now) }
 {
@@ -72,7 +72,7 @@ fn country_copied(alloc: Global, country: &Option<Text>) -> Result<Option<Text>,
     }
 }
 
-/// No calls and no rooms yet, of a server of this configuration.
+/// Empty tables of calls and conferences, of a server of this configuration.
 fn none_yet(alloc: Global, directory: &Directory) -> Result<(Calls, Rooms), NoMemory>
     requires { directory.now.bound ≤ 16 }
     ensures calls { IfOk result (λ made. made.0
@@ -118,12 +118,12 @@ fn none_yet(alloc: Global, directory: &Directory) -> Result<(Calls, Rooms), NoMe
 }
 
 impl Server {
-    /// A server of this configuration over these loaded texts of records, which draws identifiers that begin with the token. Of an account's texts the last one counts, and
-    /// one that is no record is kept as it is and counts as the empty record.
+    /// A server of this configuration over these loaded texts of records, which draws identifiers that begin with the token. Of several texts of an account the last one counts;
+    /// a text that is no record is kept unchanged and counts as the empty record.
     ///
     /// # Errors
     ///
-    /// Want of memory alone.
+    /// Out of memory only.
     pub fn new(
         alloc: Global,
         directory: Directory,
@@ -169,13 +169,13 @@ impl Server {
         })
     }
 
-    /// One event: the deadlines that are due by then fire, each at its own moment; then the event is met when the clock, the greatest moment so far, stands so (RFC 3261
-    /// §17). An upload is kept by the keeper, and in force from then on exactly where it was kept (3GPP TS 24.623 §5). What is looked at of the transactions is added to the counter.
+    /// One event: the timers that are due by then fire, each at its own moment; then the event is processed at the moment of the clock, which is the greatest so far (RFC 3261
+    /// §17). An upload is stored by the keeper, and in force from then on exactly where it was stored (3GPP TS 24.623 §5). The search steps in the transactions are counted.
     ///
     /// # Errors
     ///
-    /// Want of memory alone, but for what a 507 answers. Of what the event makes the server offer a front may then have been added, a record may have been kept, its reply offered, and from
-    /// then on nothing is done.
+    /// Out of memory only, but for what a 507 answers. A prefix of the outputs for the event may then have been added, a record may have been stored, its reply output, and
+    /// from then on nothing is done.
     pub fn step<K: Keeper, L: Ledger>(
         &mut self,
         alloc: Global,
@@ -215,7 +215,7 @@ impl Server {
         &self.directory.peers
     }
 
-    /// The charging rows of calls that are over and of seats that were left which the keeper has not taken, in the order in which they were closed.
+    /// The CDRs of calls that ended and of participants that left which the keeper has not accepted, in the order in which they were closed.
     pub fn rows_waiting(&self) -> &[Row]
         ensures waiting { (directory : Directory) (token : List ℕ) (loaded : Texts) (happened : List Happened)
             (serves : Serves directory token loaded happened self.now) →
@@ -224,7 +224,7 @@ impl Server {
         self.waiting.items()
     }
 
-    /// Spends what is still live, without rows. It takes no memory.
+    /// Releases what is still live, without CDRs. It allocates nothing.
     pub fn give_up(self) {
         let Server {
             directory,
@@ -251,7 +251,7 @@ impl Server {
         boxes.give_up();
     }
 
-    /// Meets a datagram.
+    /// Processes a datagram.
     fn meet_datagram<L: Ledger>(
         &mut self,
         alloc: Global,
@@ -271,7 +271,7 @@ impl Server {
         self.meet(alloc, told, at, out, steps)
     }
 
-    /// Meets an event at a moment of the clock: what it makes the server offer, and what the keeper answered to it.
+    /// Processes an event at a moment of the clock: its outputs are added, and the keeper's results are returned.
     fn meet_event<K: Keeper, L: Ledger>(
         &mut self,
         alloc: Global,
@@ -303,11 +303,11 @@ impl Server {
         }
     }
 
-    /// Hands the rows that wait to the keeper, which takes all of them or none. True where none waits from then on.
+    /// Hands the CDRs that wait to the keeper, which accepts all of them or none. True where none waits from then on.
     ///
     /// # Errors
     ///
-    /// Want of memory alone; each of them waits still.
+    /// Out of memory only; all of them still wait then.
     fn hand_rows<K: Keeper>(&mut self, alloc: Global, keeper: &mut K) -> Result<bool, NoMemory>
         ensures done { IfOk result (λ took. (out : List Offer) → Follows self.old out self.new out (λ d token. ended took)) }
         ensures handed { IfOk result (λ took. Handed took self.old.waiting (K.held keeper.old) (K.held keeper.new)
@@ -319,7 +319,7 @@ impl Server {
         hand_rows(alloc, &mut self.waiting, keeper)
     }
 
-    /// An event comes when the clock stands so: what it makes the server offer, and what the keeper answered in it.
+    /// Processes an event at this moment of the clock: its outputs are added, and the keeper's results in it are returned.
     fn come_at<K: Keeper, L: Ledger>(
         &mut self,
         alloc: Global,

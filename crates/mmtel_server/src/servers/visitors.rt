@@ -1,4 +1,4 @@
-//! Who comes to a room (RFC 4579 §5.1, §5.4): a seat, or an answer that turns the visitor away.
+//! Who joins a conference (RFC 4579 §5.1, §5.4): it becomes a participant, or gets a response that refuses it.
 ghost use Rattle.std.specs.Prelude.{◌≡◌, ◌<◌, ◌+◌, ◌^◌, List, Err, IfOk, None, OnErr, OnOk, Some, true};
 ghost use Rattle.mmtel_focus.specs.Table.{access, has_no_room};
 ghost use Rattle.mmtel_run.specs.Rooms.{leg_by, status_by};
@@ -23,14 +23,14 @@ use mmtel_types::RoomNo;
 use std::alloc::Global;
 use std::sync::ledger::Ledger;
 
-/// Who comes to a room.
+/// The party that joins a conference.
 #[derive(Clone, Copy)]
 struct Visitor<'a> {
     /// The transaction that the INVITE opened.
     key: TKey,
     /// The INVITE.
     invite: &'a Hearing,
-    /// The tag of the server's answer.
+    /// The tag of the server's response.
     tag: &'a Text,
 }
 
@@ -44,7 +44,7 @@ pub(super) fn next_tag(alloc: Global, tokens: &mut Tokens) -> Result<Text, NoMem
     tokens.draw(alloc)
 }
 
-/// The leg of whoever sent an INVITE or a SUBSCRIBE, where the server answers with this tag.
+/// The leg of the sender of an INVITE or a SUBSCRIBE, where the server responds with this tag.
 pub(super) fn leg_by(
     alloc: Global,
     invite: &Hearing,
@@ -61,7 +61,7 @@ pub(super) fn leg_by(
     }
 }
 
-/// The status for one who finds no seat.
+/// The status of the response to one who cannot join.
 fn status_by(fault: RoomFault) -> u16
     ensures { result ≡ status_by fault }
 {
@@ -74,7 +74,7 @@ fn status_by(fault: RoomFault) -> u16
 }
 
 impl Server {
-    /// Turns away, with this status and tag, whoever finds no seat.
+    /// Refuses, with this status and tag, whoever cannot join.
     fn turn_from_room<L: Ledger>(
         &mut self,
         context: &Context,
@@ -99,7 +99,7 @@ impl Server {
         done
     }
 
-    /// Whoever comes to the factory, and is answered with this tag, has a room of its own, unless as many are live as may.
+    /// Opens a conference for the caller of the factory, who gets a response with this tag, unless as many are live as may.
     fn open_room_for<L: Ledger>(
         &mut self,
         context: &Context,
@@ -137,11 +137,11 @@ impl Server {
         }
     }
 
-    /// Whoever comes to the factory has a room of its own (RFC 4579 §5.4); the tag that is drawn stands in the answer, a refusal too.
+    /// Opens a conference for the caller of the factory (RFC 4579 §5.4); the tag that is drawn is that of the response, of a refusal too.
     ///
     /// # Errors
     ///
-    /// Want of memory alone; a front of what is to be offered is then offered.
+    /// Out of memory only; a prefix of the outputs has then been added.
     pub(super) fn open_room<L: Ledger>(
         &mut self,
         context: &Context,
@@ -166,7 +166,7 @@ impl Server {
         self.open_room_for(context, &visitor, out, steps)
     }
 
-    /// Whoever comes to a room, and is answered with this tag, has a seat in it, where it is live and has one.
+    /// Adds the party to a conference, with a response with this tag, where the conference is live and has a free place.
     fn join_room_for<L: Ledger>(
         &mut self,
         context: &Context,
@@ -213,11 +213,11 @@ impl Server {
         }
     }
 
-    /// Whoever comes to a room has a seat in it, where it is live and has one (RFC 4579 §5.1); the tag that is drawn stands in the answer, a refusal too.
+    /// Adds the party to a conference, where it is live and has a free place (RFC 4579 §5.1); the tag that is drawn is that of the response, of a refusal too.
     ///
     /// # Errors
     ///
-    /// Want of memory alone; a front of what is to be offered is then offered.
+    /// Out of memory only; a prefix of the outputs has then been added.
     pub(super) fn join_room<L: Ledger>(
         &mut self,
         context: &Context,

@@ -1,4 +1,4 @@
-//! An attempt from its offer to its end, and what comes late.
+//! An attempt from its offer to its end, and late responses.
 
 use crate::answers::heard::{OPENING, SIP, desk, hearing, tell_desk};
 use crate::asserting::assert_right;
@@ -55,7 +55,7 @@ Content-Length: 0
 
 "##;
 
-/// Offers the call to the first target; gives the INVITE.
+/// Offers the call to the first target; returns the INVITE.
 fn offered(told: &mut Told, desk: &mut Desk, opening: &Hearing) -> Option<Invitation> {
     let aim = first_aim(told.alloc, Peer(2), &[], opening);
     let aim = told.noted(aim)?;
@@ -69,7 +69,7 @@ fn offered(told: &mut Told, desk: &mut Desk, opening: &Hearing) -> Option<Invita
     told.noted(sent)
 }
 
-/// The call is opened and offered: its tag is drawn, it has a 100, and the INVITE goes out.
+/// The call is opened and offered: its tag is drawn, it has a 100, and the INVITE is sent.
 fn begin(told: &mut Told, desk: &mut Desk, opening: &Hearing) -> Option<Invitation> {
     let tag = desk.draw(told.alloc);
     let tag = told.noted(tag)?;
@@ -79,7 +79,7 @@ fn begin(told: &mut Told, desk: &mut Desk, opening: &Hearing) -> Option<Invitati
     offered(told, desk, opening)
 }
 
-/// The caller gives up: 200 of the CANCEL, 487 of the INVITE, and no CANCEL goes on before a provisional response came.
+/// The caller abandons the call: 200 for the CANCEL, 487 for the INVITE, and no CANCEL is sent before a provisional response was received.
 fn give_up(told: &mut Told, desk: &mut Desk, opening: &Hearing, sent: &Invitation) {
     let cancel = hearing(told, GIVEN_UP, 1, 5071, true);
     let tag = b"0123456789abcdef-1";
@@ -204,8 +204,8 @@ Content-Length: 0
 nothing is left
 "##;
 
-/// A restricted call to an untrusted peer; the caller gives up before anything came back. A late 100 lets the CANCEL go, a late 2xx has ACK and BYE, the same 2xx again an
-/// ACK alone, and a late 302 its ACK, after which nothing is left (RFC 3261 §9.1, §13.2.2.4, §17.1.1.3).
+/// A restricted call to an untrusted peer; the caller abandons it before any response was received. After a late 100 the CANCEL is sent, a late 2xx has ACK and BYE, the same 2xx
+/// again an ACK alone, and a late 302 its ACK, after which nothing remains (RFC 3261 §9.1, §13.2.2.4, §17.1.1.3).
 fn wrong_gives_up(alloc: Global) -> usize {
     let mut told = Told::new(alloc);
     let opening = hearing(&mut told, OPENING, 1, 5071, true);
@@ -233,7 +233,7 @@ fn gives_up(rt: HostRuntime) {
     assert_right(&rt, "gives_up", wrong_gives_up(rt.alloc()));
 }
 
-/// An INVITE of a caller who hides nothing, with a Route value that is kept and a line that is passed on.
+/// An INVITE of a caller without restriction, with a Route value that is kept and a header field that is passed on.
 const OPEN: &[u8] = br##"INVITE tel:+4930111 SIP/2.0
 Via: SIP/2.0/UDP h;rport;branch=z9hG4bKa2
 Max-Forwards: 0
@@ -294,7 +294,7 @@ fn kept_route(told: &mut Told) -> List<Text> {
     routes
 }
 
-/// The line that is passed on.
+/// The header field that is passed on.
 fn passed_line(told: &mut Told) -> List<Line> {
     let mut passed = List::new();
     let added = add_bytes(told.alloc, &mut passed, b"Content-Type", b"text/plain");
@@ -302,7 +302,7 @@ fn passed_line(told: &mut Told) -> List<Line> {
     passed
 }
 
-/// The aim of the diverted attempt.
+/// The destination of the diverted attempt.
 fn aim_at(told: &mut Told, target: &Uri) -> Option<Aim> {
     let routes = kept_route(told);
     let aim = diverted_aim(told.alloc, Peer(3), routes.items(), target, 486);
@@ -345,7 +345,7 @@ fn offer_first(told: &mut Told, desk: &mut Desk, open: &Hearing) -> Option<Invit
     told.noted(sent)
 }
 
-/// Keeps an INVITE that was left.
+/// Keeps an INVITE that was abandoned.
 fn leave(told: &mut Told, loose: &mut List<Loose>, sent: Option<Invitation>) {
     if let Some(invitation) = sent {
         let left = Loose {
@@ -357,7 +357,7 @@ fn leave(told: &mut Told, loose: &mut List<Loose>, sent: Option<Invitation>) {
     }
 }
 
-/// Refuses with a tag and these lines.
+/// Refuses with a tag and these header fields.
 fn refuse_by(told: &mut Told, desk: &mut Desk, open: &Hearing, tag: &[u8], named: &List<Line>) {
     let own = OwnResponse {
         code: 500,
@@ -369,7 +369,7 @@ fn refuse_by(told: &mut Told, desk: &mut Desk, open: &Hearing, tag: &[u8], named
     told.keep(done.is_ok());
 }
 
-/// Refuses, and says when to try again.
+/// Refuses, with Retry-After.
 fn refuse(told: &mut Told, desk: &mut Desk, open: &Hearing) {
     let tag = desk.draw(told.alloc);
     let tag = told.made(tag);
@@ -381,7 +381,7 @@ fn refuse(told: &mut Told, desk: &mut Desk, open: &Hearing) {
     drop(tag);
 }
 
-/// Tells the place of the loose INVITE of a branch.
+/// Writes the index of the abandoned INVITE of a branch.
 fn tell_place(told: &mut Told, loose: &List<Loose>) {
     if let Some(place) = loose_at(loose.items(), b"0123456789abcdef-6") {
         told.add(b"place ");
@@ -390,7 +390,8 @@ fn tell_place(told: &mut Told, loose: &List<Loose>) {
     }
 }
 
-/// A diverted attempt, which waits at its target, and a first one of an open caller, both without hops left; a refusal with its named line; and which loose INVITE has a branch.
+/// A diverted attempt, which waits at its target, and a first one of a caller without restriction, both without hops remaining; a refusal with its header field; and which
+/// abandoned INVITE has a branch.
 fn wrong_diverts(alloc: Global) -> usize {
     let mut told = Told::new(alloc);
     let open = hearing(&mut told, OPEN, 1, 5071, true);

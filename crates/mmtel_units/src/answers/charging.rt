@@ -14,7 +14,7 @@ use std::alloc::Global;
 /// The last moment of the clock, in milliseconds.
 const LAST: u64 = 250_000_000_000_000;
 
-/// Adds the row of a meter that ends at this moment; tells for what it ran.
+/// Adds the row of a meter that ends at this moment; writes for what it ran.
 fn end(told: &mut Told, rows: &mut List<Row>, meter: Meter, ended: u64, holds: u32, cause: Cause)
     requires { ended ≤ last_moment }
 {
@@ -36,7 +36,7 @@ fn add_answered(told: &mut Told, rows: &mut List<Row>) {
     end(told, rows, meter, 400, 3, Cause::Ended);
 }
 
-/// A call that was diverted and refused, and a seat of a conference room.
+/// A call that was diverted and refused, and a participant of a conference.
 fn add_refused(told: &mut Told, rows: &mut List<Row>) {
     let cause = Cause::TooManyDiversions { busy: true };
     let meter = Meter::start(Kind::Terminating, Account(2), CallNo(10), moment(0));
@@ -81,7 +81,7 @@ fn text_of(told: &mut Told, rows: &[Row]) -> Text {
     }
 }
 
-/// Tells the fields of a record as a line.
+/// Writes the fields of a record as a line.
 fn tell_record(told: &mut Told, record: &ByteRecord) {
     for place in 0..record.len() {
         told.add(b"|");
@@ -90,7 +90,7 @@ fn tell_record(told: &mut Told, record: &ByteRecord) {
     told.add(b"\n");
 }
 
-/// Tells the records that a CSV reader gives of a text, at most eight.
+/// Writes the records that a CSV reader returns of a text, at most eight.
 fn tell_records(told: &mut Told, text: &[u8]) {
     let reader = ReaderBuilder::new()
         .has_headers(false)
@@ -107,7 +107,7 @@ fn tell_records(told: &mut Told, text: &[u8]) {
     drop(records);
 }
 
-/// Tells the text of no rows, that of the rows, and what a CSV reader gives of it.
+/// Writes the text of no rows, that of the rows, and what a CSV reader returns of it.
 fn tell_texts(told: &mut Told) {
     let rows = rows(told);
     let none = text_of(told, &[]);
@@ -120,10 +120,10 @@ fn tell_texts(told: &mut Told) {
     drop(text);
 }
 
-/// For what each meter runs; the text of no rows, which is the header line alone; the text of the rows, a line for each, in order; and what a CSV reader gives of that: a
-/// record a line, each field behind a `|`.
+/// For what each meter runs; the text of no rows, which is the header line alone; the text of the rows, a line for each, in order; and what a CSV reader returns of that: a record
+/// a line, each field after a `|`.
 ///
-/// A row is what its meter was started with, answered at last and closed with; an absent answered moment is an empty field.
+/// A row has the values with which its meter was started, answered at last and closed; an absent answered moment is an empty field.
 const ROWS: &[u8] = b"origin
 terminating
 terminating

@@ -1,4 +1,4 @@
-//! What legs know of their dialogs: what they take of the other side, what they hear, and their meters.
+//! The dialogs of legs: what they adopt of the other side, the requests that they receive, and their meters.
 
 use crate::answers::legs::{
     ANSWER, CAME, OFFERED, SIP, Tells, moment, tell_answered, tell_leg, tell_meter,
@@ -13,7 +13,7 @@ use mmtel_told::{Told, cut, next_line};
 use mmtel_types::{Account, CallNo, Side};
 use std::alloc::Global;
 
-/// What stands before the first `|` of a row, and what follows it; tells the former again.
+/// What precedes the first `|` of a row, and what follows it; writes the former.
 fn cell<'a>(told: &mut Told, row: &'a [u8]) -> (&'a [u8], &'a [u8]) {
     let (cell, rest) = cut(b'|', row);
     told.add(cell);
@@ -32,7 +32,7 @@ fn routes(told: &mut Told, route: &[u8]) -> List<Text> {
     routes
 }
 
-/// What a side says of itself, of three cells: its tag, its target and its route.
+/// The remote side of a message, of three cells: its tag, its target and its route.
 fn remote<'a>(told: &mut Told, row: &'a [u8]) -> (Remote, &'a [u8]) {
     let (tag, rest) = cell(told, row);
     let (target, rest) = cell(told, rest);
@@ -45,7 +45,7 @@ fn remote<'a>(told: &mut Told, row: &'a [u8]) -> (Remote, &'a [u8]) {
     (remote, rest)
 }
 
-/// Tells target, To and routes of an ACK.
+/// Writes target, To and routes of an ACK.
 fn tell_way(told: &mut Told, ack: &Msg) {
     if let Start::Request { method: _, uri } = ack.start() {
         told.add(uri.bytes());
@@ -74,10 +74,10 @@ impl Tells for Way {
     }
 }
 
-/// What a side says early and then, each as tag, target and route; and target, routes and To of an ACK to it.
+/// The remote side in an early and in a later message, each as tag, target and route; and target, routes and To of an ACK to it.
 ///
-/// Tag and routes of a callee are those of its 2xx, also where it has none (RFC 3261 §12.1.2, §13.2.2.4); those of a caller stay where it says no tag. Without a target the
-/// target stays, and without any it is the Request-URI of the INVITE.
+/// Tag and routes of a callee are those of its 2xx, also where it has none (RFC 3261 §12.1.2, §13.2.2.4); those of a caller are unchanged where its message has no tag. Without a
+/// target the target is unchanged, and without any it is the Request-URI of the INVITE.
 const EARLY: &[u8] =
     br##"callee|e|sip:e@h|<sip:p0;lr>|b|sip:b@h|<sip:p1;lr>|sip:b@h <sip:p1;lr> <sip:bob@far.example>;tag=b
 callee|e|sip:e@h|<sip:p0;lr>|b|||sip:e@h <sip:bob@far.example>;tag=b
@@ -92,7 +92,7 @@ caller|a|sip:a@h|<sip:p0;lr>||sip:c@h||sip:c@h <sip:p0;lr> "Erin" <sip:erin@othe
 caller|a|sip:a@h|<sip:p0;lr>|c|sip:c@h|<sip:p1;lr>|sip:c@h <sip:p1;lr> "Erin" <sip:erin@other.example>;tag=a
 "##;
 
-/// Tells a row again, as the leg of its side has it.
+/// Writes a row with its result, for the leg of its side.
 fn tell_early(told: &mut Told, row: &[u8]) {
     let (side, rest) = cell(told, row);
     let (early, rest) = remote(told, rest);
@@ -120,7 +120,7 @@ fn early_dialogs(rt: HostRuntime) {
     assert_right(&rt, "early_dialogs", wrong_early_dialogs(rt.alloc()));
 }
 
-/// The request of this number and method to the server, as lines.
+/// The request of this number and method to the server, as header fields.
 fn lines_of(told: &mut Told, number: &[u8], method: &[u8]) -> Text {
     let mut lines = Told::new(told.alloc);
     lines.add(method);
@@ -157,7 +157,7 @@ fn tell_answer(told: &mut Told, answer: Result<(), DialogueFault>) {
     }
 }
 
-/// Tells a row again, as a leg answers it.
+/// Writes a row with the leg's response.
 fn tell_heard<P>(told: &mut Told, leg: &mut LegOf<P, Standing>, row: &[u8]) {
     let (asked, _) = cut(b':', row);
     let (number, rest) = cut(b' ', asked);
@@ -173,7 +173,7 @@ fn tell_heard<P>(told: &mut Told, leg: &mut LegOf<P, Standing>, row: &[u8]) {
     drop(lines);
 }
 
-/// Tells a table again, as a leg answers it.
+/// Writes a table with the leg's responses.
 fn tell_all_heard<P>(told: &mut Told, leg: &mut LegOf<P, Standing>, table: &[u8]) {
     let mut rest = table;
     for _ in 0..100 {
@@ -186,9 +186,9 @@ fn tell_all_heard<P>(told: &mut Told, leg: &mut LegOf<P, Standing>, table: &[u8]
     }
 }
 
-/// Requests to a leg whose last number was 7, one after another: number, method, which INVITE is in flight, and the answer.
+/// Requests to a leg whose last number was 7, one after another: number, method, which INVITE is in flight, and the response.
 ///
-/// RFC 3261 §12.2.2 (a lower number is out of order) and §14.2 (an INVITE while another is in flight); what is refused leaves the last number as it was.
+/// RFC 3261 §12.2.2 (a lower number is out of order) and §14.2 (an INVITE while another is in flight); a refused request leaves the last number unchanged.
 const HEARD: &[u8] = br##"6 BYE none: old 7
 6 INVITE own: old 7
 6 INVITE theirs: old 7
@@ -214,7 +214,7 @@ impl Tells for HeardLater {
     }
 }
 
-/// The same, of a leg that has heard nothing yet.
+/// The same, of a leg that has received no request yet.
 const HEARD_FIRST: &[u8] = br##"0 INVITE own: pending
 0 BYE own: heard
 0 INVITE none: heard
@@ -244,7 +244,7 @@ impl Tells for Meters {
     }
 }
 
-/// What a caller's leg hears, whose last number is that of its INVITE.
+/// Requests that a caller's leg receives, whose last number is that of its INVITE.
 fn wrong_hears_the_caller(alloc: Global) -> usize {
     let mut told = Told::new(alloc);
     tell_answered::<HeardLater>(&mut told, Side::Caller, CAME, CAME);
@@ -256,7 +256,7 @@ fn hears_the_caller(rt: HostRuntime) {
     assert_right(&rt, "hears_the_caller", wrong_hears_the_caller(rt.alloc()));
 }
 
-/// What a callee's leg hears; and the meters of a leg: each is given back by a swap, and the last one by its leaving, where the leg was taken out of its call.
+/// Requests that a callee's leg receives; and the meters of a leg: each is returned by a swap, and the last one as it is removed, where the leg was taken out of its call.
 const HEARD_FIRST_AND_METERS: &[u8] = br##"0 INVITE own: pending
 0 BYE own: heard
 0 INVITE none: heard

@@ -1,4 +1,4 @@
-//! Messages as they are heard, and what is told of a desk.
+//! Received messages, and the transcript of the output of a step.
 
 use crate::messages::drafts::{message_of_lines, tell_message};
 use mmtel_answers::Hearing;
@@ -15,7 +15,7 @@ pub const SIP: Addr = Addr {
     port: 5060,
 };
 
-/// The INVITE of a caller who asks for privacy.
+/// The INVITE of a caller who requests privacy.
 pub const OPENING: &[u8] = br##"INVITE sip:bob@far.example SIP/2.0
 Via: SIP/2.0/UDP 127.0.0.1:5071;branch=z9hG4bKa1
 Max-Forwards: 68
@@ -30,7 +30,7 @@ Content-Length: 0
 
 "##;
 
-/// A message without lines.
+/// A message without header fields.
 fn nothing() -> Msg {
     Msg::new(
         Start::Status {
@@ -41,7 +41,7 @@ fn nothing() -> Msg {
     )
 }
 
-/// The message of these lines, from a peer at 127.0.0.1 with this port.
+/// The message of these header fields, from a peer at 127.0.0.1 with this port.
 pub fn hearing(told: &mut Told, lines: &[u8], peer: u16, port: u16, trusted: bool) -> Hearing {
     let message = match message_of_lines(told, lines) {
         Some(message) => message,
@@ -58,7 +58,7 @@ pub fn hearing(told: &mut Told, lines: &[u8], peer: u16, port: u16, trusted: boo
     }
 }
 
-/// A desk that draws from the token of the examples.
+/// The output of a step that draws from the token of the examples.
 pub fn desk(told: &mut Told) -> Desk {
     let token = told.copy(b"0123456789abcdef");
     Desk::new(Tokens::new(token))
@@ -92,7 +92,7 @@ fn tell_emit(told: &mut Told, emit: &Emit) {
     }
 }
 
-/// Tells all that a desk emitted: of each emit what it is, to whom, and its text without CRs.
+/// Writes all emits of a step: of each emit its kind, its peer, and its text without CRs.
 pub fn tell_desk(told: &mut Told, desk: &Desk) {
     for emit in desk.out.items() {
         tell_emit(told, emit);

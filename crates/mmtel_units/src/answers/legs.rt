@@ -1,4 +1,4 @@
-//! Legs that are made of messages, what is told of them, and their end.
+//! Legs that are built of messages, the transcript of their values, and their end.
 ghost use Rattle.std.specs.Prelude.{◌≤◌};
 ghost use Rattle.mmtel_types.specs.Moments.{last_moment};
 
@@ -15,7 +15,7 @@ pub const SIP: Addr = Addr {
     port: 5060,
 };
 
-/// A restricted INVITE as it comes.
+/// A restricted INVITE as it is received.
 pub const CAME: &[u8] = br##"INVITE sip:bob@far.example SIP/2.0
 Via: SIP/2.0/UDP 127.0.0.1:5071;branch=z9hG4bKa1
 Max-Forwards: 68
@@ -30,7 +30,7 @@ Content-Length: 0
 
 "##;
 
-/// The INVITE that is offered of it.
+/// The INVITE that is sent for it to the target.
 pub const OFFERED: &[u8] = br##"INVITE sip:bob@far.example SIP/2.0
 Via: SIP/2.0/UDP 127.0.0.1:5060;branch=z9hG4bK0123456789abcdef-4
 Max-Forwards: 67
@@ -43,7 +43,7 @@ Content-Length: 0
 
 "##;
 
-/// The answer to that.
+/// The response to that.
 pub const ANSWER: &[u8] = br##"SIP/2.0 200 OK
 Via: SIP/2.0/UDP 127.0.0.1:5060;branch=z9hG4bK0123456789abcdef-4
 Record-Route: <sip:p2.far.example;lr>, <sip:p1.far.example;lr>
@@ -56,12 +56,12 @@ Content-Length: 0
 
 "##;
 
-/// What is told of a leg that stands.
+/// What is written of a confirmed leg.
 pub trait Tells {
     fn tell<P>(told: &mut Told, leg: &mut LegOf<P, Standing>);
 }
 
-/// What the side that sent the message says of itself.
+/// The remote side, by the message that it sent.
 pub fn remote_in(told: &mut Told, lines: &[u8], side: Side) -> Option<Remote> {
     let message = message_of_lines(told, lines)?;
     let remote = Remote::read(told.alloc, &message, side);
@@ -79,7 +79,7 @@ pub fn moment(ms: u64) -> Moment
     }
 }
 
-/// Spends a meter; tells its account, where there is one.
+/// Consumes a meter; writes its account, where there is one.
 pub fn tell_meter(told: &mut Told, meter: Option<Meter>) {
     match meter {
         Some(meter) => {
@@ -92,7 +92,7 @@ pub fn tell_meter(told: &mut Told, meter: Option<Meter>) {
     }
 }
 
-/// Spends a leg that was taken out of its call; tells the meter that was in it.
+/// Consumes a leg that was taken out of its call; writes the meter that was in it.
 fn tell_end(told: &mut Told, leg: Released) {
     let Ended { meter } = match leg {
         Released::Caller(leg) => leg.leave(),
@@ -101,7 +101,7 @@ fn tell_end(told: &mut Told, leg: Released) {
     tell_meter(told, meter);
 }
 
-/// The leg that stands by what its other side says, of which some may be said early.
+/// The confirmed leg with the remote side of these messages, of which some may be early.
 fn standing<P>(leg: LegOf<P, Asked>, early: Option<Remote>, said: Remote) -> LegOf<P, Standing> {
     match early {
         None => leg.stand(said),
@@ -109,7 +109,7 @@ fn standing<P>(leg: LegOf<P, Asked>, early: Option<Remote>, said: Remote) -> Leg
     }
 }
 
-/// Tells of the leg of the caller who sent an INVITE, to whom the server's tag is the first that was drawn.
+/// Writes the leg of the caller who sent an INVITE, to whom the server's tag is the first that was drawn.
 fn tell_caller<T: Tells>(told: &mut Told, invite: &Msg, early: Option<Remote>, said: Remote) {
     let tag = told.copy(b"0123456789abcdef-1");
     match CallerLeg::<Asked>::take(told.alloc, Peer(1), invite, tag, None) {
@@ -127,7 +127,7 @@ fn tell_caller<T: Tells>(told: &mut Told, invite: &Msg, early: Option<Remote>, s
     }
 }
 
-/// Tells of the leg of the callee to whom an INVITE is sent.
+/// Writes the leg of the callee to whom an INVITE is sent.
 fn tell_callee<T: Tells>(told: &mut Told, invite: &Msg, early: Option<Remote>, said: Remote) {
     match CalleeLeg::<Asked>::start(told.alloc, Peer(2), invite, None) {
         Ok(leg) => {
@@ -144,7 +144,7 @@ fn tell_callee<T: Tells>(told: &mut Told, invite: &Msg, early: Option<Remote>, s
     }
 }
 
-/// Tells of the leg of this side.
+/// Writes the leg of this side.
 fn tell_side<T: Tells>(
     told: &mut Told,
     side: Side,
@@ -158,7 +158,7 @@ fn tell_side<T: Tells>(
     }
 }
 
-/// Tells of the leg of this side that is made of an INVITE, and of what the side says of itself, early and then.
+/// Writes the leg of this side that is built of an INVITE, and of the remote side's early and later messages.
 pub fn tell_leg<T: Tells>(
     told: &mut Told,
     side: Side,
@@ -178,7 +178,7 @@ pub fn tell_leg<T: Tells>(
     }
 }
 
-/// Tells of the leg of this side that is made of an INVITE and of one message in which the side speaks of itself.
+/// Writes the leg of this side that is built of an INVITE and of one message of the remote side.
 pub fn tell_answered<T: Tells>(told: &mut Told, side: Side, invite: &[u8], answer: &[u8]) {
     if let Some(said) = remote_in(told, answer, side) {
         tell_leg::<T>(told, side, invite, None, said);

@@ -1,4 +1,4 @@
-//! Mailboxes and who subscribes to them: counts as an operator says them, what subscribers are told, and what becomes of subscriptions.
+//! Mailboxes and their subscribers: counts as an operator uploads them, what subscribers are notified of, and the states of subscriptions.
 ghost use Rattle.std.specs.Prelude.{◌≤◌};
 ghost use Rattle.mmtel_types.specs.Moments.{last_moment};
 
@@ -14,7 +14,7 @@ use mmtel_told::Told;
 use mmtel_types::{Account, Moment, Peer};
 use std::alloc::Global;
 
-/// Documents, each on a line with `;` for the ends of its lines, and what a subscriber is told of the counts that they say, or their first fault.
+/// Documents, each on a line with `;` for the ends of its lines, and the notification of their counts, or their first fault.
 const DOCUMENTS: &[u8] = br##"> 
 Messages-Waiting: no
 Voice-Message: 0/0 (0/0)
@@ -128,7 +128,7 @@ Content-Length: 0
 
 "##;
 
-/// A request of hers that came too late.
+/// A late request of hers.
 const LATE: &[u8] = br##"SUBSCRIBE sip:127.0.0.1:5060 SIP/2.0
 Via: SIP/2.0/UDP 127.0.0.1:5071;branch=z9hG4bKs2
 Max-Forwards: 68
@@ -142,7 +142,7 @@ Content-Length: 0
 
 "##;
 
-/// What becomes of her subscription, and of another one to the same mailbox.
+/// The state of her subscription, and of another one to the same mailbox.
 const SUBSCRIPTIONS: &[u8] = br##"subscription 1
 subscription 2
 found 1
@@ -201,7 +201,7 @@ fn keep_leg(told: &mut Told, leg: CallerLeg<Standing>) {
     tell_meter(told, meter);
 }
 
-/// Subscribes with the leg, and tells the number of the subscription.
+/// Subscribes with the leg, and writes the number of the subscription.
 fn subscribe_with(
     told: &mut Told,
     boxes: &mut Boxes,
@@ -231,7 +231,7 @@ fn subscribe_with(
     }
 }
 
-/// Subscribes by the SUBSCRIBE of these lines, where the server answers with this tag.
+/// Subscribes by the SUBSCRIBE of these header fields, where the server responds with this tag.
 fn subscribe(told: &mut Told, boxes: &mut Boxes, tag: &[u8], until: Moment) {
     if let Some(message) = message_of_lines(told, SUBSCRIBE) {
         let tag = told.copy(tag);
@@ -252,7 +252,7 @@ fn tell_number(told: &mut Told, word: &[u8], number: Option<u64>) {
     }
 }
 
-/// Tells which subscription has Alice's dialog, and what is known of it.
+/// Writes which subscription has Alice's dialog, and its values.
 fn tell_found(told: &mut Told, boxes: &Boxes) {
     let found = boxes.find(b"sub1", b"0123456789abcdef-1", b"s1");
     tell_number(told, b"found ", found.map(|sub| sub.0));
@@ -261,7 +261,7 @@ fn tell_found(told: &mut Told, boxes: &Boxes) {
     tell_number(told, b"set by ", boxes.set_by(SubNo(1)));
 }
 
-/// Tells the NOTIFY with this branch.
+/// Writes the NOTIFY with this branch.
 fn tell_notice(told: &mut Told, boxes: &mut Boxes, branch: &[u8], now: Moment) {
     let branch = told.copy(branch);
     let notice = boxes.tell(told.alloc, SubNo(1), false, &branch, now);
@@ -299,7 +299,7 @@ fn tell_ended(told: &mut Told, ended: Option<Ended>, word: &[u8]) {
     }
 }
 
-/// Tells what is heard of a request that came too late.
+/// Writes the result of a late request.
 fn tell_late(told: &mut Told, boxes: &mut Boxes) {
     if let Some(message) = message_of_lines(told, LATE) {
         if boxes.set_by(SubNo(1)).is_some() {
@@ -312,7 +312,7 @@ fn tell_late(told: &mut Told, boxes: &mut Boxes) {
     }
 }
 
-/// An upload, and a SUBSCRIBE that makes the subscription last.
+/// An upload, and a SUBSCRIBE that refreshes the subscription.
 fn tell_changes(told: &mut Told, boxes: &mut Boxes) {
     let counts = Counts {
         fresh: 2,
@@ -327,7 +327,7 @@ fn tell_changes(told: &mut Told, boxes: &mut Boxes) {
     tell_number(told, b"set by ", boxes.set_by(SubNo(1)));
 }
 
-/// The answers to both NOTIFYs: the second one refuses.
+/// The responses to both NOTIFYs: the second one refuses.
 fn tell_answers(told: &mut Told, boxes: &mut Boxes) {
     let first: &[u8] = b"0123456789abcdef-2";
     let second: &[u8] = b"0123456789abcdef-3";

@@ -1,4 +1,4 @@
-//! What messages say of the side that sent them.
+//! The remote side of messages: its tag, target and routes.
 
 use crate::answers::legs::remote_in;
 use crate::asserting::assert_right;
@@ -6,10 +6,10 @@ use mmtel_told::{Told, cut, next_line};
 use mmtel_types::Side;
 use std::alloc::Global;
 
-/// Messages, the side that sent each, and what it says of that side: its tag, its target, and its routes in order.
+/// Messages, the side that sent each, and the remote side in it: its tag, its target, and its routes in order.
 ///
-/// The first two are of RFC 3261 §16.12.1.1: the INVITE as it reaches the callee, and the answer as it reaches the caller. The others are of the profile: values that
-/// commas part, a Contact that is bare, one that cannot be read and one in another scheme, and a To without tag.
+/// The first two are of RFC 3261 §16.12.1.1: the INVITE as it reaches the callee, and the response as it reaches the caller. The others are of the profile: values that are
+/// separated by commas, a Contact without angle brackets, one that cannot be read and one in another scheme, and a To without tag.
 const REMOTES: &[u8] = br##"INVITE sip:callee@u2.domain.com SIP/2.0
 Via: SIP/2.0/UDP p2.domain.com;branch=z9hG4bKp2
 Max-Forwards: 68
@@ -108,7 +108,7 @@ fn side_of(word: &[u8]) -> Side {
     }
 }
 
-/// Tells what the side says of itself in the message, a line each.
+/// Writes the remote side in the message, a line each.
 fn tell_remote(told: &mut Told, lines: &[u8], side: Side) {
     if let Some(remote) = remote_in(told, lines, side) {
         told.add(b"tag ");
@@ -124,12 +124,12 @@ fn tell_remote(told: &mut Told, lines: &[u8], side: Side) {
     }
 }
 
-/// What stands before the first `#` of a table, and what follows it.
+/// What precedes the first `#` of a table, and what follows it.
 fn block(table: &[u8]) -> (&[u8], &[u8]) {
     cut(b'#', table)
 }
 
-/// Tells the first row of a table again, with what its message says; gives the rows behind it.
+/// Writes the first row of a table with the remote side in its message; returns the rows after it.
 fn tell_row<'a>(told: &mut Told, table: &'a [u8]) -> &'a [u8] {
     let (lines, rest) = block(table);
     let (side, rest) = next_line(rest);

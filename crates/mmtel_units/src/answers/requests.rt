@@ -12,13 +12,13 @@ use mmtel_told::Told;
 use mmtel_types::{Peer, Side};
 use std::alloc::Global;
 
-/// Adds a line to be shown.
+/// Adds a header field to be copied.
 fn show(told: &mut Told, lines: &mut List<Line>, name: &[u8], value: &[u8]) {
     let added = add_bytes(told.alloc, lines, name, value);
     told.noted(added);
 }
 
-/// Tells the message that was built, its lines ended by LF, and a line `#`.
+/// Writes the message that was built, its lines ended by LF, and a line `#`.
 fn tell_built(told: &mut Told, built: Result<Msg, NoMemory>) {
     if let Some(message) = told.noted(built) {
         tell_message(told, &message);
@@ -35,7 +35,7 @@ fn branch(told: &mut Told, number: &[u8]) -> Text {
     told.copy(branch.bytes())
 }
 
-/// Tells a request with Max-Forwards 70, these lines shown and this body.
+/// Writes a request with Max-Forwards 70, these copied header fields and this body.
 fn tell_request<P>(
     told: &mut Told,
     leg: &mut LegOf<P, Standing>,
@@ -50,12 +50,12 @@ fn tell_request<P>(
     tell_built(told, request);
 }
 
-/// Tells a request with nothing shown and no body.
+/// Writes a request without copied header fields and without body.
 fn tell_plain<P>(told: &mut Told, leg: &mut LegOf<P, Standing>, method: &[u8], number: &[u8]) {
     tell_request(told, leg, method, number, &List::new(), b"");
 }
 
-/// Tells the ACK of the last INVITE that the server sent.
+/// Writes the ACK of the last INVITE that the server sent.
 fn tell_ack<P>(told: &mut Told, leg: &LegOf<P, Standing>, hops: u8, number: &[u8]) {
     let branch = branch(told, number);
     let ack = leg.ack(told.alloc, SIP, hops, &branch, &List::new(), b"");
@@ -63,7 +63,7 @@ fn tell_ack<P>(told: &mut Told, leg: &LegOf<P, Standing>, hops: u8, number: &[u8
     tell_built(told, ack);
 }
 
-/// Tells an INVITE with a body and two lines shown for it.
+/// Writes an INVITE with a body and two copied header fields.
 fn tell_invite<P>(told: &mut Told, leg: &mut LegOf<P, Standing>) {
     let mut lines = List::new();
     show(told, &mut lines, b"Privacy", b"id");
@@ -72,7 +72,7 @@ fn tell_invite<P>(told: &mut Told, leg: &mut LegOf<P, Standing>) {
     drop(lines);
 }
 
-/// Tells a NOTIFY of a conference room, whose Contact is shown.
+/// Writes a NOTIFY of a conference, whose Contact is copied.
 fn tell_notify<P>(told: &mut Told, leg: &mut LegOf<P, Standing>) {
     let mut lines = List::new();
     show(
@@ -85,7 +85,7 @@ fn tell_notify<P>(told: &mut Told, leg: &mut LegOf<P, Standing>) {
     drop(lines);
 }
 
-/// Tells the number of a leg's peer, its Call-ID, the server's tag and the other side's.
+/// Writes the number of a leg's peer, its Call-ID, the server's tag and the other side's.
 fn tell_names<P>(told: &mut Told, leg: &LegOf<P, Standing>) {
     told.add_number(u64::from(leg.peer().0));
     told.add(b" ");
@@ -97,7 +97,7 @@ fn tell_names<P>(told: &mut Told, leg: &LegOf<P, Standing>) {
     told.add(b"\n");
 }
 
-/// What the server says to a callee: the ACK of the INVITE that was offered, another INVITE and its ACK, a NOTIFY of a conference room, BYE, and the ACK once more.
+/// The server's requests to a callee: the ACK of the INVITE that was offered, another INVITE and its ACK, a NOTIFY of a conference, BYE, and the ACK once more.
 struct ToCallee;
 
 impl Tells for ToCallee {
@@ -112,7 +112,7 @@ impl Tells for ToCallee {
     }
 }
 
-/// Requests to the callee of a restricted call: nothing in them names the caller.
+/// Requests to the callee of a restricted call: nothing in them identifies the caller.
 const SAID_TO_CALLEE: &[u8] = br##"2 0123456789abcdef-2 0123456789abcdef-3 b
 ACK sip:bob@127.0.0.1:5072 SIP/2.0
 Via: SIP/2.0/UDP 127.0.0.1:5060;branch=z9hG4bK0123456789abcdef-5
@@ -208,7 +208,7 @@ fn requests_to_callee(rt: HostRuntime) {
     );
 }
 
-/// What the server says to a caller: an INVITE, its ACK, and BYE; before them an ACK of nothing, whose number is 0 (RFC 3261 §13.2.2.4 has the number of the INVITE, and
+/// The server's requests to a caller: an INVITE, its ACK, and BYE; before them an ACK without an INVITE, whose number is 0 (RFC 3261 §13.2.2.4 has the number of the INVITE, and
 /// the server sent none).
 struct ToCaller;
 
@@ -222,8 +222,8 @@ impl Tells for ToCaller {
     }
 }
 
-/// Requests to callers. From and To of the INVITE have changed places, their bytes kept, and the server's numbers begin with 1. The second caller's From and To are bare,
-/// with parameters, and its INVITE came by two proxies.
+/// Requests to callers. From and To of the INVITE are exchanged, their bytes unchanged, and the server's numbers begin with 1. The second caller's From and To have no angle
+/// brackets, with parameters, and its INVITE came through two proxies.
 const SAID_TO_CALLERS: &[u8] = br##"1 c1 0123456789abcdef-1 a
 ACK sip:erin@127.0.0.1:5071 SIP/2.0
 Via: SIP/2.0/UDP 127.0.0.1:5060;branch=z9hG4bK0123456789abcdef-4
@@ -346,7 +346,7 @@ fn requests_to_callers(rt: HostRuntime) {
     );
 }
 
-/// What the server says to a callee that answers: the ACK.
+/// The server's request to a callee that answers: the ACK.
 struct ToAnswer;
 
 impl Tells for ToAnswer {
@@ -355,7 +355,7 @@ impl Tells for ToAnswer {
     }
 }
 
-/// An early dialog with a tag, by one proxy.
+/// An early dialog with a tag, through one proxy.
 const RINGING: &[u8] = br##"SIP/2.0 180 Ringing
 Via: SIP/2.0/UDP 127.0.0.1:5060;branch=z9hG4bK0123456789abcdef-4
 Record-Route: <sip:p0;lr>
@@ -368,7 +368,7 @@ Content-Length: 0
 
 "##;
 
-/// A 2xx without tag and without Contact, by another proxy.
+/// A 2xx without tag and without Contact, through another proxy.
 const UNTAGGED: &[u8] = br##"SIP/2.0 200 OK
 Via: SIP/2.0/UDP 127.0.0.1:5060;branch=z9hG4bK0123456789abcdef-4
 Record-Route: <sip:p1;lr>
@@ -380,7 +380,7 @@ Content-Length: 0
 
 "##;
 
-/// Tells the ACK of the 2xx without tag, behind the early dialog.
+/// Writes the ACK of the 2xx without tag, after the early dialog.
 fn tell_untagged(told: &mut Told) {
     let early = remote_in(told, RINGING, Side::Callee);
     if let Some(said) = remote_in(told, UNTAGGED, Side::Callee) {
@@ -388,7 +388,7 @@ fn tell_untagged(told: &mut Told) {
     }
 }
 
-/// Tells the CANCEL of the INVITE with which a dialog began.
+/// Writes the CANCEL of the INVITE with which a dialog began.
 fn tell_cancel(told: &mut Told, dialogue: &Dialogue) {
     let branch = branch(told, b"4");
     let none = List::new();
@@ -397,7 +397,7 @@ fn tell_cancel(told: &mut Told, dialogue: &Dialogue) {
     tell_built(told, cancel);
 }
 
-/// Tells the CANCEL of a leg that begins with this dialog, and spends the leg.
+/// Writes the CANCEL of a leg that begins with this dialog, and consumes the leg.
 fn tell_begun(told: &mut Told, dialogue: Dialogue) {
     let leg = CalleeLeg::<Asked>::begun(dialogue, None);
     tell_cancel(told, leg.dialogue());
@@ -405,7 +405,7 @@ fn tell_begun(told: &mut Told, dialogue: Dialogue) {
     tell_meter(told, meter);
 }
 
-/// Tells the CANCEL of a leg that begins with a copy of this dialog.
+/// Writes the CANCEL of a leg that begins with a copy of this dialog.
 fn tell_copied(told: &mut Told, dialogue: &Dialogue) {
     let copy = dialogue.copied(told.alloc);
     if let Some(copy) = told.noted(copy) {
@@ -413,7 +413,7 @@ fn tell_copied(told: &mut Told, dialogue: &Dialogue) {
     }
 }
 
-/// Tells the CANCEL of an INVITE.
+/// Writes the CANCEL of an INVITE.
 fn tell_canceled(told: &mut Told, invite: &Msg) {
     let dialogue = Dialogue::of_callee(told.alloc, Peer(2), invite);
     if let Some(dialogue) = told.noted(dialogue) {
@@ -422,7 +422,7 @@ fn tell_canceled(told: &mut Told, invite: &Msg) {
     }
 }
 
-/// Tells the CANCEL of the INVITE that is offered.
+/// Writes the CANCEL of the INVITE that is offered.
 fn tell_cancel_of_offered(told: &mut Told) {
     if let Some(invite) = message_of_lines(told, OFFERED) {
         tell_canceled(told, &invite);
@@ -430,10 +430,10 @@ fn tell_cancel_of_offered(told: &mut Told) {
     }
 }
 
-/// What is built for a callee that is not yet in a call: the ACK of a 2xx without tag behind an early dialog, and a CANCEL.
+/// What is built for a callee that is not yet in a call: the ACK of a 2xx without tag after an early dialog, and a CANCEL.
 ///
-/// The dialog is that of the 2xx (RFC 3261 §12.1.2, §13.2.2.4), so the ACK goes by its route set, and To has the tag that it gave, which is none. Of a CANCEL (§9.1)
-/// Request-URI, Call-ID, From, To and the number are those of the INVITE, and so is its Via.
+/// The dialog is that of the 2xx (RFC 3261 §12.1.2, §13.2.2.4), so the ACK goes by its route set, and To has the tag of the 2xx, which is none. Of a CANCEL (§9.1) Request-URI,
+/// Call-ID, From, To and the number are those of the INVITE, and so is its Via.
 const BUILT: &[u8] = br##"ACK sip:e@127.0.0.1:5072 SIP/2.0
 Via: SIP/2.0/UDP 127.0.0.1:5060;branch=z9hG4bK0123456789abcdef-5
 Route: <sip:p1;lr>

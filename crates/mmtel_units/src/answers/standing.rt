@@ -160,7 +160,7 @@ Content-Length: 2
 
 up"##;
 
-/// A list of one line.
+/// A list of one header field.
 fn line(told: &mut Told, name: &[u8], value: &[u8]) -> List<Line> {
     let mut lines = List::new();
     let added = add_bytes(told.alloc, &mut lines, name, value);
@@ -179,7 +179,7 @@ fn dialogue(told: &mut Told, opening: &Hearing) -> Option<Dialogue> {
     Some(called(calling))
 }
 
-/// The leg to which the INVITE was offered, once this answer came.
+/// The leg to which the INVITE was offered, once this response was received.
 fn callee(told: &mut Told, opening: &Hearing, answer: &Hearing) -> Option<CalleeLeg<Standing>> {
     let remote = Remote::read(told.alloc, &answer.message, Side::Callee);
     let remote = told.noted(remote)?;
@@ -192,7 +192,7 @@ fn callee(told: &mut Told, opening: &Hearing, answer: &Hearing) -> Option<Callee
     }
 }
 
-/// The leg to which the INVITE was offered, once this answer to it rang.
+/// The leg to which the INVITE was offered, once this ringing response to it was received.
 fn early_callee(told: &mut Told, opening: &Hearing, answer: &Hearing) -> Option<CalleeLeg<Early>> {
     let remote = Remote::read(told.alloc, &answer.message, Side::Callee);
     let remote = told.noted(remote)?;
@@ -205,7 +205,7 @@ fn early_callee(told: &mut Told, opening: &Hearing, answer: &Hearing) -> Option<
     }
 }
 
-/// The leg of the caller, which stands from the opening on.
+/// The leg of the caller, which is confirmed from the opening on.
 fn caller(told: &mut Told, opening: &Hearing) -> Option<CallerLeg<Standing>> {
     let tag = told.copy(b"t1");
     match CallerLeg::<Standing>::open(told.alloc, Peer(1), &opening.message, tag, None) {
@@ -238,7 +238,7 @@ fn end(told: &mut Told, ended: Ended) {
     }
 }
 
-/// What the callee's leg is asked: the caller's ACK, its BYE, and an ACK of the server's own.
+/// The requests to the callee's leg: the caller's ACK, its BYE, and an ACK of the server's own.
 fn ask_callee(told: &mut Told, desk: &mut Desk, leg: &mut CalleeLeg<Standing>) {
     let ack = hearing(told, ACKED, 1, 5071, true);
     let done = desk.acknowledge_for(told.alloc, SIP, leg, &List::new(), &ack);
@@ -256,7 +256,7 @@ fn ask_callee(told: &mut Told, desk: &mut Desk, leg: &mut CalleeLeg<Standing>) {
     told.noted(done);
 }
 
-/// Tells of the call's two legs: what the callee's is asked, and the end of the caller's.
+/// Writes the call's two legs: the requests to the callee's, and the end of the caller's.
 fn tell_legs(told: &mut Told, desk: &mut Desk, opening: &Hearing, rings: &Hearing) {
     if let Some(leg) = callee(told, opening, rings) {
         let mut leg = leg;
@@ -271,8 +271,8 @@ fn tell_legs(told: &mut Told, desk: &mut Desk, opening: &Hearing, rings: &Hearin
     }
 }
 
-/// A response with its body that is relayed to the caller, the ACK and the BYE that are relayed to the callee, an ACK of the server's own, and the BYE to a caller's leg
-/// that stands from the opening on. An ACK that names no hops has 69 left, a BYE of one hop none.
+/// A response with its body that is relayed to the caller, the ACK and the BYE that are relayed to the callee, an ACK of the server's own, and the BYE to a caller's leg that is
+/// confirmed from the opening on. An ACK without Max-Forwards has 69 left, a BYE of one hop none.
 fn wrong_relays(alloc: Global) -> usize {
     let mut told = Told::new(alloc);
     let opening = hearing(&mut told, OPENING, 1, 5071, true);
@@ -290,7 +290,7 @@ fn wrong_relays(alloc: Global) -> usize {
     told.wrong_line(TOLD)
 }
 
-/// Asks an early leg for the request of the caller, with this line of it.
+/// Sends the caller's request, with this header field of it, in an early leg.
 fn ask_early(
     told: &mut Told,
     desk: &mut Desk,
@@ -308,7 +308,7 @@ fn ask_early(
     told.noted(done);
 }
 
-/// What an early dialog is asked, the caller's PRACK and its UPDATE, with the numbers behind that of the INVITE (RFC 3261 §12.2.1.1).
+/// The requests in an early dialog: the caller's PRACK and its UPDATE, with the numbers after that of the INVITE (RFC 3261 §12.2.1.1).
 fn wrong_early(alloc: Global) -> usize {
     let mut told = Told::new(alloc);
     let opening = hearing(&mut told, OPENING, 1, 5071, true);

@@ -46,7 +46,7 @@ pub fn home(told: &mut Told) -> Option<Directory> {
     told.noted(directory)
 }
 
-/// Tells an address.
+/// Writes an address.
 fn tell_addr(told: &mut Told, word: &[u8], ip: [u8; 4], port: u16) {
     told.add(word);
     for number in ip {
@@ -56,7 +56,7 @@ fn tell_addr(told: &mut Told, word: &[u8], ip: [u8; 4], port: u16) {
     told.add(b"\n");
 }
 
-/// Tells a URI, or `none`.
+/// Writes a URI, or `none`.
 fn tell_uri(told: &mut Told, word: &[u8], uri: &Option<Uri>) {
     told.add(word);
     match uri {
@@ -68,20 +68,20 @@ fn tell_uri(told: &mut Told, word: &[u8], uri: &Option<Uri>) {
     }
 }
 
-/// Tells a text.
+/// Writes a text.
 fn tell_text(told: &mut Told, word: &[u8], text: &[u8]) {
     told.add(word);
     told.add_line(text);
 }
 
-/// Tells a number.
+/// Writes a number.
 fn tell_number(told: &mut Told, word: &[u8], number: u64) {
     told.add(word);
     told.add_number(number);
     told.add(b"\n");
 }
 
-/// Tells the digits of the home country, where they are known.
+/// Writes the digits of the home country, where they are known.
 fn tell_digits(told: &mut Told, country: &Option<Text>) {
     match country {
         None => tell_text(told, b"country ", b"none"),
@@ -89,7 +89,7 @@ fn tell_digits(told: &mut Told, country: &Option<Text>) {
     }
 }
 
-/// Tells what a configuration sets but for peers, routes and identities.
+/// Writes what a configuration sets except peers, routes and identities.
 fn tell_settings(told: &mut Told, directory: &Directory) {
     tell_addr(told, b"sip", directory.sip.ip, directory.sip.port);
     tell_addr(told, b"web", directory.web.ip, directory.web.port);
@@ -105,7 +105,7 @@ fn tell_settings(told: &mut Told, directory: &Directory) {
     tell_number(told, b"identities ", identities as u64);
 }
 
-/// Tells the number of the peer that a URI leads to, 0 for none.
+/// Writes the number of the peer that is the route to a URI, 0 for none.
 fn tell_route(told: &mut Told, directory: &Directory, uri: &[u8]) {
     match read_uri(told.alloc, uri) {
         Err(_) => told.fail(),
@@ -117,7 +117,7 @@ fn tell_route(told: &mut Told, directory: &Directory, uri: &[u8]) {
     }
 }
 
-/// Tells the number of the account of a URI, 0 for none.
+/// Writes the number of the account of a URI, 0 for none.
 fn tell_name(told: &mut Told, directory: &Directory, uri: &[u8]) {
     match read_uri(told.alloc, uri) {
         Err(_) => told.fail(),
@@ -129,7 +129,7 @@ fn tell_name(told: &mut Told, directory: &Directory, uri: &[u8]) {
     }
 }
 
-/// Tells the number of the peer at this port, and whether it is trusted; `none` where there is none.
+/// Writes the number of the peer at this port, and whether it is trusted; `none` where there is none.
 fn tell_peer(told: &mut Told, directory: &Directory, port: u16) {
     match directory.peers.find(peer_addr(port)) {
         None => told.add_line(b"none"),
@@ -144,7 +144,7 @@ fn tell_peer(told: &mut Told, directory: &Directory, port: u16) {
     }
 }
 
-/// What is known by a configuration.
+/// What a configuration defines.
 #[derive(Clone, Copy)]
 struct Known<'a> {
     directory: &'a Directory,
@@ -165,7 +165,7 @@ impl Rows for Known<'_> {
     }
 }
 
-/// What the configuration above says.
+/// The content of the configuration above.
 const HOME_TOLD: &[u8] = b"> settings
 sip 127 0 0 1 5060
 web 10 0 0 1 80
@@ -202,7 +202,7 @@ none
 0
 ";
 
-/// What a configuration of the two lines says that have to be there.
+/// The content of a configuration of the two required lines.
 const BARE_TOLD: &[u8] = b"> settings
 sip 127 0 0 1 1
 web 127 0 0 1 8080
@@ -219,7 +219,7 @@ identities 0
 none
 ";
 
-/// The number of the first line that a configuration says otherwise; 0 where none is.
+/// The number of the first line that a configuration has otherwise; 0 where none is.
 fn wrong_known(alloc: Global, text: &[u8], table: &[u8]) -> usize {
     match read_directory(alloc, text) {
         Err(_) => 1,
@@ -241,7 +241,7 @@ fn reads_lines_of_each_kind(rt: HostRuntime) {
     assert_right(&rt, "BARE_TOLD", wrong_known(rt.alloc(), bare, BARE_TOLD));
 }
 
-/// The number of the line that a configuration breaks its grammar in; 0 where it is read.
+/// The number of the line in which a configuration breaks the grammar; 0 where it is read.
 pub fn broken_config(alloc: Global, text: &[u8]) -> u64 {
     match read_directory(alloc, text) {
         Ok(directory) => {
@@ -253,7 +253,7 @@ pub fn broken_config(alloc: Global, text: &[u8]) -> u64 {
     }
 }
 
-/// The number of the line that each of these breaks its grammar in, 0 where it is read. A `;` stands for the end of a line.
+/// The number of the line in which each of these breaks the grammar, 0 where it is read. A `;` represents the end of a line.
 const WHOLE: &[u8] = b"0|sip 1.2.3.4:5;home h
 0|home h;sip 255.255.255.255:65535;
 1|
@@ -289,7 +289,7 @@ const WHOLE: &[u8] = b"0|sip 1.2.3.4:5;home h
 4|sip 1.2.3.4:5;peer 1 1.1.1.1:1 trusted;bound 16;
 5|home h;#;bound 16;;";
 
-/// The same of peers and routes, behind `sip` and `home`.
+/// The same of peers and routes, after `sip` and `home`.
 const ROUTES: &[u8] = b"0|peer 1024 1.1.1.1:1 trusted;
 3|peer 1025 1.1.1.1:1 trusted;
 3|peer 0 1.1.1.1:1 trusted;
@@ -334,7 +334,7 @@ const ACCOUNTS: &[u8] = b"0|account 1 sip:a@h;account 4294967295 tel:+1;
 4|account 1 tel:+4930111;account 2 tel:+49-30-111;
 0|account 1 sip:a@h;account 2 sip:A@h;";
 
-/// The same of each other line, which stands once.
+/// The same of each other line, which may occur once.
 const ONCE: &[u8] = b"0|web 1.2.3.4:5;
 3|web;
 3|web 1.2.3.4;
@@ -398,7 +398,7 @@ route home.example 1
 account 1 sip:alice@home.example tel:+4930111
 ";
 
-/// The same of lines that were damaged, behind those of a small server: a blank too many, a word misspelt, a line of a script, a line told twice.
+/// The same of damaged lines, after those of a small server: an extra space, a misspelt word, a line of a script, a line that occurs twice.
 const DAMAGED: &[u8] = b"0|# a comment;;bound 3;web 127.0.0.1:8081
 6| ;
 6|foo;
@@ -423,7 +423,7 @@ const DAMAGED: &[u8] = b"0|# a comment;;bound 3;web 127.0.0.1:8081
 /// The identity of a number, as a sip URI.
 const PHONE: &[u8] = b"sip 1.2.3.4:5\nhome h\naccount 1 sip:+4930111@h;user=phone\n";
 
-/// The same of accounts behind that of the number: it has no second account, in whatever form it is written.
+/// The same of accounts after that of the number: it has no second account, in whatever form it is written.
 const NUMBERS: &[u8] = b"0|account 2 tel:+4930112;
 0|account 2 sip:+4930111@i;
 4|account 2 tel:+4930111;
@@ -441,7 +441,7 @@ impl Grammar for Configurations {
     }
 }
 
-/// The number of the first row that is not right; 0 where each is.
+/// The number of the first row that is wrong; 0 where none is.
 fn wrong_config(alloc: Global, before: &[u8], table: &[u8]) -> usize {
     wrong_row(alloc, &Configurations, before, table)
 }

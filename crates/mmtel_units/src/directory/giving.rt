@@ -1,4 +1,4 @@
-//! Giving a link what a server offers.
+//! Passing a server's outputs to a link.
 
 use crate::asserting::assert_right;
 use crate::directory::listings::push;
@@ -46,7 +46,7 @@ fn add_reply(told: &mut Told, offers: &mut List<Offer>, bytes: &[u8]) {
     push(told, offers, Offer::Web { at: 7, text });
 }
 
-/// Five offers, of which one is to no peer of the table.
+/// Five outputs, of which one is to no peer of the table.
 fn five_offers(told: &mut Told) -> List<Offer> {
     let mut offers = List::new();
     add_datagram(told, &mut offers, 1, b"one");
@@ -65,7 +65,7 @@ fn failing_link(told: &mut Told) -> MemoryLink {
     MemoryLink::new(List::new(), failing)
 }
 
-/// Tells what was given to whom, `!` behind it where it was lost.
+/// Writes what was passed and to whom, followed by `!` where it was lost.
 fn tell_given(told: &mut Told, to: &[u8], text: &Text, lost: bool) {
     told.add(to);
     told.add(b" ");
@@ -73,7 +73,7 @@ fn tell_given(told: &mut Told, to: &[u8], text: &Text, lost: bool) {
     told.add_if(lost, b"!\n", b".\n");
 }
 
-/// The peer whose address it is.
+/// The peer with this address.
 fn whose(to: Addr) -> &'static [u8] {
     if to.is_same(addr(1)) {
         b"1"
@@ -84,7 +84,7 @@ fn whose(to: Addr) -> &'static [u8] {
     }
 }
 
-/// Tells what the link was given: datagrams with the peer's number, and replies with `w`.
+/// Writes the outputs of the link: datagrams with the peer's number, and replies with `w`.
 fn tell_link(told: &mut Told, link: &MemoryLink) {
     for sent in link.offers() {
         tell_given(told, whose(sent.to), &sent.text, sent.lost);
@@ -101,7 +101,7 @@ const GIVEN: &[u8] = b"1 one.
 w reply.
 ";
 
-/// The number of the first of the five offers that a link is given otherwise; 0 where none is.
+/// The number of the first of the five outputs that is passed otherwise; 0 where none is.
 fn wrong_given(alloc: Global) -> usize {
     let mut told = Told::new(alloc);
     let peers = two_peers(&mut told);

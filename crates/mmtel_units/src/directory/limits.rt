@@ -4,7 +4,7 @@ use crate::directory::configurations::broken_config;
 use mmtel_told::Told;
 use std::alloc::Global;
 
-/// Adds a line for each number from 1 to this one, in which the number stands twice.
+/// Adds a line for each number from 1 to this one, which has the number twice.
 fn add_lines(text: &mut Told, last: u64) {
     for before in 0..last {
         text.add(b"route h");
@@ -15,7 +15,7 @@ fn add_lines(text: &mut Told, last: u64) {
     }
 }
 
-/// The number of the line that a configuration of so many routes behind three other lines breaks its grammar in; 0 where it is read.
+/// The number of the line in which a configuration of so many routes after three other lines breaks the grammar; 0 where it is read.
 fn broken(alloc: Global, last: u64) -> u64 {
     let mut text = Told::new(alloc);
     text.add(b"sip 1.2.3.4:5\nhome h\npeer 1 1.1.1.1:1 trusted\n");
@@ -23,7 +23,7 @@ fn broken(alloc: Global, last: u64) -> u64 {
     broken_config(alloc, text.whole())
 }
 
-// Line 4,100 is the 4,097th route: so each before it was taken.
+// Line 4,100 is the 4,097th route: so each before it was accepted.
 #[test]
 fn takes_so_many_routes(rt: HostRuntime) {
     assert_eq!(rt; broken(rt.alloc(), 4097), 4100);

@@ -8,13 +8,13 @@ use mmtel_told::Told;
 use mmtel_types::Peer;
 use std::alloc::Global;
 
-/// Adds an offer to a list.
+/// Adds an output to a list.
 pub fn push(told: &mut Told, offers: &mut List<Offer>, offer: Offer) {
     let done = offers.push(told.alloc, offer);
     told.keep(done.is_ok());
 }
 
-/// Tells the listing of offers, and a line `.`.
+/// Writes the listing of outputs, and a line `.`.
 fn tell_listed(told: &mut Told, offers: &List<Offer>) {
     let text = listing(told.alloc, offers);
     if let Some(text) = told.noted(text) {
@@ -23,7 +23,7 @@ fn tell_listed(told: &mut Told, offers: &List<Offer>) {
     told.add_line(b".");
 }
 
-/// Tells the listing of a datagram to the peer of number 2, offered at 7.
+/// Writes the listing of a datagram to the peer of number 2, sent at 7.
 fn tell_sent(told: &mut Told, bytes: &[u8]) {
     let text = told.copy(bytes);
     let mut offers = List::new();
@@ -37,7 +37,7 @@ fn tell_sent(told: &mut Told, bytes: &[u8]) {
     drop(offers);
 }
 
-/// Tells the listing of a reply at 10, and of one without bytes at the last moment.
+/// Writes the listing of a reply at 10, and of one without bytes at the last moment.
 fn tell_replies(told: &mut Told) {
     let mut offers = List::new();
     let text = told.copy(b"HTTP/1.1 200 OK\r\n\r\nok");

@@ -8,7 +8,7 @@ use mmtel_script::ScriptLink;
 use mmtel_told::Told;
 use std::alloc::Global;
 
-/// Adds what came.
+/// Adds the event that was returned.
 fn add_arrival(told: &mut Told, arrival: &Arrival) {
     match arrival {
         Arrival::Datagram { bytes, .. } => told.add(bytes.bytes()),
@@ -19,7 +19,7 @@ fn add_arrival(told: &mut Told, arrival: &Arrival) {
     }
 }
 
-/// Adds what comes next.
+/// Adds the next event.
 fn add_next<L: Link>(told: &mut Told, link: &mut L) {
     match link.next(told.alloc) {
         Ok(arrival) => {
@@ -30,7 +30,7 @@ fn add_next<L: Link>(told: &mut Told, link: &mut L) {
     }
 }
 
-/// Adds the next bytes of the web request that came last, four at most.
+/// Adds the next bytes of the web request that was received last, four at most.
 fn add_read<L: Link>(told: &mut Told, link: &mut L) {
     let mut buf = [0; 4];
     match link.web_read(&mut buf) {
@@ -39,7 +39,7 @@ fn add_read<L: Link>(told: &mut Told, link: &mut L) {
     }
 }
 
-/// Notes whether the link binds, and takes a datagram and a reply.
+/// Notes whether the link binds, and passes it a datagram and a reply.
 fn take<L: Link>(told: &mut Told, link: &mut L) {
     let bound = link.bind(peer_addr(5060), peer_addr(8080)).is_ok();
     told.keep(bound);
@@ -49,7 +49,7 @@ fn take<L: Link>(told: &mut Told, link: &mut L) {
     told.keep(replied);
 }
 
-/// Adds what comes at five calls, with the first eight bytes of a web request.
+/// Adds the results of five calls of `next`, with the first eight bytes of a web request.
 fn add_heard<L: Link>(told: &mut Told, link: &mut L) {
     for _ in 0..5 {
         add_next(told, link);
@@ -62,7 +62,7 @@ fn add_heard<L: Link>(told: &mut Told, link: &mut L) {
 
 const SCRIPT: &[u8] = b"at 0 peer 1\n+one\nat 5 web\n+GET abc\nat 4 quiet";
 
-/// Adds what is heard of the script above, and how many events it has then, as before.
+/// Adds the events received of the script above, and how many events it has then, as before.
 fn add_script(told: &mut Told, directory: &Directory) {
     match ScriptLink::read(told.alloc, SCRIPT, &directory.peers) {
         Err(_) => told.fail(),

@@ -14,14 +14,14 @@ use std::alloc::Global;
 const SCRIPT: &[u8] =
     b"# One of each kind.\nat 0 peer 1\n|OPTIONS sip:a@h SIP/2.0\n#|\n\n|\n+a \\|+\nx000d0aff\nat 5 web\n+GE\n+T\nat 4 quiet\nat 250000000000000 peer 2\nx\nx7cf0\n+";
 
-/// Tells the port that a datagram came from, of an address of the host itself.
+/// Writes the port of the source of a datagram, of an address of the host itself.
 fn tell_port(told: &mut Told, from: Addr) {
     told.keep(from.is_same(peer_addr(from.port)));
     told.add(b"datagram");
     told.add_spaced_number(u64::from(from.port));
 }
 
-/// Tells an event: a datagram with its port, a web request or nothing; its moment, and its bytes.
+/// Writes an event: a datagram with its port, a web request or a tick; its moment, and its bytes.
 fn tell_event(told: &mut Told, event: &Event) {
     match event {
         Event::Datagram { from, at, bytes } => {
@@ -44,7 +44,7 @@ fn tell_event(told: &mut Told, event: &Event) {
     told.add(b"\n");
 }
 
-/// Tells the events of the script above, and how many there are.
+/// Writes the events of the script above, and how many there are.
 fn tell_script(told: &mut Told, directory: &Directory) {
     match ScriptLink::read(told.alloc, SCRIPT, &directory.peers) {
         Err(_) => told.fail(),
@@ -58,7 +58,7 @@ fn tell_script(told: &mut Told, directory: &Directory) {
     }
 }
 
-/// What the script above says.
+/// The content of the script above.
 const SCRIPT_TOLD: &[u8] = b"datagram 5071 0 OPTIONS sip:a@h SIP/2.0\r\n\r\na \\|+\x00\r\n\xff
 web 5 GET
 quiet 4
@@ -74,7 +74,7 @@ fn wrong_script(alloc: Global) -> usize {
     told.wrong_line(SCRIPT_TOLD)
 }
 
-/// The number of the line that a script breaks its grammar in; 0 where it is read.
+/// The number of the line in which a script breaks the grammar; 0 where it is read.
 fn broken_script(alloc: Global, text: &[u8], directory: &Directory) -> u64 {
     match ScriptLink::read(alloc, text, &directory.peers) {
         Ok(script) => {
@@ -86,7 +86,7 @@ fn broken_script(alloc: Global, text: &[u8], directory: &Directory) -> u64 {
     }
 }
 
-/// The number of the line that each of these breaks its grammar in, 0 where it is read. A `;` stands for the end of a line.
+/// The number of the line in which each of these breaks the grammar, 0 where it is read. A `;` represents the end of a line.
 const EVENTS: &[u8] = b"0|
 0|# Nothing.;;
 0|at 5 peer 2;at 4 peer 1;at 4 web;at 3 quiet
@@ -147,7 +147,7 @@ impl Grammar for Scripts<'_> {
     }
 }
 
-/// The number of the first row that is not right; 0 where each is.
+/// The number of the first row that is wrong; 0 where none is.
 fn wrong_rows(alloc: Global, table: &[u8]) -> usize {
     let mut told = Told::new(alloc);
     let directory = home(&mut told);

@@ -3,13 +3,13 @@
 use mmtel_told::{Told, cut, next_line};
 use std::alloc::Global;
 
-/// What a table is about.
+/// The test of a table.
 pub trait Grammar {
-    /// The number of the line that a text breaks the grammar in; 0 where it is read.
+    /// The number of the line in which a text breaks the grammar; 0 where it is read.
     fn broken(&self, alloc: Global, text: &[u8]) -> u64;
 }
 
-/// Tells a row again: the number of the line that is broken, `|`, and the lines, of which `;` ends each, which stand behind others.
+/// Writes a row with its result: the number of the line that breaks the grammar, `|`, and the lines, each ended by `;`, which are preceded by others.
 fn tell_row<G: Grammar>(told: &mut Told, grammar: &G, before: &[u8], row: &[u8]) {
     let (_number, lines) = cut(b'|', row);
     let mut text = Told::new(told.alloc);
@@ -21,7 +21,7 @@ fn tell_row<G: Grammar>(told: &mut Told, grammar: &G, before: &[u8], row: &[u8])
     told.add_line(lines);
 }
 
-/// The number of the first row that is not right, from 1; 0 where each is.
+/// The number of the first row that is wrong, from 1; 0 where none is.
 pub fn wrong_row<G: Grammar>(alloc: Global, grammar: &G, before: &[u8], table: &[u8]) -> usize {
     let mut told = Told::new(alloc);
     let mut rest = table;

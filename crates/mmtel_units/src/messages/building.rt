@@ -1,4 +1,4 @@
-//! Header lines that the server builds, and how it names itself in them.
+//! Header fields that the server builds, and how it identifies itself in them.
 
 use crate::asserting::assert_right;
 use crate::messages::drafts::{request, tell_lines};
@@ -23,20 +23,20 @@ const SIP: Addr = Addr {
     port: 5060,
 };
 
-/// Adds a line whose value was made.
+/// Adds a header field whose value was built.
 fn add_made(told: &mut Told, lines: &mut List<Line>, name: &[u8], value: Result<Text, NoMemory>) {
     let value = told.made(value);
     let done = add_line(told.alloc, lines, name, value);
     told.keep(done.is_ok());
 }
 
-/// A line whose bytes are these.
+/// A header field whose bytes are these.
 fn add(told: &mut Told, lines: &mut List<Line>, name: &[u8], value: &[u8]) {
     let done = add_bytes(told.alloc, lines, name, value);
     told.keep(done.is_ok());
 }
 
-/// Lines of each kind, as the server builds them.
+/// Header fields of each kind, as the server builds them.
 fn build(told: &mut Told, lines: &mut List<Line>) {
     let alloc = told.alloc;
     add_made(told, lines, b"X-Ip", ip_text(alloc, FAR.ip));
@@ -50,7 +50,7 @@ fn build(told: &mut Told, lines: &mut List<Line>) {
     told.keep(done.is_ok());
 }
 
-/// What was received: all lines of it, and those of a name.
+/// What was received: all header fields of it, and those of a name.
 fn pass(told: &mut Told, lines: &mut List<Line>) {
     let mut received = List::new();
     add(told, &mut received, b"supported", b"histinfo");
@@ -65,8 +65,8 @@ fn pass(told: &mut Told, lines: &mut List<Line>) {
     told.keep(done.is_ok());
 }
 
-/// Via and Contact by RFC 3261 §8.1.1.7 and §8.1.1.8, and a tag behind a To value (§19.3); then all that was received, and what of it has a name, which is compared without
-/// case (§7.3.1).
+/// Via and Contact by RFC 3261 §8.1.1.7 and §8.1.1.8, and a tag after a To value (§19.3); then all that was received, and what of it has a name, which is compared without case
+/// (§7.3.1).
 const BUILT: &[u8] = b"X-Ip: 192.0.2.255
 X-Addr: 192.0.2.255:65535
 Via: SIP/2.0/UDP 127.0.0.1:5060;branch=z9hG4bKT-4
@@ -82,7 +82,7 @@ Supported: timer
 #
 ";
 
-/// The number of the first line that is another one; 0 where none is.
+/// The number of the first line that differs; 0 where none does.
 fn wrong_built(alloc: Global) -> usize {
     let mut told = Told::new(alloc);
     let mut lines = List::new();

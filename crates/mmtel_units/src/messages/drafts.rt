@@ -1,10 +1,10 @@
-//! Messages that tests make of the lines of a table, and lines as a table has them.
+//! Messages that tests build of the lines of a table, and header fields as a table has them.
 
 use mmtel_lex::{List, Text};
 use mmtel_message::{Line, Msg, Start, add_bytes, read};
 use mmtel_told::{Told, cut, next_line};
 
-/// What these bytes are read as; none where they cannot be read, which is remembered.
+/// The message that is read of these bytes; none where they cannot be read, which is recorded.
 pub fn message_of(told: &mut Told, bytes: &[u8]) -> Option<Msg> {
     let message = read(told.alloc, bytes);
     told.noted(message)
@@ -19,7 +19,7 @@ pub fn message_of_lines(told: &mut Told, lines: &[u8]) -> Option<Msg> {
     message
 }
 
-/// Tells the text of a message, its lines ended by LF.
+/// Writes the text of a message, its lines ended by LF.
 pub fn tell_message(told: &mut Told, message: &Msg) {
     let text = message.text(told.alloc);
     let text = told.made(text);
@@ -27,14 +27,14 @@ pub fn tell_message(told: &mut Told, message: &Msg) {
     drop(text);
 }
 
-/// Adds a line at the end of a message.
+/// Adds a header field at the end of a message.
 pub fn add(told: &mut Told, message: &mut Msg, name: &[u8], value: &[u8]) {
     let value = told.copy(value);
     let done = message.add(told.alloc, name, value);
     told.keep(done.is_ok());
 }
 
-/// Adds a line of a table.
+/// Adds a header field of a table.
 fn add_row(told: &mut Told, lines: &mut List<Line>, row: &[u8]) {
     let (name, value) = cut(b':', row);
     let value = value.strip_prefix(b" ").unwrap_or(value);
@@ -42,7 +42,7 @@ fn add_row(told: &mut Told, lines: &mut List<Line>, row: &[u8]) {
     told.keep(done.is_ok());
 }
 
-/// The lines of a table.
+/// The header fields of a table.
 pub fn lines_of(told: &mut Told, table: &[u8]) -> List<Line> {
     let mut lines = List::new();
     let mut rows = table;
@@ -64,13 +64,13 @@ pub fn request(told: &mut Told, method: &[u8]) -> Start {
     Start::Request { method, uri }
 }
 
-/// A message of the lines of a table.
+/// A message of the header fields of a table.
 pub fn of_lines(told: &mut Told, start: Start, table: &[u8]) -> Msg {
     let lines = lines_of(told, table);
     Msg::of(start, lines, Text::new())
 }
 
-/// Tells lines, one a line, and a line `#`.
+/// Writes header fields, one a line, and a line `#`.
 pub fn tell_lines(told: &mut Told, lines: &[Line]) {
     for line in lines {
         told.add(line.0.bytes());

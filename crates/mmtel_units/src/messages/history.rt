@@ -28,7 +28,7 @@ fn tell_parts(told: &mut Told, entry: &Entry) {
     told.add_line(entry.rest.bytes());
 }
 
-/// Tells a copy of an entry in the same way.
+/// Writes a copy of an entry in the same way.
 fn tell_copy(told: &mut Told, entry: &Entry) {
     match entry.copied(told.alloc) {
         Ok(copy) => {
@@ -39,7 +39,7 @@ fn tell_copy(told: &mut Told, entry: &Entry) {
     }
 }
 
-/// Tells the values of a history, one a line.
+/// Writes the values of a history, one a line.
 fn tell_history(told: &mut Told, history: &History) {
     for entry in history.entries() {
         let value = write_entry(told.alloc, entry);
@@ -59,7 +59,7 @@ pub fn divert(told: &mut Told, history: &mut History, target: &[u8], cause: u16,
     }
 }
 
-/// Values of History-Info, and what was made of them.
+/// Values of History-Info, and the list that was built of them.
 #[derive(Drop)]
 struct Histories {
     values: List<Text>,
@@ -74,7 +74,7 @@ impl Histories {
         told.keep(done.is_ok());
     }
 
-    /// Reads the values; else tells the place of the first that cannot be read.
+    /// Reads the values; else writes the index of the first that cannot be read.
     fn read(&mut self, told: &mut Told) {
         match read_values(told.alloc, &self.values) {
             Ok(history) => drop(mem::replace(&mut self.history, history)),
@@ -92,12 +92,12 @@ impl Histories {
         told.add(b"\n");
     }
 
-    /// Has no values any more.
+    /// Removes all values.
     fn forget(&mut self) {
         drop(mem::replace(&mut self.values, List::new()));
     }
 
-    /// Reads this value alone, and tells the parts of its entry.
+    /// Reads this value alone, and writes the parts of its entry.
     fn tell_entry(&mut self, told: &mut Told, value: &[u8]) {
         self.forget();
         self.push(told, value);
@@ -119,14 +119,14 @@ impl Histories {
         self.tell_count(told);
     }
 
-    /// Hides the entry at this place, where there is one.
+    /// Hides the entry at this index, where there is one.
     fn hide(&mut self, place: usize) {
         if place < self.history.entries().len() {
             self.history.mark(place);
         }
     }
 
-    /// The list as a 181 tells it, with these entries hidden.
+    /// The list for a 181, with these entries hidden.
     fn tell_told(&self, told: &mut Told, hide_diverting: bool, hide_target: bool) {
         match self
             .history
@@ -140,7 +140,7 @@ impl Histories {
         }
     }
 
-    /// The list masked: each hidden entry, or each.
+    /// The list masked: each hidden entry, or each entry.
     fn tell_masked(&self, told: &mut Told, all: bool) {
         match self.history.masked(told.alloc, all) {
             Ok(masked) => {
@@ -165,7 +165,7 @@ impl Histories {
         }
     }
 
-    /// What values come to.
+    /// The list that values give.
     fn tell_values(&mut self, told: &mut Told, word: &[u8], rest: &[u8]) {
         match word {
             b"new" => {
@@ -191,7 +191,7 @@ impl Histories {
         }
     }
 
-    /// What becomes of the list.
+    /// The list after each operation.
     fn tell_list(&mut self, told: &mut Told, word: &[u8], rest: &[u8]) {
         let (first, second) = cut(b' ', rest);
         match word {
@@ -226,7 +226,7 @@ impl Rows for Histories {
     }
 }
 
-/// Entries: what a value of History-Info says, as `URI|index|cause|hidden or shown|rest`.
+/// Entries: a value of History-Info, as `URI|index|cause|hidden or shown|rest`.
 ///
 /// The first five values are those of RFC 7044 §5 and §5.1, the next two have the URIs of RFC 4458 §2 and §6.3 with an index; the others are this table's own.
 const ENTRIES: &[u8] = br#"> entry <sip:UserA@ims.example.com>;index=1;foo=bar
@@ -287,8 +287,8 @@ sip:vm@example.com;cause=503?Subject=x|1|503|shown|
 1
 ";
 
-/// Values that are no entry of this profile, the first of no bytes: each is refused at its place, behind one that is read. Then of 33 values none is read, and the place is
-/// 32; of 32 each.
+/// Values that are no entry of this profile, the first of no bytes: each is refused at its index, after one that is read. Then of 33 values none is read, and the index is 32; of
+/// 32 each is.
 const UNREADABLE: &[u8] = br#"> second 
 malformed 1
 > second <sip:a@b>
@@ -322,7 +322,7 @@ malformed 32
 "#;
 
 /// Bob diverts every call to carol, who is busy and diverts to a voice mail.
-/// Then the same: the 181 of her diversion hides her and the voice mail, or one of them, and never bob; the list itself keeps none of these marks.
+/// Then the same: the 181 of her diversion hides her and the voice mail, or one of them, and never bob; the list itself has none of these marks afterwards.
 /// Last bob diverts to himself five times: six entries, five of them diversions.
 const DIVERSIONS: &[u8] = b"> new
 > read
@@ -374,8 +374,8 @@ sip:vm@far.example;cause=486|1.1.1|486|shown|
 5
 ";
 
-/// URIs with causes of their own among their parameters, and what looks like one elsewhere: the URI without its causes, and with one of 302 in their place. The cause of a
-/// diversion stands in place of the target's own.
+/// URIs with causes of their own among their parameters, and with text that resembles one elsewhere: the URI without its causes, and with one of 302 in their place. The cause of a
+/// diversion replaces the target's own.
 const CAUSED: &[u8] = b"> without sip:vm@far;cause=486
 sip:vm@far
 > with 302 sip:vm@far;cause=486
@@ -410,9 +410,9 @@ tel:+49;cause=302
 1
 ";
 
-/// Bob's diversion, hidden by nobody, and al's entry, which asks to be hidden; a diversion to a voice mail that hides the last entry; then the first and the last are
-/// hidden too. A hidden entry is written with `Privacy=history` in its header part, once.
-/// A hidden entry that is masked has nobody's URI and its cause; where all are masked, so has each.
+/// Bob's diversion, hidden by nobody, and al's entry, which requests to be hidden; a diversion to a voice mail that hides the last entry; then the first and the last are hidden
+/// too. A hidden entry is written with `Privacy=history` in its header part, once.
+/// A hidden entry that is masked has the anonymous URI and its cause; where all are masked, so has each.
 const MARKS: &[u8] = b"> new
 > value <sip:bob@home.example;cause=302>;index=1;rc=0
 > value <sip:al@home.example?Privacy=history>;index=1.1
@@ -443,7 +443,7 @@ const MARKS: &[u8] = b"> new
 <sip:anonymous@anonymous.invalid;cause=486>;index=1.1.1
 ";
 
-/// The number of the first line of a table that is not told again; 0 where each is.
+/// The number of the first line of a table that differs from the actual one; 0 where none does.
 fn wrong(alloc: Global, table: &[u8]) -> usize {
     let mut histories = Histories {
         values: List::new(),

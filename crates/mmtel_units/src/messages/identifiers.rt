@@ -1,4 +1,4 @@
-//! What a message's five fields say of its transaction and its dialog: as a message that was read keeps it, and as it is read of one that was edited or built.
+//! The transaction and the dialog of a message by its five fields: as a message that was read keeps them, and as they are read of one that was edited or built.
 
 use crate::asserting::assert_right;
 use crate::messages::drafts::{message_of_lines, request};
@@ -7,7 +7,7 @@ use mmtel_message::Msg;
 use mmtel_told::Told;
 use std::alloc::Global;
 
-/// A request whose fields stand on lines in the compact form, one of them folded.
+/// A request whose fields are header fields in the compact form, one of them folded.
 const BYE: &[u8] = b"BYE sip:bob@far.example SIP/2.0
 v: SIP/2.0/UDP erin.example:5071;branch=z9hG4bKa1, SIP/2.0/UDP 192.0.2.1;branch=z9hG4bKb2
 f: \"Erin\"
@@ -19,20 +19,20 @@ Content-Length: 0
 
 ";
 
-/// What is told of it: as it was read; with another To, whose tag has no value; without Call-ID; and of a message that was built without lines.
+/// What is written of it: as it was read; with another To, whose tag has no value; without Call-ID; and of a message that was built without header fields.
 const SAID: &[u8] = b"z9hG4bKa1 erin.example:5071 a b c1@h 7 BYE
 z9hG4bKa1 erin.example:5071 a  c1@h 7 BYE
 nothing
 nothing
 ";
 
-/// Tells a part and a blank behind it.
+/// Writes a part and a space after it.
 fn tell_part(told: &mut Told, part: &[u8]) {
     told.add(part);
     told.add(b" ");
 }
 
-/// Tells what the five fields say.
+/// Writes what the five fields give.
 fn tell_identifiers(told: &mut Told, message: &Msg) {
     match message.identifiers() {
         None => told.add(b"nothing"),
@@ -50,7 +50,7 @@ fn tell_identifiers(told: &mut Told, message: &Msg) {
     told.add(b"\n");
 }
 
-/// Tells of a message that was read, and of it with edits.
+/// Writes the same of a message that was read, and of it with edits.
 fn tell_edited(told: &mut Told, message: &mut Msg) {
     tell_identifiers(told, message);
     let to = told.copy(b"<sip:bob@far.example>;tag");
@@ -61,7 +61,7 @@ fn tell_edited(told: &mut Told, message: &mut Msg) {
     tell_identifiers(told, message);
 }
 
-/// The number of the first line that is told otherwise; 0 where none is.
+/// The number of the first line that differs from the actual one; 0 where none does.
 fn wrong_identifiers(alloc: Global) -> usize {
     let mut told = Told::new(alloc);
     match message_of_lines(&mut told, BYE) {

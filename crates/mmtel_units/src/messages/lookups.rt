@@ -1,4 +1,4 @@
-//! Look-ups of accounts, peers and routes in tables of some hundred entries, each beside a walk over the whole list.
+//! Look-ups of accounts, peers and routes in tables of some hundred entries, each compared with a linear search of the whole list.
 
 use mmtel_lex::{List, Uri, read_uri, same_identity};
 use mmtel_told::Told;
@@ -6,7 +6,7 @@ use mmtel_trust::{AccountIdentity, Accounts, KnownPeer, PeerTable, Route, TableF
 use mmtel_types::{Account, Addr, Peer};
 use std::alloc::Global;
 
-/// Numbers that are drawn one after the other, the same in each run.
+/// Pseudo-random numbers that are drawn one after the other, the same in each run.
 #[derive(Drop)]
 struct Dice(u64);
 
@@ -51,7 +51,7 @@ fn add_host(told: &mut Told, dice: &mut Dice) {
     told.add(dice.one_of(&[b".example", b".EXAMPLE"]));
 }
 
-/// Adds a sip URI: without a user, of a user, or of a number for which it may stand.
+/// Adds a sip URI: without a user, of a user, or of a number that it may represent.
 fn add_sip(told: &mut Told, dice: &mut Dice) {
     told.add(b"sip:");
     match dice.below(4) {
@@ -95,7 +95,7 @@ fn owner(identities: &[AccountIdentity], uri: &Uri) -> u32 {
     0
 }
 
-/// Adds an identity of an account. Whether that came to what a walk over all of them says.
+/// Adds an identity of an account. Returns whether the result is that of a linear search of all of them.
 fn adds_right(alloc: Global, accounts: &mut Accounts, number: u32, uri: Uri) -> bool {
     let is_there = owner(accounts.identities(), &uri) != 0;
     match accounts.add(alloc, Account(number), uri) {
@@ -105,7 +105,7 @@ fn adds_right(alloc: Global, accounts: &mut Accounts, number: u32, uri: Uri) -> 
     }
 }
 
-/// How many of the answers of a table of accounts are wrong: three thousand identities are drawn and put in where they are new, and ten thousand are looked up.
+/// How many of the results of a table of accounts are wrong: three thousand identities are drawn and added where they are new, and ten thousand are looked up.
 fn wrong_owners(alloc: Global) -> u32 {
     let mut dice = Dice(7);
     let mut accounts = Accounts::new();
@@ -161,7 +161,7 @@ fn drawn_addr(dice: &mut Dice) -> Addr {
     }
 }
 
-/// The peer at the address, by a walk; None where there is none.
+/// The peer at the address, by a linear search; None where there is none.
 fn at(peers: &[KnownPeer], addr: Addr) -> Option<KnownPeer> {
     for known in peers {
         if known.addr.ip == addr.ip && known.addr.port == addr.port {
@@ -171,7 +171,7 @@ fn at(peers: &[KnownPeer], addr: Addr) -> Option<KnownPeer> {
     None
 }
 
-/// The peer of the number, by a walk; None where there is none.
+/// The peer of the number, by a linear search; None where there is none.
 fn of(peers: &[KnownPeer], number: u16) -> Option<KnownPeer> {
     for known in peers {
         if known.peer.0 == number {
@@ -191,7 +191,7 @@ fn add_name(told: &mut Told, dice: &mut Dice) {
     }
 }
 
-/// The peer of the first route of the host, by a walk; 0 where there is none.
+/// The peer of the first route of the host, by a linear search; 0 where there is none.
 fn of_host(routes: &[Route], host: &[u8]) -> u16 {
     for route in routes {
         if route.name.bytes().eq_ignore_ascii_case(host) {
@@ -201,7 +201,7 @@ fn of_host(routes: &[Route], host: &[u8]) -> u16 {
     0
 }
 
-/// Whether the number begins with the prefix, once its visual separators are taken out.
+/// Whether the number begins with the prefix, once its visual separators are removed.
 fn begins(number: &[u8], prefix: &[u8]) -> bool {
     let mut rest = prefix;
     for byte in number {
@@ -220,7 +220,7 @@ fn begins(number: &[u8], prefix: &[u8]) -> bool {
     rest.is_empty()
 }
 
-/// The peer of the longest prefix of the number, by a walk; 0 where there is none.
+/// The peer of the longest prefix of the number, by a linear search; 0 where there is none.
 fn of_number(routes: &[Route], number: &[u8]) -> u16 {
     let mut peer = 0;
     let mut length = 0;
@@ -264,7 +264,7 @@ impl Tables {
         }
     }
 
-    /// Counts what is not right.
+    /// Counts what is wrong.
     fn note(&mut self, is_right: bool) {
         if !is_right {
             self.wrong = self.wrong.saturating_add(1);
@@ -333,13 +333,13 @@ impl Tables {
         }
     }
 
-    /// Whether the URI leads where it does by a walk.
+    /// Whether the route of the URI is that of a linear search.
     fn is_right_to(&self, uri: &Uri) -> bool {
         self.table.route(uri).unwrap_or(Peer(0)).0 == leads_to(self.routes.items(), uri)
     }
 }
 
-/// How many of the answers of a table of peers and routes are wrong.
+/// How many of the results of a table of peers and routes are wrong.
 fn wrong_peers(alloc: Global) -> u32 {
     let mut dice = Dice(11);
     let mut told = Told::new(alloc);

@@ -1,4 +1,4 @@
-//! SIP messages: what comes of the standards' examples, of damaged messages and at the limits, and the edits.
+//! SIP messages: the results for the standards' examples, for damaged messages and at the limits, and the edits.
 
 use crate::asserting::assert_right;
 use crate::messages::drafts::{of_lines, request};
@@ -19,7 +19,7 @@ fn code_of(message: &Msg) -> u16 {
     }
 }
 
-/// Tells the code of a reply, or `none`.
+/// Writes the code of a reply, or `none`.
 fn tell_code(told: &mut Told, reply: &Option<Msg>) {
     match reply {
         Some(reply) => told.add_number(u64::from(code_of(reply))),
@@ -27,7 +27,7 @@ fn tell_code(told: &mut Told, reply: &Option<Msg>) {
     }
 }
 
-/// Tells a refusal and the code of its reply.
+/// Writes a refusal and the code of its reply.
 fn tell_fault(told: &mut Told, fault: &ReadFault) {
     match fault {
         ReadFault::TooLarge { reply } => {
@@ -49,7 +49,7 @@ fn tell_fault(told: &mut Told, fault: &ReadFault) {
     }
 }
 
-/// Tells what comes of the bytes: `read`, or the refusal and the code of its reply.
+/// Writes the result for the bytes: `read`, or the refusal and the code of its reply.
 fn tell_outcome(told: &mut Told, bytes: &[u8]) {
     match read(told.alloc, bytes) {
         Ok(message) => {
@@ -64,14 +64,14 @@ fn tell_outcome(told: &mut Told, bytes: &[u8]) {
     }
 }
 
-/// Tells the text of a message.
+/// Writes the text of a message.
 fn tell_message(told: &mut Told, message: &Msg) {
     let text = message.text(told.alloc);
     let text = told.made(text);
     told.add(text.bytes());
 }
 
-/// Tells the text of the reply that a refusal carries, where it carries one.
+/// Writes the text of the reply that a refusal carries, where it carries one.
 fn tell_refusal(told: &mut Told, fault: &ReadFault) {
     match fault {
         ReadFault::TooLarge { reply: Some(reply) } => tell_message(told, reply),
@@ -84,7 +84,7 @@ fn tell_refusal(told: &mut Told, fault: &ReadFault) {
     }
 }
 
-/// Tells the text of the message that is read, or of the reply.
+/// Writes the text of the message that is read, or of the reply.
 fn tell_answer(told: &mut Told, bytes: &[u8]) {
     match read(told.alloc, bytes) {
         Ok(message) => {
@@ -99,11 +99,11 @@ fn tell_answer(told: &mut Told, bytes: &[u8]) {
     }
 }
 
-/// Lines that many messages of the tables have, for which `&` stands.
+/// Header fields that many messages of the tables have, which `&` represents.
 const USUAL: &[u8] =
     b"Via: SIP/2.0/UDP a.example;branch=z9hG4bKa1\r\nFrom: <sip:a@h>;tag=a\r\nTo:\r\n\t<sip:b@h>\t\r\nCall-ID: c1\r\n";
 
-/// Adds a line of a message, or the usual ones.
+/// Adds a header field of a message, or the usual ones.
 fn add_header(told: &mut Told, line: &[u8]) {
     if line == b"&".as_slice() {
         told.add(USUAL);
@@ -113,7 +113,7 @@ fn add_header(told: &mut Told, line: &[u8]) {
     }
 }
 
-/// Adds the lines of a table up to one that begins with `mark`, each ended by CRLF; gives that line without the mark, and what follows it.
+/// Adds the lines of a table up to one that begins with `mark`, each ended by CRLF; returns that line without the mark, and what follows it.
 fn add_block<'a>(told: &mut Told, mark: u8, table: &'a [u8]) -> (&'a [u8], &'a [u8]) {
     let mut rest = table;
     for _ in 0..200 {
@@ -127,10 +127,10 @@ fn add_block<'a>(told: &mut Told, mark: u8, table: &'a [u8]) -> (&'a [u8], &'a [
     (b"", rest)
 }
 
-/// Messages and, behind a line `#`, the text that each is read as; a line `#` ends that.
+/// Messages and, after a line `#`, the text that each is read as; a line `#` ends that.
 ///
-/// The first is the registration of RFC 3261 §24.1, the second the BYE of §24.2; each reads as it stands. The third has what the profile lets through: folds, compact
-/// names, names in other case, commas, several Privacy and Allow lines, bytes behind the body.
+/// The first is the registration of RFC 3261 §24.1, the second the BYE of §24.2; each is printed as it was. The third has what the profile accepts: folds, compact names, names in
+/// other case, commas, several Privacy and Allow header fields, bytes after the body.
 const READ: &[u8] = br##"REGISTER sip:registrar.biloxi.com SIP/2.0
 Via: SIP/2.0/UDP bobspc.biloxi.com:5060;branch=z9hG4bKnashds7
 Max-Forwards: 70
@@ -243,7 +243,7 @@ Content-Length: 0
 #
 "##;
 
-/// Adds the answer to the first message of a table, and the text that is wanted; gives what follows them.
+/// Adds the result for the first message of a table, and the expected text; returns what follows them.
 fn add_read<'a>(came: &mut Told, wanted: &mut Told, table: &'a [u8]) -> &'a [u8] {
     let mut text = Told::new(came.alloc);
     let (end, rest) = add_block(&mut text, b'#', table);
@@ -254,7 +254,7 @@ fn add_read<'a>(came: &mut Told, wanted: &mut Told, table: &'a [u8]) -> &'a [u8]
     rest
 }
 
-/// The number of the first line that the messages of a table are not read as; 0 where none is.
+/// The number of the first line in which the messages of a table are read otherwise; 0 where there is none.
 fn wrong_read(alloc: Global, table: &[u8]) -> usize {
     let mut came = Told::new(alloc);
     let mut wanted = Told::new(alloc);
@@ -267,8 +267,8 @@ fn wrong_read(alloc: Global, table: &[u8]) -> usize {
     came.wrong_line(wanted.whole())
 }
 
-/// Messages and what comes of each: the torture tests of RFC 4475 §3.1.1 that the profile reads or refuses for its blanks, and those of §3.1.2, in their order. The profile
-/// lets no blank stand around `;` and `=`, so it refuses the first two, the second of which is the 200 of RFC 3261 §24.1.
+/// Messages and the result of each: the torture tests of RFC 4475 §3.1.1 that the profile reads or refuses for their spaces, and those of §3.1.2, in their order. The profile
+/// allows no space around `;` and `=`, so it refuses the first two, the second of which is the 200 of RFC 3261 §24.1.
 const TORTURE: &[u8] = br##"INVITE sip:vivekg@chair-dnrc.example.com;unknownparam SIP/2.0
 TO :
  sip:vivekg@chair-dnrc.example.com ;   tag    = 1918181833n
@@ -472,7 +472,7 @@ CSeq: 353494 INVITE
 = not sip
 "##;
 
-/// Damaged messages and what comes of each. The lines of `&` are the lines 1 to 4.
+/// Damaged messages and the result of each. The lines of `&` are the lines 1 to 4.
 const DAMAGED: &[u8] = br##"= not sip
 INVITE sip:b@h SIP/2.0
 &
@@ -651,7 +651,7 @@ No colon
 = bad 6, 400
 "##;
 
-/// Adds what comes of the first message of a table, and what is wanted, each behind its first line; gives what follows them.
+/// Adds the result for the first message of a table, and the expected one, each after its first line; returns what follows them.
 fn add_verdict<'a>(came: &mut Told, wanted: &mut Told, table: &'a [u8]) -> &'a [u8] {
     let mut text = Told::new(came.alloc);
     let (verdict, rest) = add_block(&mut text, b'=', table);
@@ -666,7 +666,7 @@ fn add_verdict<'a>(came: &mut Told, wanted: &mut Told, table: &'a [u8]) -> &'a [
     rest
 }
 
-/// The number of the first message of a table, from 1, of which something else comes; 0 where of none.
+/// The number of the first message of a table, from 1, with another result; 0 where there is none.
 fn wrong_verdict(alloc: Global, table: &[u8]) -> usize {
     let mut came = Told::new(alloc);
     let mut wanted = Told::new(alloc);
@@ -679,7 +679,7 @@ fn wrong_verdict(alloc: Global, table: &[u8]) -> usize {
     came.wrong_line(wanted.whole())
 }
 
-/// The head of a message up to where more lines may stand.
+/// The head of a message up to where more header fields may follow.
 fn add_head(told: &mut Told) {
     told.add(b"OPTIONS sip:b@h SIP/2.0\r\n");
     told.add(USUAL);
@@ -693,7 +693,7 @@ fn add_many(told: &mut Told, piece: &[u8], number: usize) {
     }
 }
 
-/// Tells what comes of a datagram of 16,384 bytes, and of one of a byte more.
+/// Writes the result for a datagram of 16,384 bytes, and for one of a byte more.
 fn tell_large(told: &mut Told) {
     let mut text = Told::new(told.alloc);
     add_head(&mut text);
@@ -707,7 +707,7 @@ fn tell_large(told: &mut Told) {
     told.add(b"\n");
 }
 
-/// Tells what comes of 123 header lines behind the five of the head, and of this end.
+/// Writes the result for 123 header fields after the five of the head, and for this end.
 fn tell_long(told: &mut Told, end: &[u8]) {
     let mut text = Told::new(told.alloc);
     add_head(&mut text);
@@ -717,7 +717,7 @@ fn tell_long(told: &mut Told, end: &[u8]) {
     told.add(b"\n");
 }
 
-/// A datagram of 16,384 bytes is read, and one of a byte more is too large. A datagram of 128 header lines is read, and one of a line more has too many, whatever that line is.
+/// A datagram of 16,384 bytes is read, and one of a byte more is too large. A datagram of 128 header fields is read, and one of a header field more has too many, whatever that is.
 fn wrong_limit(alloc: Global) -> usize {
     let mut told = Told::new(alloc);
     tell_large(&mut told);
@@ -726,7 +726,7 @@ fn wrong_limit(alloc: Global) -> usize {
     told.wrong_line(b"read\ntoo large, 513\nread\ntoo many, 513\n")
 }
 
-/// Messages that are read and printed, those that are judged, and the limits.
+/// Messages that are read and printed, those with their results, and the limits.
 #[test]
 fn reads_messages(rt: HostRuntime) {
     assert_right(&rt, "READ", wrong_read(rt.alloc(), READ));
@@ -735,7 +735,7 @@ fn reads_messages(rt: HostRuntime) {
     assert_right(&rt, "limit", wrong_limit(rt.alloc()));
 }
 
-/// Tells the parts of a Via value.
+/// Writes the parts of a Via value.
 fn tell_via(told: &mut Told, value: &[u8]) {
     match read_via(told.alloc, value) {
         Ok(via) => {
@@ -751,7 +751,7 @@ fn tell_via(told: &mut Told, value: &[u8]) {
     }
 }
 
-/// Tells the parts of a CSeq value.
+/// Writes the parts of a CSeq value.
 fn tell_cseq(told: &mut Told, value: &[u8]) {
     match read_cseq(told.alloc, value) {
         Ok(cseq) => {
@@ -764,7 +764,7 @@ fn tell_cseq(told: &mut Told, value: &[u8]) {
     }
 }
 
-/// Tells whether a value can be read as a name-addr.
+/// Writes whether a value can be read as a name-addr.
 fn tell_readable(told: &mut Told, value: &[u8]) {
     match is_readable(told.alloc, value) {
         Ok(readable) => told.add_if(readable, b"readable\n", b"unreadable\n"),
@@ -772,7 +772,7 @@ fn tell_readable(told: &mut Told, value: &[u8]) {
     }
 }
 
-/// Tells texts, joined.
+/// Writes texts, joined.
 fn tell_joined(told: &mut Told, texts: Result<List<Text>, NoMemory>) {
     match texts {
         Ok(texts) => {
@@ -784,7 +784,7 @@ fn tell_joined(told: &mut Told, texts: Result<List<Text>, NoMemory>) {
     }
 }
 
-/// The values of RFC 3261 §20.42 with a branch, and of §20.16; a name-addr after §20.10, and one whose quotes are not closed; the values of a text, parted and joined.
+/// The values of RFC 3261 §20.42 with a branch, and of §20.16; a name-addr after §20.10, and one whose quotes are not closed; the values of a text, split and joined.
 fn tell_values(told: &mut Told) {
     tell_via(
         told,
@@ -797,7 +797,7 @@ fn tell_values(told: &mut Told) {
     tell_joined(told, values);
 }
 
-/// The lines that each request has.
+/// The header fields that each request has.
 const FIVE: &[u8] = b"Via: SIP/2.0/UDP a.example;branch=z9hG4bKa1
 From: <sip:a@h>;tag=a
 To: <sip:b@h>
@@ -805,7 +805,7 @@ Call-ID: c1
 CSeq: 1 OPTIONS
 ";
 
-/// Tells two of the five fields of a message.
+/// Writes two of the five fields of a message.
 fn tell_five(told: &mut Told, message: &Msg) {
     match read_five(told.alloc, &message.lines()) {
         Ok(five) => {
@@ -818,7 +818,7 @@ fn tell_five(told: &mut Told, message: &Msg) {
     }
 }
 
-/// Tells the text of the response to a request, which repeats the lines of the request.
+/// Writes the text of the response to a request, which repeats header fields of the request.
 fn tell_busy(told: &mut Told, message: &Msg) {
     match reply_with(told.alloc, 486, b"Busy Here", &message.lines()) {
         Ok(reply) => {
@@ -829,14 +829,14 @@ fn tell_busy(told: &mut Told, message: &Msg) {
     }
 }
 
-/// Two Route lines with three values, and two Subject lines.
+/// Two Route header fields with three values, and two Subject header fields.
 const ROUTED: &[u8] = b"Route: <sip:r@h>, <sip:s@h>
 Subject: one
 route: <sip:t@h>
 subject: two
 ";
 
-/// Tells what is found by a name: the values of its lines, by two calls; their texts; and the first of these.
+/// Writes what is found by a name: the values of its header fields, by two functions; their texts; and the first of these.
 fn tell_found(told: &mut Told, message: &Msg) {
     let alloc = told.alloc;
     tell_joined(
@@ -848,14 +848,14 @@ fn tell_found(told: &mut Told, message: &Msg) {
     told.add_line(message.first(b"ROUTE").unwrap_or(b""));
 }
 
-/// Gives the first line of the name this value.
+/// Sets the first header field of the name to this value.
 fn set(told: &mut Told, message: &mut Msg, name: &[u8], value: &[u8]) {
     let value = told.copy(value);
     let done = message.set(told.alloc, name, value);
     told.keep(done.is_ok());
 }
 
-/// Edits a message of the lines above, and tells its text.
+/// Edits a message of the header fields above, and writes its text.
 fn edit(told: &mut Told, message: &mut Msg) {
     set(told, message, b"Subject", b"three");
     set(told, message, b"Event", b"refer");
@@ -866,7 +866,7 @@ fn edit(told: &mut Told, message: &mut Msg) {
     tell_message(told, message);
 }
 
-/// What is told of the values, of a request of five lines and of the one that has routes, which is edited last.
+/// What is written of the values, of a request of five header fields and of the one that has routes, which is edited last.
 const PARTS: &[u8] = b"erlang.bell-telephone.com:5060|5060|z9hG4bK87asdks7
 4711|INVITE
 readable

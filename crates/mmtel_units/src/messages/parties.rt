@@ -1,4 +1,4 @@
-//! The parties of a call, and the way of its attempts.
+//! The parties of a call, and the next hop of its attempts.
 
 use crate::asserting::assert_right;
 use crate::messages::drafts::{add, message_of};
@@ -23,7 +23,7 @@ fn invite(told: &mut Told, uri: &[u8]) -> Msg {
     Msg::new(Start::Request { method, uri }, Text::new())
 }
 
-/// Adds a line of the name with the first field of the row, unless that is empty; gives what follows it.
+/// Adds a header field of the name with the first field of the row, unless that is empty; returns what follows it.
 fn add_field<'a>(told: &mut Told, message: &mut Msg, name: &[u8], row: &'a [u8]) -> &'a [u8] {
     let (value, rest) = field(row);
     if !value.is_empty() {
@@ -52,7 +52,7 @@ fn accounts(told: &mut Told) -> Accounts {
     accounts
 }
 
-/// Tells the number of an account and a blank, 0 for none.
+/// Writes the number of an account and a space, 0 for none.
 fn tell_account(told: &mut Told, account: Option<Account>) {
     told.add_number(u64::from(account.unwrap_or(Account(0)).0));
     told.add(b" ");
@@ -89,9 +89,8 @@ fn carol_served(told: &mut Told, accounts: &Accounts, parties: &Parties) -> Opti
     }
 }
 
-/// Tells the accounts of caller and target, the sides that are served, what is said of the registration; the accounts that are served: the caller's, the target's, and that
-/// of carol as a further target; `refused` where a user of no account is served, else `-`; and whether the target is registered where the table says so and where it does
-/// not.
+/// Writes the accounts of caller and target, the sides that are served, and the registration state; the accounts that are served: the caller's, the target's, and that of carol as
+/// a further target; `refused` where a user of no account is served, else `-`; and whether the target is registered where the table says so and where it does not.
 fn tell_parties(told: &mut Told, accounts: &Accounts, parties: &Parties) {
     tell_account(told, parties.origin);
     tell_account(told, parties.target);
@@ -110,7 +109,7 @@ fn tell_parties(told: &mut Told, accounts: &Accounts, parties: &Parties) {
     told.add_if(is_registered(parties.registration, false), b"y", b"n");
 }
 
-/// Tells what is said of the parties of a message.
+/// Writes the parties of a message.
 fn tell_said(told: &mut Told, accounts: &Accounts, message: &Msg, trusted: bool) {
     match Parties::of(told.alloc, accounts, message, trusted) {
         Ok(parties) => tell_parties(told, accounts, &parties),
@@ -118,7 +117,7 @@ fn tell_said(told: &mut Told, accounts: &Accounts, message: &Msg, trusted: bool)
     }
 }
 
-/// Tells what is said of a call.
+/// Writes the parties of a call.
 fn tell_call(told: &mut Told, accounts: &Accounts, asked: &[u8]) {
     let (trusted, rest) = field(asked);
     let (uri, rest) = field(rest);
@@ -131,10 +130,10 @@ fn tell_call(told: &mut Told, accounts: &Accounts, asked: &[u8]) {
     drop(message);
 }
 
-/// An answer, the peer, the Request-URI, two P-Served-User lines and two P-Asserted-Identity lines. In order: who is asserted by a trusted peer; nobody by another,
-/// whatever it says; the tel identity where the sip identity is of no account, and the sip identity where both are; a Request-URI of no account, and one that is a number;
-/// a user who is served as the caller, and one of no account; one who is served as the target, and one of no account; the first of two lines; a state of another word, one
-/// of a caller, names in any case and twice.
+/// A result, the peer, the Request-URI, two P-Served-User header fields and two P-Asserted-Identity header fields. In order: the identity asserted by a trusted peer; none by
+/// another, whatever it asserts; the tel identity where the sip identity is of no account, and the sip identity where both are; a Request-URI of no account, and one that is a
+/// number; a user who is served as the caller, and one of no account; one who is served as the target, and one of no account; the first of two header fields; a state of another
+/// word, one of a caller, names in any case and twice.
 const CALLS: &[u8] =
     br#"1 2 both - 1 2 3 - yn|trusted|sip:bob@home.example|||"Alice" <sip:alice@home.example>|<tel:+4930111>
 0 2 both - 0 2 3 - yn|untrusted|sip:bob@home.example|||<sip:alice@home.example>|
@@ -153,7 +152,7 @@ const CALLS: &[u8] =
 1 2 term unreg 0 2 0 - nn|trusted|sip:vm@far.example|<sip:bob@home.example>;SESCASE=term;RegState=unreg;regstate=reg;sescase=orig||<sip:alice@home.example>|
 "#;
 
-/// The number of the first call that is told otherwise; 0 where each is told so.
+/// The number of the first call that differs from the actual one; 0 where none does.
 fn wrong_call(alloc: Global) -> usize {
     let mut told = Told::new(alloc);
     let accounts = accounts(&mut told);
@@ -187,7 +186,7 @@ fn add_peer(told: &mut Told, table: &mut PeerTable, number: u16, port: u16, name
     told.keep(added.is_ok());
 }
 
-/// Three peers, to which the home domain, another domain and numbers lead.
+/// Three peers, which are the routes to the home domain, another domain and numbers.
 fn table(told: &mut Told) -> PeerTable {
     let mut table = PeerTable::new();
     add_peer(told, &mut table, 1, 5071, b"home.example");
@@ -217,7 +216,7 @@ fn kept(alloc: Global, message: &Msg) -> Result<List<Text>, NoMemory> {
     kept_routes(alloc, addr(5060), values)
 }
 
-/// Tells the peer and the Route values of an attempt of this message to this target.
+/// Writes the peer and the Route values of an attempt of this message to this target.
 fn tell_way(told: &mut Told, table: &PeerTable, message: &Msg, target: &[u8]) {
     match kept(told.alloc, message) {
         Ok(routes) => {
@@ -233,7 +232,7 @@ fn tell_way(told: &mut Told, table: &PeerTable, message: &Msg, target: &[u8]) {
     }
 }
 
-/// Tells the way of an attempt.
+/// Writes the next hop of an attempt.
 fn tell_attempt(told: &mut Told, table: &PeerTable, asked: &[u8]) {
     let (target, rest) = field(asked);
     let mut message = invite(told, target);
@@ -242,9 +241,9 @@ fn tell_attempt(told: &mut Told, table: &PeerTable, asked: &[u8]) {
     drop(message);
 }
 
-/// The peer and the Route values that are kept, the target, and the Route values that came, at a server at 127.0.0.1:5060. In order: the server's own value and a further
-/// one, which leads on; its own alone, without a port and with a user, where the target leads on; one of another port and one of another host, which lead nowhere; its own
-/// twice, of which one goes; its own behind another one; a number, which leads nowhere; none.
+/// The peer and the Route values that are kept, the target, and the Route values that were received, at a server at 127.0.0.1:5060. In order: the server's own value and a further
+/// one, which is the next hop; its own alone, without a port and with a user, where the target is the next hop; one of another port and one of another host, to which there is no
+/// route; its own twice, of which one is removed; its own after another one; a number, to which there is no route; none.
 const WAYS: &[u8] =
     b"1 <sip:odi-7@home.example;lr>|sip:bob@far.example|<sip:127.0.0.1:5060;lr>, <sip:odi-7@home.example;lr>
 2|sip:bob@far.example|<sip:orig@127.0.0.1;lr>
@@ -258,7 +257,7 @@ const WAYS: &[u8] =
 0|sip:bob@nowhere.example|
 ";
 
-/// The number of the first attempt that goes another way; 0 where none does.
+/// The number of the first attempt with another next hop; 0 where there is none.
 fn wrong_way(alloc: Global) -> usize {
     let mut told = Told::new(alloc);
     let table = table(&mut told);
@@ -277,7 +276,7 @@ fn wrong_way(alloc: Global) -> usize {
     told.wrong_line(WAYS)
 }
 
-/// An INVITE of the terminating side, which went through the server of its user and is to go on there.
+/// An INVITE of the terminating side, which went through the server of its user and is to continue there.
 const TERMINATING: &[u8] = b"INVITE sip:bob@home.example SIP/2.0\r
 Via: SIP/2.0/UDP 127.0.0.1:5071;branch=z9hG4bKb1, SIP/2.0/UDP 127.0.0.9:5060;branch=z9hG4bKb0\r
 Route: <sip:127.0.0.1:5060;lr>, <sip:odi-7@home.example;lr>\r
@@ -293,7 +292,7 @@ Content-Length: 0\r
 \r
 ";
 
-/// Tells the parties and the way of a message that is read.
+/// Writes the parties and the next hop of a message that is read.
 fn tell_read(told: &mut Told, message: &Msg) {
     let accounts = accounts(told);
     tell_said(told, &accounts, message, true);
@@ -304,7 +303,7 @@ fn tell_read(told: &mut Told, message: &Msg) {
     drop(table);
 }
 
-/// Bob alone is served, and is registered whatever the table says; the server's own Route value goes, and the other one leads on.
+/// Bob alone is served, and is registered whatever the table says; the server's own Route value is removed, and the other one is the next hop.
 fn wrong_terminating(alloc: Global) -> usize {
     let mut told = Told::new(alloc);
     if let Some(message) = message_of(&mut told, TERMINATING) {

@@ -1,4 +1,4 @@
-//! Where the values of a message stand among the bytes received.
+//! The spans of the values of a message in the bytes received.
 
 use crate::asserting::assert_right;
 use crate::messages::drafts::request;
@@ -8,7 +8,7 @@ use mmtel_told::Told;
 use std::alloc::Global;
 
 /// An INVITE whose Via value begins at 41 and has 43 bytes, and whose Max-Forwards begins at 100; its Contact is folded within its
-/// value; its Route has two values on one line, its Record-Route one on each of two, and its Subject stands on the second of its lines.
+/// value; its Route has two values in one header field, its Record-Route one in each of two, and its Subject is on the second of its lines.
 const INVITE: &[u8] = b"INVITE sip:bob@far.example SIP/2.0
 Via: SIP/2.0/UDP 127.0.0.1:5071;branch=z9hG4bKa1
 Max-Forwards: 68
@@ -27,7 +27,7 @@ Content-Length: 0
 
 ";
 
-/// What is told of it: the place of each line's value, or that it is an edit; the same after Max-Forwards is set; the values of Route; how many bytes were received of a
+/// What is written of it: the span of each header field's value, or that it is an edit; the same after Max-Forwards is set; the values of Route; how many bytes were received of a
 /// message that the server built.
 const PLACES: &[u8] =
     b"41+43 100+2 110+37 153+21 185+2 195+8 edit 254+12 268+12 296+12 312+12 337+5 360+1
@@ -47,7 +47,7 @@ fn tell_place(told: &mut Told, place: Option<Span>) {
     }
 }
 
-/// Tells where the values stand.
+/// Writes where the values are.
 fn tell_places(told: &mut Told, message: &Msg) {
     for i in 0..message.lines().len() {
         told.add_if(i > 0, b" ", b"");
@@ -56,7 +56,7 @@ fn tell_places(told: &mut Told, message: &Msg) {
     told.add(b"\n");
 }
 
-/// Whether a value stands at this place of the bytes.
+/// Whether a value is at this span of the bytes.
 fn stands(received: &[u8], place: Span, value: &[u8]) -> bool {
     if place.from > received.len() {
         return false;
@@ -68,7 +68,7 @@ fn stands(received: &[u8], place: Span, value: &[u8]) -> bool {
     &rest[..place.len] == value
 }
 
-/// Whether each place has the value of its line.
+/// Whether each span has the value of its header field.
 pub fn are_right(message: &Msg) -> bool {
     let lines = message.lines();
     let received = message.received();
@@ -83,7 +83,7 @@ pub fn are_right(message: &Msg) -> bool {
     true
 }
 
-/// Tells the values of Route, each with a bar behind it.
+/// Writes the values of Route, each with a bar after it.
 fn tell_routes(told: &mut Told, message: &Msg) {
     for value in message.values_in(b"ROUTE") {
         told.add(value);
@@ -92,7 +92,7 @@ fn tell_routes(told: &mut Told, message: &Msg) {
     told.add(b"\n");
 }
 
-/// Tells of a message that was read, and once more with another Max-Forwards.
+/// Writes a message that was read, and once more with another Max-Forwards.
 fn tell_edited(told: &mut Told, message: &mut Msg) {
     tell_places(told, message);
     let hops = told.copy(b"67");
@@ -103,7 +103,7 @@ fn tell_edited(told: &mut Told, message: &mut Msg) {
     told.keep(are_right(message));
 }
 
-/// Tells what comes of these bytes.
+/// Writes the result for these bytes.
 fn tell_held(told: &mut Told, bytes: Text) {
     let read: Result<Msg, ReadFault> = read_held(told.alloc, bytes);
     match told.noted(read) {
@@ -116,7 +116,7 @@ fn tell_held(told: &mut Told, bytes: Text) {
     }
 }
 
-/// The number of the first line that is told otherwise; 0 where none is.
+/// The number of the first line that differs from the actual one; 0 where none does.
 fn wrong_place(alloc: Global) -> usize {
     let mut told = Told::new(alloc);
     let mut datagram = Told::new(alloc);

@@ -1,4 +1,4 @@
-//! Responses: the first Via with where a request came from, phrases, and what of a request's lines an answer has.
+//! Responses: the first Via with the source of a request, phrases, and which header fields of a request a response has.
 
 use crate::asserting::assert_right;
 use crate::messages::drafts::{lines_of, of_lines, request, tell_message};
@@ -14,7 +14,7 @@ const SOURCE: Addr = Addr {
     port: 5071,
 };
 
-/// Tells a Via value as it is completed; or, of a code, its phrase.
+/// Writes a Via value as it is completed; or, of a code, its phrase.
 #[derive(Drop)]
 struct Answers;
 
@@ -30,9 +30,9 @@ impl Rows for Answers {
     }
 }
 
-/// Via values; below stands each as it is completed. A host is compared with the source as text, without its port (RFC 3261 §18.2.1); an empty `rport` is filled in its
-/// place, and `received` then comes too (RFC 3581 §4).
-/// Then the codes with their phrases, and one that the server does not make.
+/// Via values; below is each as it is completed. A host is compared with the source as text, without its port (RFC 3261 §18.2.1); an empty `rport` is filled in its place, and
+/// `received` is then added too (RFC 3581 §4).
+/// Then the codes with their phrases, and one that the server does not send.
 const ANSWERS: &[u8] = b"> SIP/2.0/UDP h;rport;branch=z9hG4bKa
 SIP/2.0/UDP h;rport=5071;branch=z9hG4bKa;received=127.0.0.1
 > SIP/2.0/UDP h;branch=z9hG4bKa
@@ -107,7 +107,7 @@ Decline
 
 ";
 
-/// The lines of a request without a tag in To; a Subject is none of those that a response repeats.
+/// The header fields of a request without a tag in To; a Subject is none of those that a response repeats.
 const ASKED: &[u8] = b"Via: SIP/2.0/UDP h;rport;branch=z9hG4bKa
 Via: SIP/2.0/UDP far.example;rport;branch=z9hG4bKb
 Record-Route: <sip:r.example;lr>
@@ -118,7 +118,7 @@ CSeq: 1 INVITE
 Subject: one
 ";
 
-/// The lines of a request in a dialog.
+/// The header fields of a request in a dialog.
 const IN_A_DIALOG: &[u8] = b"Via: SIP/2.0/UDP 127.0.0.1:5071;branch=z9hG4bKa
 Record-Route: <sip:r.example;lr>
 From: <sip:a@h>;tag=a
@@ -127,13 +127,13 @@ Call-ID: c1
 CSeq: 2 REFER
 ";
 
-/// A message of the lines of a table, with the start line of a request of this method.
+/// A message of the header fields of a table, with the start line of a request of this method.
 fn asked(told: &mut Told, method: &[u8], table: &[u8]) -> Msg {
     let start = request(told, method);
     of_lines(told, start, table)
 }
 
-/// Tells the text of the response of this code, with the tag `T-1`, to a request that came from `SOURCE`. It passes on these lines and has others named for it.
+/// Writes the text of the response of this code, with the tag `T-1`, to a request that came from `SOURCE`. It passes on these header fields and has others added for it.
 fn tell_response(
     told: &mut Told,
     asked: &Msg,
@@ -161,7 +161,7 @@ fn tell_response(
     }
 }
 
-/// Tells a response to a request: what it passes on and what is named for it stand in tables.
+/// Writes a response to a request: what it passes on and what is added for it are in tables.
 fn tell_answer(
     told: &mut Told,
     request: &Msg,
@@ -177,18 +177,18 @@ fn tell_answer(
     drop(named);
 }
 
-/// Tells a response that passes on nothing and has no body: to a request without a tag in To, with these lines named for it.
+/// Writes a response that passes on nothing and has no body: to a request without a tag in To, with these header fields added for it.
 fn tell_plain(told: &mut Told, method: &[u8], code: u16, named: &[u8]) {
     let request = asked(told, method, ASKED);
     tell_answer(told, &request, code, b"", named, b"");
     drop(request);
 }
 
-/// A 200 of an INVITE has Record-Route and Contact, what is passed on, what is named for it and the body.
-/// A 100 without the tag; a 400 of an INVITE without Record-Route and Contact; a 405 that names the methods; a 420 that names two extensions, one a line.
+/// A 200 of an INVITE has Record-Route and Contact, what is passed on, what is added for it and the body.
+/// A 100 without the tag; a 400 of an INVITE without Record-Route and Contact; a 405 that lists the methods; a 420 that lists two extensions, one a line.
 /// A tag in To is kept; a 202 of a REFER has Contact, but no Record-Route.
 /// A 200 of a SUBSCRIBE has both, one of an UPDATE Contact alone, and one of a PRACK neither; a refusal has neither, whatever it refuses.
-/// Last the reply that a fault of reading carries is completed from its own lines.
+/// Last the reply that a parse fault carries is completed from its own header fields.
 const RESPONSES: &[u8] = b"SIP/2.0 200 OK
 Via: SIP/2.0/UDP h;rport=5071;branch=z9hG4bKa;received=127.0.0.1
 Via: SIP/2.0/UDP far.example;rport;branch=z9hG4bKb
@@ -326,7 +326,7 @@ fn tell_fault(told: &mut Told, fault: &ReadFault) {
     }
 }
 
-/// Tells the reply to the INVITE without Contact, completed.
+/// Writes the reply to the INVITE without Contact, completed.
 fn tell_bad(told: &mut Told) {
     match read(told.alloc, BAD) {
         Ok(message) => {

@@ -1,4 +1,4 @@
-//! Session timers: what values say, what a request may ask for, and when a session expires.
+//! Session timers: the values of the header fields, what a request may require, and when a session expires.
 
 use crate::asserting::assert_right;
 use crate::messages::drafts::{add, request};
@@ -7,7 +7,7 @@ use mmtel_message::Msg;
 use mmtel_session::{SessionExpires, SessionFault, check, expiry_after, read_session};
 use mmtel_told::{Rows, Told, cut, wrong_line};
 
-/// Tells what a value says: the interval, and who refreshes.
+/// Writes the content of a value: the interval, and the refresher.
 fn tell_session(told: &mut Told, session: SessionExpires) {
     told.add_number(u64::from(session.interval));
     match session.caller_refreshes {
@@ -23,7 +23,7 @@ fn tell_value(told: &mut Told, value: &[u8]) {
     }
 }
 
-/// A message with a line Session-Expires for each of the values, which bars part; of three at most.
+/// A message with a header field Session-Expires for each of the values, which bars separate; of three at most.
 fn message_with(told: &mut Told, values: &[u8]) -> Msg {
     let start = request(told, b"INVITE");
     let mut message = Msg::new(start, Text::new());
@@ -60,7 +60,7 @@ fn tell_expiry(told: &mut Told, message: &Msg) {
 #[derive(Drop)]
 struct Sessions;
 
-/// `=` tells what a value says. `?` tells what a request with these values asks for, and `@` after how many milliseconds a 2xx with them expires.
+/// `=` writes the content of a value. `?` writes what a request with these values requires, and `@` after how many milliseconds a 2xx with them expires.
 impl Rows for Sessions {
     fn tell(&mut self, told: &mut Told, asked: &[u8]) {
         match asked {
@@ -81,9 +81,8 @@ impl Rows for Sessions {
     }
 }
 
-/// RFC 4028 §4: the example, both words of `refresher`, other parameters; numbers of SIP may begin with zeros (RFC 3261 §25.1). Names of parameters are compared without
-/// case, and the first of a name counts (RFC 3261 §7.3.1). Refused are another word, one in another case or in quotes, a `refresher` without a word, blanks, and numbers
-/// from 2^31 on.
+/// RFC 4028 §4: the example, both words of `refresher`, other parameters; numbers of SIP may begin with zeros (RFC 3261 §25.1). Names of parameters are compared without case, and
+/// the first of a name counts (RFC 3261 §7.3.1). Refused are another word, one in another case or in quotes, a `refresher` without a word, spaces, and numbers from 2^31 on.
 const VALUES: &[u8] = b"> =4000;refresher=uac
 4000 uac
 > =3600;refresher=uas
@@ -148,7 +147,7 @@ malformed
 malformed
 ";
 
-/// RFC 4028 §5: the least interval is 90 seconds; §4: one line at most.
+/// RFC 4028 §5: the minimum interval is 90 seconds; §4: one header field at most.
 const INTERVALS: &[u8] = b"> ?
 none
 > ?89
@@ -179,7 +178,7 @@ malformed
 malformed
 ";
 
-/// RFC 4028 §10: the session expires when the interval has gone by; one below the least counts as the least. Of several lines the first counts.
+/// RFC 4028 §10: the session expires when the interval has passed; one below the minimum counts as the minimum. Of several header fields the first counts.
 const EXPIRIES: &[u8] = b"> @
 none
 > @1800;refresher=uas

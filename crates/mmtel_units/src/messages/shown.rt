@@ -9,7 +9,7 @@ use mmtel_told::Told;
 use mmtel_trust::{Facing, history_lines, shown};
 use std::alloc::Global;
 
-/// Lines of a message that has a History-Info of its own, which is never passed.
+/// Header fields of a message that has a History-Info of its own, which is never passed.
 const LINES: &[u8] = br#"From: <sip:alice@home.example>;tag=1
 History-Info: <sip:al@far.example>;index=1
 Supported: histinfo
@@ -24,7 +24,7 @@ fn diverted(told: &mut Told, hide_last: bool) -> History {
     history
 }
 
-/// Tells what is passed of the message with this start line.
+/// Writes what is passed of the message with this start line.
 fn tell_message(
     told: &mut Told,
     start: Start,
@@ -52,7 +52,7 @@ fn tell_message(
     }
 }
 
-/// Tells what is passed of a request of this method.
+/// Writes what is passed of a request of this method.
 fn tell_request(
     told: &mut Told,
     method: &[u8],
@@ -64,14 +64,14 @@ fn tell_request(
     tell_message(told, start, history, mask_all, to_trusted);
 }
 
-/// Tells what is passed of a response of this code.
+/// Writes what is passed of a response of this code.
 fn tell_response(told: &mut Told, code: u16, history: &History, to_trusted: bool) {
     let phrase = told.copy(b"Whatever");
     let start = Start::Status { code, phrase };
     tell_message(told, start, history, false, to_trusted);
 }
 
-/// The list in an INVITE, with carol hidden: to a trusted peer, to an untrusted one, and to both where the opening INVITE asks that all be hidden.
+/// The list in an INVITE, with carol hidden: to a trusted peer, to an untrusted one, and to both where the opening INVITE requests that all be hidden.
 fn tell_list(told: &mut Told) {
     let history = diverted(told, true);
     tell_request(told, b"INVITE", &history, false, true);
@@ -107,7 +107,7 @@ Reason: SIP;cause=200
 #
 "#;
 
-/// A 181 that tells neither who diverted nor to whom: passed on to a trusted peer and to an untrusted one, and of the server's own.
+/// A 181 that reveals neither who diverted nor to whom: passed on to a trusted peer and to an untrusted one, and of the server's own.
 fn tell_hidden(told: &mut Told, hidden: &History) {
     tell_response(told, 181, hidden, true);
     tell_response(told, 181, hidden, false);
@@ -120,8 +120,8 @@ fn tell_hidden(told: &mut Told, hidden: &History) {
     }
 }
 
-/// Those three, and the INVITE behind them, in which the marks of the 181 are not.
-/// Then requests but INVITE, and responses but 181, which have no list; methods are compared byte for byte.
+/// Those three, and the INVITE after them, in which the marks of the 181 are not present.
+/// Then requests other than INVITE, and responses other than 181, which have no list; methods are compared byte for byte.
 fn tell_elsewhere(told: &mut Told) {
     let history = diverted(told, false);
     match history.told_to_caller(told.alloc, true, true) {
@@ -179,7 +179,7 @@ Reason: SIP;cause=200
 #
 "#;
 
-/// The number of the first line that is another one; 0 where none is.
+/// The number of the first line that differs; 0 where none does.
 fn wrong(alloc: Global, tell: u8, wanted: &[u8]) -> usize {
     let mut told = Told::new(alloc);
     match tell {

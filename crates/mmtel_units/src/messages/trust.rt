@@ -18,7 +18,7 @@ fn addr(last: u8) -> Addr {
     }
 }
 
-/// Tells what a call on a table of peers or accounts came to.
+/// Writes the result of a call on a table of peers or accounts.
 fn tell_done(told: &mut Told, done: Result<(), TableFault>) {
     match done {
         Ok(()) => told.add(b"done\n"),
@@ -28,13 +28,13 @@ fn tell_done(told: &mut Told, done: Result<(), TableFault>) {
     }
 }
 
-/// Adds a peer, and tells what came of that.
+/// Adds a peer, and writes the result.
 fn add_peer(told: &mut Told, table: &mut PeerTable, number: u16, last: u8, trusted: bool) {
     let done = table.add_peer(told.alloc, Peer(number), addr(last), trusted);
     tell_done(told, done);
 }
 
-/// Adds a route of this name to the peer of the number, and tells what came of that.
+/// Adds a route of this name to the peer of the number, and writes the result.
 fn add_route(told: &mut Told, table: &mut PeerTable, number: u16, name: &[u8]) {
     let name = told.copy(name);
     let done = table.add_route(told.alloc, name, Peer(number));
@@ -54,7 +54,7 @@ fn table(told: &mut Told) -> PeerTable {
     table
 }
 
-/// URIs, each behind the number of the peer that it leads to: hosts without case, the longest prefix of a number, and all the rest.
+/// URIs, each after the number of the peer that is its route: hosts without case, the longest prefix of a number, and all the rest.
 const ROUTES: &[u8] = b"1 sip:bob@home.example
 1 sip:bob@HOME.example:5070;transport=udp
 3 sip:bob@www.home.example
@@ -64,7 +64,7 @@ const ROUTES: &[u8] = b"1 sip:bob@home.example
 3 tel:7042;phone-context=home.example
 ";
 
-/// Tells the number of the peer that a URI leads to, 0 where it leads to none.
+/// Writes the number of the peer that is the route to a URI, 0 where there is none.
 fn tell_route(told: &mut Told, table: &PeerTable, text: &[u8]) {
     match read_uri(told.alloc, text) {
         Ok(uri) => {
@@ -76,7 +76,7 @@ fn tell_route(told: &mut Told, table: &PeerTable, text: &[u8]) {
     }
 }
 
-/// The number of the first URI that leads elsewhere; 0 where none does.
+/// The number of the first URI with another route; 0 where there is none.
 fn wrong_route(alloc: Global) -> usize {
     let mut told = Told::new(alloc);
     let table = table(&mut Told::new(alloc));
@@ -95,13 +95,13 @@ fn wrong_route(alloc: Global) -> usize {
     told.wrong_line(ROUTES)
 }
 
-/// Tells of a peer: `t` for trusted and `-` for not, `a` with an address and `-` without.
+/// Writes a peer: `t` for trusted and `-` for not, `a` with an address and `-` without.
 fn tell_peer(told: &mut Told, table: &PeerTable, number: u16) {
     told.add_if(table.trusted(Peer(number)), b"t", b"-");
     told.add_if(table.addr(Peer(number)).is_some(), b"a\n", b"-\n");
 }
 
-/// Tells the number of the peer at an address, 0 for none.
+/// Writes the number of the peer at an address, 0 for none.
 fn tell_found(told: &mut Told, table: &PeerTable, last: u8) {
     let found = table.find(addr(last));
     told.add_number(u64::from(found.unwrap_or(Peer(0)).0));
@@ -146,9 +146,9 @@ fn wrong_peer(alloc: Global) -> usize {
     told.wrong_line(PEERS)
 }
 
-/// URIs, each behind the number of its account, 0 for none: the sip URI of account 1 is `sip:alice@home.example`, and the number of account 2 that of RFC 3966 §6, for
-/// which the sip URI of RFC 3261 §19.1.6 stands.
-/// Behind `+` stands a number that is added.
+/// URIs, each after the number of its account, 0 for none: the sip URI of account 1 is `sip:alice@home.example`, and the number of account 2 that of RFC 3966 §6, which the sip URI
+/// of RFC 3261 §19.1.6 represents.
+/// After `+` there is a number that is added.
 const OWNERS: &[u8] = b"done+1 sip:alice@home.example
 done+2 tel:+1-201-555-0123
 taken+3 tel:+12015550123
@@ -158,7 +158,7 @@ taken+3 tel:+12015550123
 2 sip:+12015550123@foo.com;user=phone
 ";
 
-/// Adds a URI of this account, and tells what came of that.
+/// Adds a URI of this account, and writes the result.
 fn add_account(told: &mut Told, accounts: &mut Accounts, number: u32, uri: Uri) {
     match accounts.add(told.alloc, Account(number), uri) {
         Ok(()) => told.add(b"done"),
@@ -167,7 +167,7 @@ fn add_account(told: &mut Told, accounts: &mut Accounts, number: u32, uri: Uri) 
     }
 }
 
-/// Tells what came of adding a URI to the account of the number behind `+`; else the number of its account, 0 for none.
+/// Writes the result of adding a URI to the account of the number after `+`; else the number of its account, 0 for none.
 fn tell_owner(told: &mut Told, accounts: &mut Accounts, added: &[u8], text: &[u8]) {
     match read_uri(told.alloc, text) {
         Err(_) => told.fail(),
@@ -206,7 +206,7 @@ fn wrong_owner(alloc: Global) -> usize {
     told.wrong_line(OWNERS)
 }
 
-/// Lines of the INVITE of RFC 3325 §10.2 between the proxies, which trust one another, and some more.
+/// Header fields of the INVITE of RFC 3325 §10.2 between the proxies, which trust one another, and some more.
 const LINES: &[u8] = br#"From: "Cullen Jennings" <sip:fluffy@cisco.com>;tag=9802748
 P-Asserted-Identity: "Cullen Jennings" <sip:fluffy@cisco.com>
 P-Asserted-Identity: tel:+14085264000
@@ -220,7 +220,7 @@ P-Early-Media: supported
 Reason: SIP;cause=200
 "#;
 
-/// Tells whether these are the words of Privacy that the message has.
+/// Writes whether these are the words of Privacy that the message has.
 fn tell_words(told: &mut Told, m: &Msg) {
     let wanted = PrivacySet {
         header: true,
@@ -230,7 +230,7 @@ fn tell_words(told: &mut Told, m: &Msg) {
     told.add_if(wants(m) == wanted, b"header and none\n", b"other words\n");
 }
 
-/// Tells a URI, or `none`.
+/// Writes a URI, or `none`.
 fn tell_identity(told: &mut Told, uri: &Option<Uri>) {
     match uri {
         Some(uri) => {
@@ -241,7 +241,7 @@ fn tell_identity(told: &mut Told, uri: &Option<Uri>) {
     }
 }
 
-/// Tells the identities that are believed of a message from a peer that is trusted or not.
+/// Writes the identities that are accepted of a message from a peer that is trusted or not.
 fn tell_identities(told: &mut Told, m: &Msg, trusted: bool) {
     match asserted(told.alloc, m, trusted) {
         Ok(believed) => {
@@ -253,7 +253,7 @@ fn tell_identities(told: &mut Told, m: &Msg, trusted: bool) {
     }
 }
 
-/// A message of a trusted peer, whose sender is restricted or not, where reliable provisional responses and session timers are served or not.
+/// A message of a trusted peer, whose sender is restricted or not, where reliable provisional responses and session timers are supported or not.
 fn facing(restricted: bool, served: bool) -> Facing {
     Facing {
         from_trusted: true,
@@ -265,7 +265,7 @@ fn facing(restricted: bool, served: bool) -> Facing {
     }
 }
 
-/// Tells the lines that are passed on to a peer, which is trusted or not.
+/// Writes the header fields that are passed on to a peer, which is trusted or not.
 fn tell_shown(told: &mut Told, m: &Msg, history: &History, facing: &Facing, to_trusted: bool) {
     match shown(told.alloc, m, history, facing, to_trusted) {
         Ok(lines) => {
@@ -276,8 +276,8 @@ fn tell_shown(told: &mut Told, m: &Msg, history: &History, facing: &Facing, to_t
     }
 }
 
-/// Tells what is passed on to an untrusted peer, where the sender is restricted and where not, and then to a trusted one; and to an untrusted one where all extensions are
-/// served.
+/// Writes what is passed on to an untrusted peer, where the sender is restricted and where not, and then to a trusted one; and to an untrusted one where all extensions are
+/// supported.
 fn tell_passed(told: &mut Told, m: &Msg) {
     let history = History::new(told.alloc);
     tell_shown(told, m, &history, &facing(true, false), false);
@@ -288,13 +288,13 @@ fn tell_passed(told: &mut Told, m: &Msg) {
     drop(history);
 }
 
-/// Tells the From of an attempt for a sender that is restricted or not.
+/// Writes the From of an attempt for a sender that is restricted or not.
 fn tell_from(told: &mut Told, m: &Msg, restricted: bool) {
     let from = attempt_from(told.alloc, m, restricted, b"1-2");
     told.add_made(from);
 }
 
-/// The words; the identities, which are believed of a trusted peer and of no other; the lines that are passed on, of which a line `#` ends each message; and the From, of a
+/// The words; the identities, which are accepted of a trusted peer and of no other; the header fields that are passed on, of which a line `#` ends each message; and the From, of a
 /// sender that is restricted and of one that is not.
 const TOLD: &[u8] = br#"header and none
 sip:fluffy@cisco.com

@@ -1,4 +1,4 @@
-//! Sequences of calls, and what each gives: a table is one text, a call a line, with what it gives behind `>`.
+//! Sequences of calls, and the result of each: a table is one text, a call a line, with its result after `>`.
 
 ghost use Rattle.std.specs.Prelude.{◌≡◌, ◌<◌};
 
@@ -58,7 +58,7 @@ fn write_key(told: &mut Told, word: &[u8], key: TKey) {
     told.add_spaced_number(key.0);
 }
 
-/// Writes what is said of a message.
+/// Writes the classification of a message.
 fn write_heard(told: &mut Told, said: &Heard) {
     match said {
         Heard::Fresh(key, _) => write_key(told, b"fresh", *key),
@@ -85,7 +85,7 @@ fn write_again(told: &mut Told, peer: Peer, at: u64, text: &Text) {
     write_start(told, text);
 }
 
-/// Writes what a deadline brings.
+/// Writes what a deadline gives.
 fn write_due(told: &mut Told, said: &Due) {
     match said {
         Due::Again(peer, at, text) => write_again(told, *peer, *at, text),
@@ -249,7 +249,7 @@ pub fn with_via(told: &mut Told, via: Text) -> Option<Msg> {
     Some(m)
 }
 
-/// `numbered NUMBER`: the request whose branch is this number is heard.
+/// `numbered NUMBER`: the request whose branch is this number is received.
 fn hear_numbered<L: Ledger>(
     told: &mut Told,
     transactions: &mut Transactions,
@@ -265,7 +265,7 @@ fn hear_numbered<L: Ledger>(
     hear(told, transactions, Peer(1), m, now, steps);
 }
 
-/// Whether a fresh request opened the transaction of this key.
+/// Whether a new request opened the transaction of this key.
 fn is_fresh(said: &Heard, wanted: u64) -> bool {
     match said {
         Heard::Fresh(key, _) => key.0 == wanted,
@@ -309,7 +309,7 @@ fn opens_numbered<L: Ledger>(
     }
 }
 
-/// `many NUMBER`: requests are heard whose branches are the numbers from 0 on; how many of them open the transaction whose key is their branch.
+/// `many NUMBER`: requests are received whose branches are the numbers from 0 on; how many of them open the transaction whose key is their branch.
 fn many<L: Ledger>(
     told: &mut Told,
     transactions: &mut Transactions,
@@ -329,7 +329,7 @@ fn many<L: Ledger>(
     told.add_spaced_number(count);
 }
 
-/// A call with a moment alone.
+/// A call with a moment only.
 fn at_moment<L: Ledger>(
     told: &mut Told,
     transactions: &mut Transactions,
@@ -384,7 +384,7 @@ fn settle<L: Ledger>(
     told.add(b"done");
 }
 
-/// Writes what a call gives.
+/// Writes the result of a call.
 fn play<L: Ledger>(
     told: &mut Told,
     transactions: &mut Transactions,
@@ -405,7 +405,7 @@ fn play<L: Ledger>(
     }
 }
 
-/// Plays the call of a line, and writes the line with what it gave in truth.
+/// Makes the call of a line, and writes the line with its actual result.
 fn play_line<L: Ledger>(
     told: &mut Told,
     transactions: &mut Transactions,
@@ -419,7 +419,7 @@ fn play_line<L: Ledger>(
     told.add(b"\n");
 }
 
-/// The number of the first of these calls, from 1, that gives something else than stands behind it; 0 where none does.
+/// The number of the first of these calls, from 1, with another result than the one after it; 0 where there is none.
 fn wrong_counted<L: Ledger>(alloc: Global, table: &[u8], blank: Blank) -> usize
     requires name { blank.name ≡ L.name }
     requires parts { blank.parts ≡ L.parts }
@@ -440,7 +440,7 @@ fn wrong_counted<L: Ledger>(alloc: Global, table: &[u8], blank: Blank) -> usize
     told.wrong_line(table)
 }
 
-/// The number of the first of these calls, from 1, that gives something else than stands behind it; 0 where none does. Their looks are counted together.
+/// The number of the first of these calls, from 1, with another result than the one after it; 0 where there is none. Their comparisons are counted together.
 pub fn wrong_call(alloc: Global, table: &[u8]) -> usize {
     wrong_counted::<Brand>(alloc, table, Blank::new(1))
 }

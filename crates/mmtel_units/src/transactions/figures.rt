@@ -3,8 +3,8 @@
 use crate::asserting::assert_right;
 use crate::transactions::calls::wrong_call;
 
-/// A client INVITE transaction (figure 5): nobody answers, so Timer A sends again and Timer B gives up; then a provisional answer stops both; then a refusal, whose ACK is
-/// sent again as often as it is heard again; then a 2xx, which is passed up each time. It ends 32 s after its first final.
+/// A client INVITE transaction (figure 5): there is no response, so Timer A retransmits and Timer B fires; then a provisional response stops both; then a refusal, whose ACK is
+/// retransmitted as often as the refusal is received again; then a 2xx, which is passed up each time. It ends 32 s after its first final.
 const INVITE_CLIENT: &[u8] = b"begin 1> done
 ask 7 1000 INVITE/a> asked 0
 due 1499> nothing
@@ -41,8 +41,8 @@ due 162100> over 2 162100
 hear 7 162200 200/INVITE/c> stray
 ";
 
-/// A client transaction of another request (figure 6): Timer E doubles up to T2 and Timer F gives up; after a provisional answer it is sent again each T2 from then on,
-/// until 32 s after it was first sent; its final ends it.
+/// A client transaction of another request (figure 6): Timer E doubles up to T2 and Timer F fires; after a provisional response it is retransmitted each T2 from then on, until 32
+/// s after it was first sent; its final ends it.
 const OTHER_CLIENT: &[u8] = b"begin 1> done
 ask 7 1000 OPTIONS/a> asked 0
 due 33000> again 7 1500 OPTIONS sip:bob@home.example SIP/2.0
@@ -89,8 +89,8 @@ due 240000> silent 3 232000 z9hG4bKd OPTIONS
 due 240000> nothing
 ";
 
-/// After its provisional answer a request other than INVITE is sent again each T2 from then on, however long before the request that answer is said to have come, and only
-/// before 32 s after the request was sent, when Timer F gives it up.
+/// After its provisional response a request other than INVITE is retransmitted each T2 from then on, however long before the request that response is said to have been received,
+/// and only before 32 s after the request was sent, when Timer F fires.
 const SLOWLY: &[u8] = b"begin 1> done
 ask 7 10000 OPTIONS/a> asked 0
 hear 7 0 100/OPTIONS/a> answer 0
@@ -110,9 +110,9 @@ due 42000> silent 0 42000 z9hG4bKa OPTIONS
 due 42000> nothing
 ";
 
-/// A server INVITE transaction (figure 7, RFC 6026): repeats get the last provisional answer and then the refusal; the refusal is sent again by Timer G until its ACK, and
-/// the transaction ends by Timer H, or by Timer I after the ACK. A 2xx is sent again until its ACK, repeats get nothing, and the transaction ends by Timer L whether the
-/// ACK came or not.
+/// A server INVITE transaction (figure 7, RFC 6026): retransmitted requests get the last provisional response and then the refusal; the refusal is retransmitted by Timer G until
+/// its ACK, and the transaction ends by Timer H, or by Timer I after the ACK. A 2xx is retransmitted until its ACK, retransmitted requests get nothing, and the transaction ends by
+/// Timer L whether the ACK was received or not.
 const INVITE_SERVER: &[u8] = b"begin 1> done
 hear 1 0 INVITE/a> fresh 0
 hear 1 10 INVITE/a> repeat
@@ -174,7 +174,7 @@ due 122000> over 3 122000
 due 122000> nothing
 ";
 
-/// A server transaction of another request (figure 8): repeats get the last answer, which is not sent again by time; it ends by Timer J.
+/// A server transaction of another request (figure 8): retransmitted requests get the last response, which is not retransmitted by a timer; it ends by Timer J.
 const OTHER_SERVER: &[u8] = b"begin 1> done
 hear 1 0 OPTIONS/a> fresh 0
 hear 1 10 OPTIONS/a> repeat
@@ -193,7 +193,7 @@ due 72000> over 1 72000
 due 250000000000000> nothing
 ";
 
-/// A repeated INVITE and its final, as a server between a caller (peer 1) and a callee (peer 2) has them.
+/// A retransmitted INVITE and its final, as a server between a caller (peer 1) and a callee (peer 2) has them.
 const REPEATED_INVITE: &[u8] = b"begin 1> done
 hear 1 0 INVITE/a> fresh 0
 reply 0 0 100/INVITE/a> done
@@ -220,7 +220,7 @@ due 5400> nothing
 hear 1 5400 INVITE/a> fresh 2
 ";
 
-/// Silence: an INVITE to peer 1 that nobody answers, and the next one to peer 2, up to 40,000 ms.
+/// No response: an INVITE to peer 1 without a response, and the next one to peer 2, up to 40,000 ms.
 const SILENCE: &[u8] = b"begin 1> done
 ask 1 0 INVITE/a> asked 0
 begin 2> done

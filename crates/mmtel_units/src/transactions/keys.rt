@@ -1,10 +1,10 @@
-//! Which message belongs to which transaction (RFC 3261 §17.1.3, §17.2.3, §9.2, §8.2.2.2), and the order of deadlines.
+//! Which message matches which transaction (RFC 3261 §17.1.3, §17.2.3, §9.2, §8.2.2.2), and the order of deadlines.
 
 use crate::asserting::assert_right;
 use crate::transactions::calls::wrong_call;
 
-/// Branch, sent-by and method name a server transaction, an ACK by its INVITE; branch and CSeq method a client transaction. A repeat from another peer gets nothing; an ACK
-/// and a response count whoever sends them.
+/// Branch, sent-by and method identify a server transaction, an ACK by its INVITE; branch and CSeq method a client transaction. A retransmission from another peer gets nothing; an
+/// ACK and a response count whoever sends them.
 const KEYS: &[u8] = b"begin 1> done
 hear 1 0 INVITE/a> fresh 0
 hear 1 0 INVITE/b> fresh 1
@@ -36,7 +36,7 @@ peer 7> none
 peer 9> of 8
 ";
 
-/// The ACK of a 2xx is known by Call-ID, both tags and the number of CSeq, and ends the sending again of each 2xx that it is of; one that has the key of an INVITE with a
+/// The ACK of a 2xx is matched by Call-ID, both tags and the number of CSeq, and ends the retransmission of each 2xx that it acknowledges; one that has the key of an INVITE with a
 /// refusal is of that alone.
 const ACKS: &[u8] = b"begin 1> done
 hear 1 0 INVITE/a> fresh 0
@@ -57,7 +57,7 @@ due 32000> over 0 32000
 due 32000> nothing
 ";
 
-/// Another request of one From tag, Call-ID and CSeq, which came another way, is merged; CSeq is number and method, and the number counts as a number.
+/// Another request of one From tag, Call-ID and CSeq, which came by another path, is merged; CSeq is number and method, and the number counts as a number.
 const MERGED: &[u8] = b"begin 1> done
 hear 1 0 INVITE/a> fresh 0
 merged 0> no
@@ -82,7 +82,7 @@ due 5000> over 0 5000
 merged 6> no
 ";
 
-/// Deadlines come by moment; of one moment, by the step that armed them; of one step, by the offers of their messages.
+/// Deadlines fire by moment; of one moment, by the step that armed them; of one step, by the order in which their messages were sent.
 const ORDER: &[u8] = b"begin 1> done
 ask 1 0 OPTIONS/a> asked 0
 ask 2 0 OPTIONS/b> asked 1

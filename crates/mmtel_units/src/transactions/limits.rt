@@ -1,4 +1,4 @@
-//! As many live server transactions as may be, and tokens.
+//! The maximum number of live server transactions, and tokens.
 
 use crate::asserting::assert_right;
 use crate::transactions::calls::wrong_call;
@@ -6,8 +6,8 @@ use mmtel_told::Told;
 use mmtel_transaction::Tokens;
 use std::alloc::Global;
 
-/// 16,384 server transactions are live at most: the 16,385th fresh request is handed back, once and again, while repeats are heard and requests are sent; where one ended
-/// there is room for one.
+/// 16,384 server transactions are live at most: the 16,385th new request is handed back, once and again, while retransmissions are received and requests are sent; where one ended
+/// there is space for one.
 const FULL: &[u8] = b"many 16384> opened 16384
 hear 1 0 OPTIONS/16384> full
 hear 1 0 OPTIONS/16384> full

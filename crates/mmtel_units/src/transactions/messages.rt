@@ -4,7 +4,7 @@ use crate::messages::drafts::message_of;
 use mmtel_message::Msg;
 use mmtel_told::{Told, cut};
 
-/// Writes a value behind what stands before it, and what is usual where none is given.
+/// Writes a value after what precedes it, and the usual one where none is given.
 fn write(told: &mut Told, front: &[u8], given: &[u8], usual: &[u8]) {
     told.add(front);
     told.add(if given.is_empty() { usual } else { given });
@@ -20,7 +20,7 @@ fn write_start(told: &mut Told, status: &[u8], method: &[u8]) {
     }
 }
 
-/// Writes the lines that the words say which follow the method: branch, sent-by, From tag, To tag, Call-ID, number of CSeq and number of RSeq.
+/// Writes the header fields of the words after the method: branch, sent-by, From tag, To tag, Call-ID, number of CSeq and number of RSeq.
 fn write_lines(told: &mut Told, method: &[u8], words: &[u8]) {
     let (branch, words) = cut(b'/', words);
     let (sent_by, words) = cut(b'/', words);
@@ -61,8 +61,8 @@ fn parts_of(word: &[u8]) -> (&[u8], &[u8], &[u8]) {
     }
 }
 
-/// The message of a word: of a request method and branch, parted by `/`, of a response its status before them; then may follow sent-by, From tag, To tag, Call-ID,
-/// number of CSeq and number of RSeq. None where it cannot be read.
+/// The message of a word: of a request method and branch, separated by `/`, of a response its status before them; then may follow sent-by, From tag, To tag, Call-ID, number of
+/// CSeq and number of RSeq. None where it cannot be read.
 pub fn message(told: &mut Told, word: &[u8]) -> Option<Msg> {
     let (status, method, rest) = parts_of(word);
     let mut text = Told::new(told.alloc);

@@ -1,9 +1,9 @@
-//! Reliable provisional answers, which are sent again until their PRACK (RFC 3262 §3).
+//! Reliable provisional responses, which are retransmitted until their PRACK (RFC 3262 §3).
 
 use crate::asserting::assert_right;
 use crate::transactions::calls::wrong_call;
 
-/// Nobody acknowledges the answer: it is sent again at the moments of an INVITE, and the INVITE that is repeated has it too.
+/// There is no PRACK: the response is retransmitted at the moments of an INVITE, and a retransmitted INVITE gets it too.
 const UNACKNOWLEDGED: &[u8] = b"begin 1> done
 hear 1 0 INVITE/a> fresh 0
 reply 0 100 183/INVITE/a//////900> done
@@ -23,7 +23,7 @@ due 200000> nothing
 hear 1 200000 INVITE/a> repeat 1 SIP/2.0 183 Status
 ";
 
-/// Each answer has moments of its own and is settled alone, or all are; a repeat of the INVITE has the last response, whatever is sent again.
+/// Each response has moments of its own and is settled alone, or all are; a retransmission of the INVITE gets the last response, whichever is retransmitted.
 const SETTLED: &[u8] = b"begin 1> done
 hear 1 0 INVITE/a> fresh 0
 reply 0 0 183/INVITE/a//////1> done
@@ -49,7 +49,7 @@ due 40000> nothing
 hear 1 40000 INVITE/a> repeat 1 SIP/2.0 180 Status
 ";
 
-/// A final answer is sent in their place: a 2xx (RFC 6026) and a refusal, as ever; one without a number, and one of a number that is none, are sent once.
+/// A final response is sent in their place: a 2xx (RFC 6026) and a refusal, retransmitted as usual; one without a number, and one of an invalid number, are sent once.
 const FINAL: &[u8] = b"begin 1> done
 hear 1 0 INVITE/a> fresh 0
 reply 0 0 183/INVITE/a//////1> done

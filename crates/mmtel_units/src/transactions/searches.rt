@@ -1,4 +1,4 @@
-//! Look-ups, first deadlines and ends among as many live server transactions as may be, so many that a walk of them at each call would take an hour.
+//! Look-ups, first deadlines and ends among the maximum number of live server transactions, so many that a linear search at each call would take an hour.
 
 ghost use Rattle.std.specs.Prelude.{◌≡◌, ◌<◌};
 
@@ -15,7 +15,7 @@ use std::alloc::Global;
 use std::marker::Brand;
 use std::sync::ledger::{Blank, Ledger};
 
-/// As many server transactions as may be live.
+/// The maximum number of live server transactions.
 const MOST: u64 = 16384;
 
 /// A branch: all have one length, and differ in their last bytes alone.
@@ -36,7 +36,7 @@ fn request(told: &mut Told, number: u64) -> Option<Msg> {
     with_via(told, via)
 }
 
-/// Whether the request of a number is heard and answered at that number's moment, so that its transaction ends 32,000 ms later.
+/// Whether the request of a number is received and gets its response at that number's moment, so that its transaction ends 32,000 ms later.
 fn is_answered<L: Ledger>(
     told: &mut Told,
     transactions: &mut Transactions,
@@ -56,7 +56,7 @@ fn is_answered<L: Ledger>(
             .is_ok()
 }
 
-/// Opens as many as may be and answers them; how many of them did not go so.
+/// Opens the maximum number and responds to them; how many of them failed.
 fn fill<L: Ledger>(
     told: &mut Told,
     transactions: &mut Transactions,
@@ -86,7 +86,7 @@ fn branches(told: &mut Told) -> Vec<Text> {
     all
 }
 
-/// Whether the transaction of a place's branch has that place's number.
+/// Whether the transaction of the branch at an index has the number at that index.
 fn is_found<L: Ledger>(
     transactions: &Transactions,
     branches: &[Text],
@@ -133,7 +133,7 @@ fn mistaken<L: Ledger>(transactions: &Transactions, calls: u64, steps: &mut Step
     wrong
 }
 
-/// Whether what is due next is the end of the transaction of this number.
+/// Whether the next deadline is the end of the transaction of this number.
 fn is_end<L: Ledger>(
     told: &Told,
     transactions: &mut Transactions,
@@ -158,7 +158,7 @@ fn is_over(said: &Due, number: u64) -> bool {
     }
 }
 
-/// How many of all do not end when it is their turn, the oldest first.
+/// How many of all do not end in their turn, the oldest first.
 fn unended<L: Ledger>(told: &Told, transactions: &mut Transactions, steps: &mut Steps<L>) -> usize {
     let Some(now) = Moment::new(250000) else {
         return 1;
@@ -172,7 +172,7 @@ fn unended<L: Ledger>(told: &Told, transactions: &mut Transactions, steps: &mut 
     wrong
 }
 
-/// How many of 4,000,000 look-ups go wrong among as many server transactions as may be live.
+/// How many of 4,000,000 look-ups fail among the maximum number of live server transactions.
 fn wrong_look_ups<L: Ledger>(alloc: Global, blank: Blank) -> usize
     requires name { blank.name ≡ L.name }
     requires parts { blank.parts ≡ L.parts }
@@ -204,7 +204,7 @@ fn wrong_deadlines<L: Ledger>(alloc: Global, blank: Blank) -> usize
     wrong.saturating_add(unfilled)
 }
 
-/// How many of as many transactions as may be live do not end in their turn.
+/// How many of the maximum number of live transactions do not end in their turn.
 fn wrong_ends<L: Ledger>(alloc: Global, blank: Blank) -> usize
     requires name { blank.name ≡ L.name }
     requires parts { blank.parts ≡ L.parts }

@@ -25,7 +25,7 @@ fn put_verdict(told: &mut Told, verdict: &Verdict) {
     }
 }
 
-/// Writes what `verdict` says.
+/// Writes the result of `verdict`.
 fn tell_verdict(told: &mut Told, ending: &[u8], called: &Called, record: &[u8]) {
     let ending = read_ending(told, ending);
     let call = CallFacts {
@@ -39,7 +39,7 @@ fn tell_verdict(told: &mut Told, ending: &[u8], called: &Called, record: &[u8]) 
     }
 }
 
-/// Asks for the verdict: what happened, the call, the record.
+/// Evaluates the verdict: the event, the call, the record.
 struct Verdicts;
 
 impl Teller for Verdicts {
@@ -52,7 +52,7 @@ impl Teller for Verdicts {
     }
 }
 
-/// Writes what `go_on` says: `made`, or the refusal.
+/// Writes the result of `go_on`: `made`, or the refusal.
 fn tell_onward(told: &mut Told, counts: &[u8], record: &[u8], target: &Called) {
     let (received, done, bound, cause) = numbers(told, counts);
     if let Some(sheet) = read_record(told, record) {
@@ -64,8 +64,8 @@ fn tell_onward(told: &mut Told, counts: &[u8], record: &[u8], target: &Called) {
     }
 }
 
-/// Asks whether a diversion is made: the causes received, the diversions made, the bound and the cause of the one that is due; the record of the account that diverts; the
-/// new target.
+/// Evaluates whether a diversion is made: the causes received, the diversions made, the bound and the cause of the one that is due; the record of the account that diverts; the new
+/// target.
 struct Diversions;
 
 impl Teller for Diversions {

@@ -1,7 +1,7 @@
-//! Records, calls and answers from the rows of tables.
+//! Records, calls and events from the rows of tables.
 //!
-//! A record is its tables as a TOML document has them, parted by `;`. A call is `r` where its caller hides who it is, `u` where the account that it reaches is not
-//! registered, else `-` in their places, the number of calls that the account has, and the URI of the caller, or nothing.
+//! A record is its tables in the format of a TOML document, separated by `;`. A call is `r` where its caller is anonymous, `u` where the account that it reaches is not registered,
+//! else `-` in their places, the number of calls that the account has, and the URI of the caller, or nothing.
 
 use crate::reading::{first_moment, identity, read_tables};
 use mmtel_lex::{List, Text};
@@ -12,7 +12,7 @@ use mmtel_sheet_values::Sheet;
 use mmtel_told::{Told, cut};
 use mmtel_types::Moment;
 
-/// What a table says of a call.
+/// A call of a table.
 #[derive(Drop)]
 pub struct Called {
     pub caller: Identities2,
@@ -44,7 +44,7 @@ fn number(told: &mut Told, digits: &[u8]) -> u16 {
     }
 }
 
-/// Four numbers with blanks between them.
+/// Four numbers with spaces between them.
 pub fn numbers(told: &mut Told, words: &[u8]) -> (u16, u16, u16, u16) {
     let (first, rest) = cut(b' ', words);
     let (second, rest) = cut(b' ', rest);
@@ -57,12 +57,12 @@ pub fn numbers(told: &mut Told, words: &[u8]) -> (u16, u16, u16, u16) {
     )
 }
 
-/// The sheet of the record of these tables, which are parted by `;`.
+/// The sheet of the record of these tables, which are separated by `;`.
 pub fn read_record(told: &mut Told, tables: &[u8]) -> Option<Sheet> {
     read_tables(told, b';', tables)
 }
 
-/// The party of a sip URI; one without identities of no bytes.
+/// The party with a sip URI; without identities where there are no bytes.
 fn party(told: &mut Told, uri: &[u8]) -> Identities2 {
     let sip = identity(told, uri);
     Identities2 { sip, tel: None }
@@ -90,7 +90,7 @@ pub fn read_call(told: &mut Told, call: &[u8]) -> Called {
     }
 }
 
-/// What happened: `arrived`, `busy N`, `silent N`, `no-reply`, `deflected`, `alerted` or `other N`.
+/// The event: `arrived`, `busy N`, `silent N`, `no-reply`, `deflected`, `alerted` or `other N`.
 pub fn read_ending(told: &mut Told, words: &[u8]) -> Ending {
     let (name, code) = cut(b' ', words);
     match name {

@@ -1,12 +1,12 @@
-//! Tables that are told again: the answers are asked anew and written beside the questions, and what is written is compared with the table. A line that begins with `#`
-//! says what follows.
+//! Tables that are written again: each input is evaluated, its result is written next to it, and what is written is compared with the table. A line that begins with `#` is a
+//! heading.
 
 use mmtel_lex::{Uri, print_uri};
 use mmtel_told::{Told, cut, next_line};
 use mmtel_types::Cause;
 use std::alloc::Global;
 
-/// Writes a word, a blank and a number.
+/// Writes a word, a space and a number.
 pub fn put_code(told: &mut Told, word: &[u8], code: u16) {
     told.add(word);
     told.add(b" ");
@@ -25,13 +25,13 @@ pub fn put_cause(told: &mut Told, cause: &Cause) {
     put_code(told, cause.word().as_bytes(), cause.status());
 }
 
-/// Answers questions.
+/// The function that a table tests.
 pub trait Teller {
-    /// Writes the answer to the question.
+    /// Writes the result for the input.
     fn tell(told: &mut Told, question: &[u8]);
 }
 
-/// Tells a line with the answer before the question.
+/// Writes a line with the result before the input.
 fn tell_row<T: Teller>(told: &mut Told, row: &[u8]) {
     let (_answer, question) = cut(b'|', row);
     T::tell(told, question);
@@ -39,7 +39,7 @@ fn tell_row<T: Teller>(told: &mut Told, row: &[u8]) {
     told.add_line(question);
 }
 
-/// The number of the first line, from 1, that is not told again, of a table in which a line is an answer, `|` and its question; 0 where each is.
+/// The number of the first line, from 1, that differs from the actual one, of a table in which a line is a result, `|` and its input; 0 where none does.
 pub fn wrong_row<T: Teller>(alloc: Global, table: &[u8]) -> usize {
     let mut told = Told::new(alloc);
     let mut rest = table;
@@ -55,7 +55,7 @@ pub fn wrong_row<T: Teller>(alloc: Global, table: &[u8]) -> usize {
     told.wrong_line(table)
 }
 
-/// The same of a table in which a line is a question, `>` and its answer.
+/// The same of a table in which a line is an input, `>` and its result.
 pub fn wrong_line<T: Teller>(alloc: Global, table: &[u8]) -> usize {
     let mut told = Told::new(alloc);
     let mut rest = table;

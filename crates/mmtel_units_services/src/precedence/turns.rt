@@ -1,4 +1,4 @@
-//! Turns of whole calls: how attempts end, what is done at a target and after an attempt, and what refuses a call as it opens.
+//! The next steps of calls: how attempts end, what is done at a target and after an attempt, and what refuses a call at its opening.
 
 use crate::asserting::assert_right;
 use crate::precedence::records::{Called, facts, read_call, read_record};
@@ -14,7 +14,7 @@ use mmtel_sheet_values::Sheet;
 use mmtel_told::{Told, cut};
 use mmtel_types::{Account, Peer, PrivacySet};
 
-/// The time that passed, by its word.
+/// The timer that fired, by its word.
 fn timeout_of(word: &[u8]) -> Option<AttemptTimeout> {
     if word == b"silence".as_slice() {
         return Some(AttemptTimeout::Silence);
@@ -28,7 +28,7 @@ fn timeout_of(word: &[u8]) -> Option<AttemptTimeout> {
     None
 }
 
-/// How an attempt ends, by the word for the time that passed or the status of a final response from 300; None of any other word.
+/// How an attempt ends, by the word for the timer that fired or the status of a final response from 300; None for any other word.
 fn end_of<'a>(word: &[u8], target: Option<&'a Uri>, rang: bool) -> Option<AttemptEnd<'a>> {
     if let Some(timeout) = timeout_of(word) {
         return Some(end_by_timeout(timeout, rang));
@@ -61,7 +61,7 @@ fn put_end(told: &mut Told, end: Option<AttemptEnd<'_>>) {
     }
 }
 
-/// Writes a diversion: its cause, its target, and `1` or `0` for what the caller and the target are told.
+/// Writes a diversion: its cause, its target, and `1` or `0` for what is revealed to the caller and the target.
 fn put_onward(told: &mut Told, onward: &Onward) {
     put_code(told, b"divert", onward.cause);
     told.add(b" ");
@@ -87,7 +87,7 @@ fn put_after(told: &mut Told, after: &AfterEnding) {
     }
 }
 
-/// Asks how an attempt ends: `r` where it rang, else `-`; what came; and, after a blank, the first Contact.
+/// Evaluates how an attempt ends: `r` where it rang, else `-`; the response or timer; and, after a space, the first Contact.
 struct Ends;
 
 impl Teller for Ends {
@@ -101,7 +101,7 @@ impl Teller for Ends {
     }
 }
 
-/// Whether it rang, and what came.
+/// Whether it rang, and the response or timer.
 fn rang_in(question: &[u8]) -> (bool, &[u8]) {
     match question {
         [b'r', rest @ ..] => (true, rest),
@@ -139,7 +139,7 @@ fn ends_of_attempts(rt: HostRuntime) {
     assert_right(&rt, "ENDS", wrong_line::<Ends>(rt.alloc(), ENDS));
 }
 
-/// Asks for the turn after an attempt: how it ended, as above, and the record under which it was offered; `none` of a target of no account.
+/// Evaluates the next step after an attempt: how it ended, as above, and the record under which it was offered; `none` for a target of no account.
 struct After;
 
 fn tell_after(
@@ -154,7 +154,7 @@ fn tell_after(
     }
 }
 
-/// By what came, with its first Contact if it has one.
+/// By the response or timer, with the first Contact if there is one.
 fn tell_what(told: &mut Told, called: &Called, sheet: Option<&Sheet>, question: &[u8]) {
     let (rang, what) = rang_in(question);
     let (word, contact) = cut(b' ', what);
@@ -183,7 +183,7 @@ impl Teller for After {
     }
 }
 
-/// A no-answer rule; silence and the not-reachable rule, and a failure before it rang and after; deflection, with leave and without; and busy.
+/// A no-answer rule; a transaction timeout and the not-reachable rule, and a failure before it rang and after; deflection, allowed and not allowed; and busy.
 const AFTER: &[u8] =
     b"rno-reply-time|communication-diversion = { rule = [{ no-answer = true, target = \"sip:vm@far.example\" }] }>divert 408 sip:vm@far.example 1111
 -silence|communication-diversion = { rule = [{ not-reachable = true, target = \"sip:vm@far.example\" }] }>divert 503 sip:vm@far.example 1111
@@ -209,11 +209,11 @@ fn turns_after_attempts(rt: HostRuntime) {
     assert_right(&rt, "AFTER", wrong_line::<After>(rt.alloc(), AFTER));
 }
 
-/// Asks for the turn at a target: `s` where an account is served there, `u` where it is nobody's, `p` where no peer leads to it, else `-` in their places; the call; and
-/// the record.
+/// Evaluates the next step at a target: `s` where an account is served there, `u` where it is of no account, `p` where no peer is the route to it, else `-` in their places; the
+/// call; and the record.
 struct At;
 
-/// A peer, unless none leads there.
+/// A peer, unless there is no route.
 fn peer_unless(none: bool) -> Option<Peer> {
     if none {
         return None;
@@ -253,7 +253,7 @@ impl Teller for At {
     }
 }
 
-/// Anonymous rejection and barring before diversion; two diversions; registration; waiting; and last the targets of nobody and those without a peer.
+/// Anonymous rejection and barring before diversion; two diversions; registration; waiting; and last the targets of no account and those without a peer.
 const AT: &[u8] =
     b"s--|r-0sip:erin@other.example|communication-diversion={rule=[{target='sip:vm@far.example'}]};incoming-communication-barring={reject-anonymous=true}>anonymous 433
 s--|--0sip:alice@home.example|incoming-communication-barring = { rule = [{ many = \"*\", allow = false }, { one = [\"sip:alice@home.example\"], allow = true }] }>offer
@@ -278,11 +278,11 @@ fn turns_at_targets(rt: HostRuntime) {
     assert_right(&rt, "AT", wrong_line::<At>(rt.alloc(), AT));
 }
 
-/// Asks what refuses a call as it opens: `s` and `c` for the words session and critical; `b` where both cases are served, `o` and `t` for accounts that are;
+/// Evaluates what refuses a call at its opening: `s` and `c` for the words session and critical; `b` where both cases are served, `o` and `t` for accounts that are;
 /// else `-` in their places; the target; and the record of the account that calls.
 struct Opening;
 
-/// An account where the letter stands.
+/// An account where the letter is present.
 fn account_if(flags: &[u8], letter: u8) -> Option<Account> {
     if flags.contains(&letter) {
         return Some(Account(1));

@@ -6,7 +6,7 @@ use mmtel_http::{Whole, whole};
 use mmtel_told::{Rows, Told, wrong_line};
 use std::alloc::Global;
 
-/// Asks `whole`.
+/// Evaluates `whole`.
 #[derive(Drop)]
 struct Wholes;
 
@@ -81,7 +81,7 @@ more
 done GET / HTTP/1.1%~Content-Length: 00%~%~
 ";
 
-/// Adds what `whole` says of bytes; of a whole request its length.
+/// Adds the result of `whole` for bytes; of a whole request its length.
 fn add_length(told: &mut Told, bytes: &Told) {
     told.keep(!bytes.has_failed());
     match whole(bytes.bytes()) {
@@ -95,7 +95,7 @@ fn add_length(told: &mut Told, bytes: &Told) {
     }
 }
 
-/// Adds what `whole` says of a request with one header of so many bytes, of which the end is left out where it is not ended.
+/// Adds the result of `whole` for a request with one header field of so many bytes, without its end where it is not ended.
 fn add_long(told: &mut Told, size: usize, end: &[u8]) {
     let mut head = Told::new(told.alloc);
     head.add(b"GET / HTTP/1.1\r\nX: ");
@@ -105,7 +105,7 @@ fn add_long(told: &mut Told, size: usize, end: &[u8]) {
     drop(head);
 }
 
-/// Adds what `whole` says of a request of these lines, with so many copies of a piece and this end.
+/// Adds the result of `whole` for a request of these lines, with so many copies of a piece and this end.
 fn add_wide(told: &mut Told, lines: &[u8], piece: &[u8], count: usize, end: &[u8]) {
     let mut text = Told::new(told.alloc);
     text.add(lines);
@@ -115,7 +115,7 @@ fn add_wide(told: &mut Told, lines: &[u8], piece: &[u8], count: usize, end: &[u8
     drop(text);
 }
 
-/// A head of 8,192 bytes is taken and one of 8,193 is not; as many bytes that do not end a head are not enough, or too many.
+/// A head of 8,192 bytes is accepted and one of 8,193 is not; as many bytes without the end of a head are not enough, or too many.
 fn add_heads(told: &mut Told) {
     let end = b"\r\n\r\n";
     add_long(told, 8_169, end);
@@ -124,14 +124,14 @@ fn add_heads(told: &mut Told) {
     add_long(told, 8_174, b"");
 }
 
-/// 64 headers are taken and 65 are not.
+/// 64 header fields are accepted and 65 are not.
 fn add_headers(told: &mut Told) {
     let line = b"GET / HTTP/1.1\r\n";
     add_wide(told, line, b"A: b\r\n", 64, b"\r\n");
     add_wide(told, line, b"A: b\r\n", 65, b"\r\n");
 }
 
-/// The largest body is taken once it is whole.
+/// The largest body is accepted once it is whole.
 fn add_bodies(told: &mut Told) {
     let head = b"GET / HTTP/1.1\r\nContent-Length: 65536\r\n\r\n";
     let piece = b"0123456789abcdef0123456789abcdef0123456789abcdef0123456789abcdef";

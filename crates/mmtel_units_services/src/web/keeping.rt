@@ -18,7 +18,7 @@ fn moment_of(digit: u8) -> Moment {
     }
 }
 
-/// A row that is told by one digit.
+/// A row that is written as one digit.
 fn row(digit: u8) -> Row {
     let at = moment_of(digit);
     Row {
@@ -112,7 +112,7 @@ fn add_rows(keeper: &mut MemoryKeeper, alloc: Global, digits: &[u8]) -> Result<(
     }
 }
 
-/// A keeper whose calls a table asks for.
+/// A keeper whose calls a table makes.
 #[derive(Drop)]
 struct Kept {
     keeper: MemoryKeeper,
@@ -231,7 +231,7 @@ struct Texts {
 }
 
 impl Texts {
-    /// Puts a text in the place of the account's, by room that was made before.
+    /// Puts a text in place of the account's previous one, with space that was reserved before.
     fn replace(&mut self, told: &mut Told, account: Account, text: &[u8]) {
         let text = told.copy(text);
         match self.texts.reserve(told.alloc) {
@@ -267,7 +267,7 @@ impl Rows for Texts {
     }
 }
 
-/// `p` puts a text for the account of a letter, `r` replaces it, `t` asks for it, `i` for all.
+/// `p` puts a text for the account of a letter, `r` replaces it, `t` returns it, `i` returns all.
 const TEXTS: &[u8] = b"> tx
 none
 > pxa

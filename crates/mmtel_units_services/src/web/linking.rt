@@ -28,7 +28,7 @@ fn push(told: &mut Told, events: &mut List<Event>, event: Event) {
     told.keep(done.is_ok());
 }
 
-/// A datagram, a request, and nothing.
+/// A datagram, a request, and a tick.
 fn three_events(told: &mut Told) -> List<Event> {
     let mut events = List::new();
     let bytes = told.copy(b"one");
@@ -97,7 +97,7 @@ fn add_bound(told: &mut Told, link: &mut MemoryLink) {
     told.add_if(bound, b"ok", b"failed");
 }
 
-/// A link whose calls a table asks for.
+/// A link whose calls a table makes.
 #[derive(Drop)]
 struct Linked {
     link: MemoryLink,
@@ -123,8 +123,8 @@ impl Rows for Linked {
     }
 }
 
-/// The calls of one link, of which the second, the sixth and the ninth fail: `b` binds, `n` asks what comes, `r` reads four bytes at most, `w` replies, `s` sends, `t`
-/// tells what it was given, `!` behind what was lost.
+/// The calls of one link, of which the second, the sixth and the ninth fail: `b` binds, `n` returns the next event, `r` reads four bytes at most, `w` replies, `s` sends, `t`
+/// writes the outputs, followed by `!` where they were lost.
 const LINKING: &[u8] = b"> b
 ok
 > n

@@ -45,7 +45,7 @@ pub fn numbers(told: &mut Told, numbers: &[u64]) -> List<u64> {
     list
 }
 
-/// The number of a line; 1 where something went wrong.
+/// The number of a line; 1 where something failed.
 pub fn unless_failed(told: Told, line: usize) -> usize {
     let failed = told.has_failed();
     drop(told);

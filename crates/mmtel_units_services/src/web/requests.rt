@@ -40,7 +40,7 @@ fn accounts(told: &mut Told) -> Accounts {
     accounts
 }
 
-/// Who is known in the tables.
+/// The accounts and the operator in the tables.
 fn directory(told: &mut Told) -> WebDirectory {
     let accounts = accounts(told);
     let operator = uri(told, b"sip:op@home.example");
@@ -114,7 +114,7 @@ fn add_asked(told: &mut Told, server: &Server, bytes: &[u8]) {
     }
 }
 
-/// Asks what is to be done, and does nothing of it.
+/// Evaluates what is to be done, and does nothing of it.
 #[derive(Drop)]
 struct Asking {
     server: Server,
@@ -155,7 +155,7 @@ impl Server {
     }
 }
 
-/// Answers a request; then, where bob's record is not the empty one, how many calls he may have.
+/// Processes a request; then, where bob's record is not the empty one, his capacity.
 impl Rows for Server {
     fn tell(&mut self, told: &mut Told, asked: &[u8]) {
         let bytes = meant(told, asked);
@@ -168,7 +168,7 @@ impl Rows for Server {
     }
 }
 
-/// The number of the first line that is answered otherwise by a server that does nothing of what it is to do, and where alice has a record; 0 where none is.
+/// The number of the first line with another reply of a server that does nothing of what it is to do, and where alice has a record; 0 where there is none.
 fn wrong_asked(alloc: Global, table: &[u8]) -> usize {
     let mut told = Told::new(alloc);
     let mut server = make_server(&mut told, &[1, 2]);
@@ -190,7 +190,7 @@ fn wrong_served(alloc: Global, table: &[u8]) -> usize {
     unless_failed(told, wrong)
 }
 
-/// Paths, methods, accounts, identities, records, uploads, and what is no request; the first that applies is the answer.
+/// Paths, methods, accounts, identities, records, uploads, and what is no request; the first case that applies decides.
 const REQUESTS: &[u8] = b"> GET / HTTP/1.1%~%~
 HTTP/1.1 404 Not Found%~Content-Length: 0%~Connection: close%~%~
 > GET /x HTTP/1.1%~%~
@@ -426,8 +426,8 @@ HTTP/1.1 404 Not Found%~Content-Length: 0%~Connection: close%~%~
 HTTP/1.1 404 Not Found%~Content-Length: 0%~Connection: close%~%~
 ";
 
-/// Uploads of one account one after another, and behind each answer how many calls bob's record in force lets him have: it is the last that was kept, and a failed call of
-/// the keeper leaves it.
+/// Uploads of one account one after another, and after each reply bob's capacity by his record in force: it is the last that was stored, and a failed call of the keeper leaves it
+/// unchanged.
 const UPLOADS: &[u8] =
     b"> PUT /simservs/2 HTTP/1.1%~X-3GPP-Asserted-Identity: \"sip:bob@home.example\"%~Content-Type: application/toml%~Content-Length: 38%~%~[communication-waiting]~active = true~
 HTTP/1.1 200 OK%~Content-Length: 0%~Connection: close%~%~ two calls
@@ -457,7 +457,7 @@ HTTP/1.1 200 OK%~Content-Type: text/csv%~Content-Length: 58%~Connection: close%~
 HTTP/1.1 503 Service Unavailable%~Content-Length: 0%~Connection: close%~%~
 ";
 
-/// The replies that tell what became of a keeper's call.
+/// The replies for the results of a keeper's call.
 const REPLIES: &[u8] = b"HTTP/1.1 503 Service Unavailable%~Content-Length: 0%~Connection: close%~%~
 HTTP/1.1 507 Insufficient Storage%~Content-Length: 0%~Connection: close%~%~
 HTTP/1.1 200 OK%~Content-Type: text/csv%~Content-Length: 4%~Connection: close%~%~a,b~
@@ -486,11 +486,11 @@ fn wrong_reply(alloc: Global) -> usize {
     wrong
 }
 
-/// An upload that is kept.
+/// An upload that is stored.
 const UPLOAD: &[u8] =
     b"PUT /simservs/2 HTTP/1.1%~X-3GPP-Asserted-Identity: \"sip:bob@home.example\"%~Content-Type: application/toml%~Content-Length: 38%~%~[communication-waiting]~active = true~";
 
-/// Whether these bytes could be a whole request.
+/// Whether these bytes can become a whole request.
 fn could_be_whole(bytes: &[u8]) -> bool {
     match whole(bytes) {
         Whole::More | Whole::Bad => false,
@@ -498,7 +498,7 @@ fn could_be_whole(bytes: &[u8]) -> bool {
     }
 }
 
-/// Whether the answer is the reply 400.
+/// Whether it is the reply 400.
 fn is_refused(web: &Web) -> bool {
     match web {
         Web::Read(text) => text.bytes().starts_with(b"HTTP/1.1 400 ".as_slice()),
@@ -506,7 +506,7 @@ fn is_refused(web: &Web) -> bool {
     }
 }
 
-/// Adds `!` where these bytes could be a whole request, or get another reply than 400.
+/// Adds `!` where these bytes can become a whole request, or get another reply than 400.
 fn add_early(told: &mut Told, server: &Server, bytes: &[u8]) {
     told.add_if(could_be_whole(bytes), b"!", b"");
     match answer(told.alloc, &server.directory, server.records.texts(), bytes) {
@@ -518,14 +518,14 @@ fn add_early(told: &mut Told, server: &Server, bytes: &[u8]) {
     }
 }
 
-/// The same of each beginning of these bytes.
+/// The same of each prefix of these bytes.
 fn add_beginnings(told: &mut Told, server: &Server, bytes: &[u8]) {
     for len in 0..bytes.len() {
         add_early(told, server, &bytes[..len]);
     }
 }
 
-/// A connection that ends within an upload: none of its first bytes is a request.
+/// A connection that ends within an upload: no proper prefix of it is a request.
 fn wrong_early(alloc: Global) -> usize {
     let mut told = Told::new(alloc);
     let server = make_server(&mut told, &[1, 2]);

@@ -18,7 +18,7 @@ fn loopback(port: u16) -> Addr {
     }
 }
 
-/// Adds a piece of what is read of the connection that came: whether there may be more.
+/// Adds a piece of what is read of the connection that was accepted: whether there may be more.
 fn add_piece(told: &mut Told, link: &mut NetLink<'_>) -> bool {
     let mut buf = [0; 16];
     match link.web_read(&mut buf) {
@@ -33,7 +33,7 @@ fn add_piece(told: &mut Told, link: &mut NetLink<'_>) -> bool {
     }
 }
 
-/// Adds what is read of the connection that came, and replies.
+/// Adds what is read of the connection that was accepted, and replies.
 fn add_web(told: &mut Told, link: &mut NetLink<'_>) {
     told.add(b"web ");
     for _ in 0..20 {
@@ -46,7 +46,7 @@ fn add_web(told: &mut Told, link: &mut NetLink<'_>) {
     told.add(b"\n");
 }
 
-/// Adds what came.
+/// Adds an event.
 fn add_arrival(told: &mut Told, link: &mut NetLink<'_>, arrival: &Arrival) {
     match arrival {
         Arrival::Datagram { bytes, .. } => {
@@ -60,7 +60,7 @@ fn add_arrival(told: &mut Told, link: &mut NetLink<'_>, arrival: &Arrival) {
     }
 }
 
-/// Adds what comes within one turn, or that nothing does.
+/// Adds the event of one call, or that there is none.
 fn add_turn(told: &mut Told, link: &mut NetLink<'_>) {
     match link.next(told.alloc) {
         Ok(arrival) => {
@@ -71,7 +71,7 @@ fn add_turn(told: &mut Told, link: &mut NetLink<'_>) {
     }
 }
 
-/// Adds what came, where something did; whether it did.
+/// Adds the event, where there is one; whether there was.
 fn is_added(told: &mut Told, link: &mut NetLink<'_>, arrival: &Arrival) -> bool {
     match arrival {
         Arrival::Quiet { .. } => false,
@@ -82,7 +82,7 @@ fn is_added(told: &mut Told, link: &mut NetLink<'_>, arrival: &Arrival) -> bool 
     }
 }
 
-/// Adds what comes within one turn, where something does; whether it did.
+/// Adds the event of one call, where there is one; whether there was.
 fn is_turn_added(told: &mut Told, link: &mut NetLink<'_>) -> bool {
     match link.next(told.alloc) {
         Ok(arrival) => {
@@ -97,7 +97,7 @@ fn is_turn_added(told: &mut Told, link: &mut NetLink<'_>) -> bool {
     }
 }
 
-/// Adds what comes next, where something comes within some two seconds.
+/// Adds the next event, where there is one within some two seconds.
 fn add_next(told: &mut Told, link: &mut NetLink<'_>) {
     for _ in 0..40 {
         if is_turn_added(told, link) {
@@ -118,7 +118,7 @@ fn add_read(told: &mut Told, stream: &TcpStream) {
     told.add(b"\n");
 }
 
-/// Adds what the other side of a connection is replied.
+/// Adds the reply that the other side of a connection gets.
 fn add_reply(told: &mut Told, stream: &io::Result<TcpStream>) {
     match stream {
         Ok(stream) => add_read(told, stream),
@@ -178,7 +178,7 @@ fn bound<'a>(rt: &'a HostRuntime, told: &mut Told, sip: u16, web: u16) -> NetLin
     link
 }
 
-/// What comes of the sockets, the first ones to the fourth.
+/// The results of the sockets, the first ones to the fourth.
 const SENT: &[u8] = b"datagram OPTIONS sip:a@b SIP/2.0%~
 web GET /charges HTTP/1.1%~%~
 reply
@@ -211,7 +211,7 @@ fn one_of_each(rt: &HostRuntime, told: &mut Told) {
     drop(link);
 }
 
-/// A client that sends a part of a request and no more, beside one that sends a whole one, and a datagram.
+/// A client that sends a part of a request and no more, concurrently with one that sends a whole one, and a datagram.
 fn slow_and_fast(rt: &HostRuntime, told: &mut Told) {
     let mut link = bound(rt, told, 45_073, 45_074);
     let slow = connect(rt, told, b"GET /slow HT", "127.0.0.1:45074");
@@ -226,7 +226,7 @@ fn slow_and_fast(rt: &HostRuntime, told: &mut Told) {
     drop(link);
 }
 
-/// A client that sends its body once it is told to go on.
+/// A client that sends its body after 100 (Continue).
 fn told_to_go_on(rt: &HostRuntime, told: &mut Told) {
     let mut link = bound(rt, told, 45_075, 45_076);
     let head = b"PUT / HTTP/1.1\r\nexpect: 100-Continue\r\nContent-Length: 4\r\n\r\n";
@@ -240,7 +240,7 @@ fn told_to_go_on(rt: &HostRuntime, told: &mut Told) {
     drop(link);
 }
 
-/// A client of HTTP/1.0, which is told nothing before the reply.
+/// A client of HTTP/1.0, to which nothing is sent before the reply.
 fn not_told_to_go_on(rt: &HostRuntime, told: &mut Told) {
     let mut link = bound(rt, told, 45_077, 45_078);
     let head = b"PUT / HTTP/1.0\r\nexpect: 100-continue\r\nContent-Length: 4\r\n\r\n";

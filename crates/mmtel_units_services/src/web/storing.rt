@@ -1,4 +1,4 @@
-//! What a keeper over a file holds.
+//! The contents of a keeper over a file.
 
 ghost use Rattle.std.specs.Prelude.{◌≤◌};
 
@@ -10,7 +10,7 @@ use mmtel_store::SqliteKeeper;
 use mmtel_told::Told;
 use mmtel_types::{Account, CallNo, Cause, Moment};
 
-/// Adds what a call came to.
+/// Adds the result of a call.
 fn add_done(told: &mut Told, done: Result<(), KeepFault>) {
     match done {
         Ok(()) => told.add(b"ok\n"),
@@ -105,7 +105,7 @@ fn add_migrated(told: &mut Told, done: Result<u64, KeepFault>) {
     }
 }
 
-/// Calls on a keeper that is bound to a path: what they came to.
+/// Calls on a keeper that is bound to a path: their results.
 fn keep(told: &mut Told, keeper: &mut SqliteKeeper<'_>, path: &[u8]) {
     let alloc = told.alloc;
     add_done(told, keeper.bind(alloc, path));
@@ -119,7 +119,7 @@ fn keep(told: &mut Told, keeper: &mut SqliteKeeper<'_>, path: &[u8]) {
     add_done(told, keeper.store(alloc, Account(3), b"b = 1"));
 }
 
-/// What a keeper holds.
+/// The contents of a keeper.
 fn tell(told: &mut Told, keeper: &mut SqliteKeeper<'_>) {
     let alloc = told.alloc;
     add_loaded(told, keeper.load(alloc));
@@ -153,14 +153,14 @@ failed
 failed
 ";
 
-/// Binds the keeper to a path, and tells what it holds then.
+/// Binds the keeper to a path, and writes its contents then.
 fn bind_and_tell(told: &mut Told, keeper: &mut SqliteKeeper<'_>, path: &[u8]) {
     let done = keeper.bind(told.alloc, path);
     add_done(told, done);
     tell(told, keeper);
 }
 
-/// What another keeper tells of the file; and of a path that cannot be opened, by the calls after it.
+/// What another keeper reads of the file; and the calls after a path that cannot be opened.
 fn tell_anew(told: &mut Told, rt: &HostRuntime) {
     let mut keeper = SqliteKeeper::new(rt);
     bind_and_tell(told, &mut keeper, b"keeper.db");

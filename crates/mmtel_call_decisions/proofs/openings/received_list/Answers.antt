@@ -1,4 +1,4 @@
--- What the reader gives of values that can be read is the list of their entries, which is the list of the message.
+-- What the reader returns for values that can be parsed is the list of their entries, which is the list of the message.
 use Rattle.std.proofs.Common.{◌≡◌, ℕ, Bool, true, false, if◌then◌else◌, Option, Some, None, List, [], Result, Ok, Err, length, ltb, take}
 use Rattle.std.specs.Prelude.{is_ok, codes, position}
 use Rattle.mmtel_history.specs.HistoryInfo.{entries_of, is_unreadable, reading, reading_from}

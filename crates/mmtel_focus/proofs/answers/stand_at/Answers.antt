@@ -1,4 +1,4 @@
--- the seat that was taken out stands at its place, and the one that is put in stands there now
+-- the participant that was taken out was at this place, and the new one is inserted there
 use Rattle.std.proofs.Common.{◌∙◌, List, Option, ap, slice_set, sym}
 use Rattle.std.specs.Prelude.{insert}
 use Rattle.mmtel_focus.specs.Answers.{stood_in}

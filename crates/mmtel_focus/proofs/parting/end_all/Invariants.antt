@@ -3,7 +3,7 @@ use Rattle.std.specs.Prelude.{vec_capacity}
 use Rattle.mmtel_focus.specs.Names.{ended}
 use Rattle.mmtel_focus.proofs.parting.end_all.Given as goal
 
--- what has ended, and what is still to end; and there is room for all of it
+-- those ended so far, and those still to be ended; and the capacity suffices for all of them
 abbrev pub invariant-seats : goal.invariant-seats
 invariant-seats l = (l.all.items ++ map ended l.seats.items ≡ map ended l.fn.room.seats) × (vec_len l.all + vec_len l.seats ≤ vec_capacity l.all)
 

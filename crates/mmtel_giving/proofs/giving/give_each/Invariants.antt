@@ -2,7 +2,7 @@ use Rattle.std.proofs.Common.{◌≡◌, take}
 use Rattle.mmtel_giving.proofs.giving.give_each.Given as goal
 use Rattle.mmtel_giving.specs.Giving.{Gave, IsBoundStill, LostOnlyWhereRose, RoseBy, lost_more}
 
--- what was given so far is a front of the offers
+-- what was passed so far is a prefix of the outputs
 abbrev pub invariant-loop-offer : goal.invariant-loop-offer
 invariant-loop-offer g l = record {
   gave : Gave l.peers.known (take l.offer-index l.offers) (g.L.Link.given l.fn.link) (g.L.Link.given l.link);

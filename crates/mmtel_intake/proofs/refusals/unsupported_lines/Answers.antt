@@ -8,11 +8,11 @@ use Rattle.mmtel_run.specs.Answers.{is_unsupported, unsupported_line}
 use Rattle.mmtel_intake.proofs.refusals.unsupported_lines.Goals.{then-is_unsupported+in_ok-add_bytes, else-is_unsupported}
 use Rattle.mmtel_intake.proofs.refusals.unsupported_lines.Goals as goal
 
--- the lines of a front of the options
+-- the header fields for a prefix of the options
 abbrev lines_for : Directory → List (List ℕ) → List Line
 lines_for d options = map unsupported_line (filter (λ option. is_unsupported d option) options)
 
--- one option more
+-- one more option
 more : (d : Directory) (options : List (List ℕ)) (i : ℕ) (x : List ℕ) (unsupported : Bool) → i < length options → x ≡ get_or options i x → unsupported ≡ is_unsupported d x → lines_for d (take i options) ++ cond unsupported (unsupported_line x ∷ []) [] ≡ lines_for d (take (i + 1) options)
 more d options i x true within is said = sym (ap (λ (l : List (List ℕ)). map unsupported_line l) (filter_more (λ option. is_unsupported d option) options i x within ∙ rw (sym is, sym said) refl) ∙ map-append unsupported_line (filter (λ option. is_unsupported d option) (take i options)) (x ∷ []))
 more d options i x false within is said = sym (ap (λ (l : List (List ℕ)). map unsupported_line l) (filter_more (λ option. is_unsupported d option) options i x within ∙ rw (sym is, sym said) (append-nil _)) ∙ sym (append-nil _))

@@ -1,4 +1,4 @@
--- what goes out is the INVITE in the dialog that was begun
+-- the output is the INVITE in the dialog that it creates
 use Rattle.std.proofs.Common.{rules, ◌∙◌, ap, sym}
 use Rattle.mmtel_desk.specs.declared.desks.Desk.{Desk}
 use Rattle.mmtel_leg.specs.declared.dialogues.Dialogue.{Dialogue}

@@ -4,7 +4,7 @@ use Rattle.mmtel_server.specs.Driven.{CalledTimes, IsNeeded}
 use Rattle.mmtel_server.specs.Turns.{IsReading}
 use Rattle.mmtel_server.proofs.driving.read_request.Given as goal
 
--- each read gave a byte or more
+-- each read returned a byte or more
 abbrev pub invariant-loop-read : goal.invariant-loop-read
 invariant-loop-read g l = record {
   reading : (ear : Option Ear) → IsReading ear (g.N.Link.ear l.fn.link) [] → IsReading ear (g.N.Link.ear l.link) l.bytes;

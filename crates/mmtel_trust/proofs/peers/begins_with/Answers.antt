@@ -4,7 +4,7 @@ use Rattle.mmtel_lex.specs.Identity.{reduced}
 use Rattle.mmtel_trust.specs.Peers.{begins_with}
 use Rattle.mmtel_trust.proofs.peers.begins_with.Goals as goal
 
--- with the number at its end, what is left of the prefix has to be nothing
+-- where the number ends, the rest of the prefix has to be empty
 at_end : (rest : List ℕ) → begins_with [] rest ≡ (length rest == 0)
 at_end [] = refl
 at_end (b ∷ s) = let positive : (length (b ∷ s) == 0) ≡ false = grind (arith, common_steps) in sym positive

@@ -1,4 +1,4 @@
--- what refuses a diversion, and what it comes to where nothing does
+-- the cause that refuses a diversion, and the result where nothing does
 use Rattle.std.proofs.Common.{◌≡◌, ◌∙◌, OnOk, Some, sym, subst}
 use Rattle.std.specs.Option.{option_copied}
 use Rattle.mmtel_precedence.specs.Told.{told_due}

@@ -1,7 +1,7 @@
 use Rattle.std.proofs.Common.{◌+◌, ◌*◌}
 use Rattle.mmtel_call.proofs.calls.Call.+diverting.Given as goal
 
--- how many diversions are left, and how far the step to the next one came
+-- how many diversions are left, and the position within the step to the next one
 abbrev pub decreases-divert : goal.decreases-divert
 decreases-divert l = 4 * l.self.now.diversions.left + 1
 

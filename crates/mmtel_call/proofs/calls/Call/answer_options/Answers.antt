@@ -1,4 +1,4 @@
--- the lines that are named are those of the methods that the server knows
+-- the further header fields are those of the methods that the server supports
 use Rattle.std.proofs.Common.{◌≡◌, ◌∙◌, List, ap, subst}
 use Rattle.std.specs.Prelude.{OnOk}
 use Rattle.mmtel_answers.specs.Answers.{allowed}

@@ -1,4 +1,4 @@
--- What is passed on is what the definition passes: what refuses the call, its caller's leg, and the desk with the 100.
+-- The arguments are those of the definition: the cause that refuses the call, its caller's leg, and the output with the 100.
 use Rattle.mmtel_call.proofs.calls.Call.begin.Goals as goal
 
 pub returns-in-Ok-clause-call : goal.returns-in-Ok-clause-call

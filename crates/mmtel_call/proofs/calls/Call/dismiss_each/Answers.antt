@@ -1,4 +1,4 @@
--- one more of those that are left has its answer
+-- one more of the remaining requests gets its final response
 use Rattle.std.proofs.Common.{◌≡◌, ◌+◌, ◌<◌, ◌∙◌, ℕ, Bool, true, false, not, if◌then◌else◌, List, ◌∷◌, length, drop, get_or, refl, sym, ap, drop-cons, add-one}
 use Rattle.std.specs.List.{filter}
 use Rattle.mmtel_desk.specs.declared.desks.Desk.{Desk}

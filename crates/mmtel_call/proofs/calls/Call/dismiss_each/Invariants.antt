@@ -1,4 +1,4 @@
--- those that are left have their answers from the desk as it stands
+-- the remaining requests get their final responses after the current output
 use Rattle.std.proofs.Common.{◌≡◌, drop, if◌then◌else◌, not}
 use Rattle.std.specs.List.{filter}
 use Rattle.mmtel_call.specs.Calls.{Flight}

@@ -1,4 +1,4 @@
--- the side that is left last is as it was, and so are both meters
+-- the side to which the BYE is sent last is unchanged, and so are both meters
 use Rattle.std.proofs.Common.{◌≡◌, subst}
 use Rattle.mmtel_types.specs.declared.sides.Side.{Side}
 use Rattle.mmtel_call.specs.Answered.{leg_of}

@@ -1,4 +1,4 @@
--- the phase that the call leaves makes no difference
+-- the phase before makes no difference
 use Rattle.std.proofs.Common.{◌≡◌, None, OnOk, subst, sym}
 use Rattle.mmtel_precedence.specs.Told.{told_end}
 use Rattle.mmtel_call_decisions.specs.Site.{standing}

@@ -1,4 +1,4 @@
--- the call goes on with the target that the response names, and the desk once the response was acknowledged
+-- the call continues with the target to which the response redirects, and the output after the response was acknowledged
 use Rattle.std.proofs.Common.{◌≡◌, ◌∙◌, Option, Some, OnOk, ap, subst}
 use Rattle.mmtel_desk.specs.Sending.{final_acked}
 use Rattle.mmtel_desk.specs.declared.desks.Desk.{Desk}

@@ -1,4 +1,4 @@
--- the INVITE that was taken out is that at the place, and the server's address is that of the configuration
+-- the INVITE that was removed is that at the index, and the server's address is that of the configuration
 use Rattle.std.proofs.Common.{◌≡◌, ◌∙◌, List, [], ◌∷◌, ◌++◌, Option, Some, Result, Ok, Err, OnOk, ap, slice_get, sym}
 use Rattle.std.specs.Prelude.{option_to_list}
 use Rattle.mmtel_desk.specs.Loose.{on_response}
@@ -26,7 +26,7 @@ mapped : {T E P Q : Type 0} (r : Result T E) → (P → Q) → OnOk r P → OnOk
 mapped (Ok x) f p = f p
 mapped (Err e) f p = tt
 
--- what is left of it stands last
+-- what remains of it is placed last
 pub returns-in-Some-clause-call : goal.returns-in-Some-clause-call
 returns-in-Some-clause-call c = λ t is.
     let one : c.remove-invitation.result ≡ t = same (slice_get c.args.self.now.taken c.args.at) c.remove-invitation.result t c.remove-invitation.ensures.handed_out is in

@@ -1,4 +1,4 @@
--- by where the request of the branch stands
+-- by the list in which the request of the branch is
 use Rattle.std.proofs.Common.{◌≡◌, ℕ, Option, Some, None, OnOk, ap, ◌∙◌, position, rules, subst, sym}
 use Rattle.mmtel_desk.specs.Loose.{is_of}
 use Rattle.mmtel_call.specs.Flights.{answered_in_flight, is_in_flight}

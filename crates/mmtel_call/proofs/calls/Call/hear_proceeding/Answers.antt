@@ -1,4 +1,4 @@
--- the number of the response is that under which it is taken
+-- the number of the response is that under which it is processed
 use Rattle.std.proofs.Common.{◌≡◌, ℕ, Option, Some, OnOk, subst}
 use Rattle.mmtel_call_decisions.specs.Reliable.{reliable_number}
 use Rattle.mmtel_call.specs.Ringing.{proceeding_by}

@@ -1,4 +1,4 @@
--- the answer that the PRACK names is the one that it acknowledges to the target, and what else stands of the call makes no difference to what goes out
+-- the response that the PRACK names is the one that it acknowledges to the target, and the other fields of the call make no difference to what is sent
 use Rattle.std.proofs.Common.{◌∙◌, ◌++◌, ℕ, Option, Some, Result, Ok, Err, OnOk, ap, codes}
 use Rattle.mmtel_desk.specs.Sending.{asked_for}
 use Rattle.mmtel_types.specs.declared.sides.Side.TheVariants.{Caller}

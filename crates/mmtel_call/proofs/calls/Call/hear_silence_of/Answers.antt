@@ -1,4 +1,4 @@
--- what is done is told of the phase that was taken out
+-- what is done is stated by the phase that was replaced
 use Rattle.std.proofs.Common.{◌≡◌, Result, Ok, Err, OnOk, refl, subst}
 use Rattle.mmtel_call_decisions.specs.Site.{standing}
 use Rattle.mmtel_call.specs.Calls.{Phase}

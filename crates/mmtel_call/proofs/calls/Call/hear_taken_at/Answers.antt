@@ -1,4 +1,4 @@
--- what a response comes to is decided by the INVITE at the place, by the status, and by whether the response is of another dialog
+-- the effect of a response is determined by the INVITE at the index, by the status, and by whether the response is of another dialog
 use Rattle.std.proofs.Common.{◌≡◌, ◌∙◌, ℕ, Bool, true, false, not, if◌then◌else◌, Option, Some, None, Result, Ok, Err, OnOk, ap, arith, rules}
 use Rattle.std.proofs.Common.{slice_get, subst, sym}
 use Rattle.std.proofs.lemmas.Grind.{common_steps}
@@ -39,7 +39,7 @@ again site key m at o t c desk its status fork =
     ap (λ (x : Option Taken). answered_taken site key m at x c desk) its
     ∙ (ap (λ (b : Bool). by_status b site key m at t c desk) status ∙ ap (λ (b : Bool). by_dialog b site key m at t c desk) fork)
 
--- what it comes to at each way out
+-- the result at each return
 comes_to_nothing : (c : In_default) →
     answered_taken c.args.step.now.setting.now c.args.key c.args.m.now c.args.at (slice_get c.args.self.now.taken c.args.at) c.args.self.now c.args.desk.now
     ≡ onward c.args.self.now c.args.desk.now

@@ -1,4 +1,4 @@
--- the call goes on as it stands once its INVITE is loose, with the desk once that was cancelled
+-- the call continues as it is after its INVITE was abandoned, with the output after that was cancelled
 use Rattle.std.proofs.Common.{◌≡◌, ◌∙◌, None, Result, Ok, Err, OnErr, OnOk, ap, option_copied, subst}
 use Rattle.mmtel_desk.specs.Invitations.{once_cancelled}
 use Rattle.mmtel_desk.specs.Sending.{cancelled}
@@ -17,7 +17,7 @@ use Rattle.mmtel_call.proofs.calls.Call.leave_for_next.Goals as goal
 both : (f : Call → Desk → Step) (a b : Call) (d e : Desk) → a ≡ b → d ≡ e → f a d ≡ f b e
 both f a b d e p q = ap (λ (x : Call). f x d) p ∙ ap (λ (y : Desk). f b y) q
 
--- whether the INVITE could be kept or not, the call stands where it stood
+-- whether the INVITE could be kept or not, the phase of the call is unchanged
 kept : {T E : Type 0} (r : Result T E) (l : Loose) (a b : Call) → OnOk r (a ≡ with_loose l b) → OnErr r (a ≡ b) → a.phase ≡ b.phase
 kept (Ok x) l a b done refused = ap (λ (c : Call). c.phase) done
 kept (Err e) l a b done refused = ap (λ (c : Call). c.phase) refused

@@ -1,4 +1,4 @@
--- what failed after the offer fails the whole
+-- where the operation after the offer failed, the whole fails
 use Rattle.std.proofs.Common.{Ok, Err, IsOk, OnOk, Result, refl, sym, true≢false}
 use Rattle.mmtel_call.proofs.calls.Call.send_shown.Goals as goal
 

@@ -1,4 +1,4 @@
--- what is in flight had its answer where the step leaves the attempt, and then the row is taken
+-- requests in flight got their final responses if the step ends the attempt without a 2xx or ends the call, and then the transition is taken
 use Rattle.std.proofs.Common.{◌≡◌, Bool, true, false, if◌then◌else◌, OnOk, refl, subst}
 use Rattle.mmtel_desk.specs.declared.desks.Desk.{Desk}
 use Rattle.mmtel_precedence.specs.Calls.{Standing}

@@ -1,4 +1,4 @@
--- what is done is told of the stage that the call had
+-- what is done is stated by the stage that the call had
 use Rattle.std.proofs.Common.{◌≡◌, Result, Ok, Err, OnOk, refl, subst, sym}
 use Rattle.mmtel_call.specs.Calls.{Stage, Stood}
 use Rattle.mmtel_call.specs.Stages.{acked_at}

@@ -1,4 +1,4 @@
--- the INVITE is the one that waits
+-- the INVITE is the one without a final response
 use Rattle.std.proofs.Common.{◌≡◌, Some, OnOk, subst, sym}
 use Rattle.mmtel_seats.specs.Invites.{failure_acked}
 use Rattle.mmtel_seats.specs.declared.seats.Invite.{Invite}

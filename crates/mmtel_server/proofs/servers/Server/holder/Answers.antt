@@ -8,7 +8,7 @@ use Rattle.mmtel_types.specs.declared.numbers.RoomNo.{RoomNo}
 use Rattle.mmtel_server.proofs.Asked.{found_box, found_call, found_seat}
 use Rattle.mmtel_server.proofs.servers.Server.holder.Goals as goal
 
--- who has it where no call has
+-- the owner where no call has the dialog
 abbrev of_boxes : DialogName → World → Option Holder
 of_boxes name w = in_box (find_box (Some (name_in name)) (boxes_in w))
 

@@ -7,7 +7,7 @@ use Rattle.mmtel_run.specs.World.{World}
 use Rattle.mmtel_server.specs.Stands.{Did}
 use Rattle.mmtel_server.proofs.servers.Server.settle.Given as goal
 
--- so many deadlines fired
+-- so many timers fired
 abbrev pub invariant-loop-i : goal.invariant-loop-i
 invariant-loop-i g l =
     (fuel : ℕ) (d : Directory) (token : List ℕ) (before : List Offer) (w : World) → Did d token before l.fn.self l.fn.out w → IsSettled d token fuel l.now w → IsShort (settled d token fuel l.now w) →
